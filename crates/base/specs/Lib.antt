@@ -1,0 +1,3 @@
+pub mod Pick
+pub mod Lists
+pub mod Bytes

@@ -1,0 +1,236 @@
+-- Reading a message: bytes to tree (document 01, 'The text', in Annex B.2's order). Each reader takes the message and a position and gives
+-- the tree of the part that stands there with the place after it, white space included, or a fault.
+use Prim.Native.Nat.{ℕ, zero, suc, _+_, _-_}
+use mathlib.Core.Bool.{Bool, true, false, _&&_, _||_}
+use mathlib.Core.List.{List, [], _∷_}
+use mathlib.Core.Option.{Option, none, some}
+use lib.ListN.{length, getD}
+use lib.Dec.{ltb, eqb}
+use Rattle.base.specs.Pick.{pick}
+use Rattle.base.specs.Lists.{isAt, part}
+use Rattle.megaco.specs.Bytes.{equal, comma, leftBrace, rightBrace, slash, quote, dash, dollar, star, capital}
+use Rattle.megaco.specs.White.{after, whiteAt, sepAt}
+use Rattle.megaco.specs.Keywords.{Token, MegacopToken, TransToken, CtxToken, PriorityToken, EmergencyToken, spells}
+use Rattle.megaco.specs.Tokens.{markAt, signAt, rowAt, wordAt, keywordAt, terminationAt, numberAt, valueAt, mIdAt}
+use Rattle.megaco.specs.Tree.{Value, plain, quoted, ItemOf, item, Item, Items, Command, command, Context, null, number, choose, all, Property, priority, emergency, Action, action, Transaction, transaction, Message, wellFormed, fault400, fault403, fault406}
+use Rattle.megaco.specs.declared.Parsed.{Parsed}
+use Rattle.megaco.specs.declared.Parsed.the-variants.{Next, Fault}
+use Rattle.megaco.specs.declared.Number.{Number}
+use Rattle.megaco.specs.declared.Number.the-variants.{Got, Bad}
+use Rattle.megaco.specs.declared.Class.the-variants.{Word}
+
+-- ---- what a reader gives, and how one follows another
+
+pub data Read (A : Type 0) : Type 0 where
+  got : A → ℕ → Read A
+  fault : Read A
+
+-- read one part and then another
+unfoldable pub bind : {A B : Type 0} → Read A → (A → ℕ → Read B) → Read B
+bind (got a p) f = f a p
+bind fault f = fault
+
+-- a part that leaves nothing in the tree
+unfoldable pub skip : {B : Type 0} → Parsed → (ℕ → Read B) → Read B
+skip (Next p) f = f p
+skip Fault f = fault
+
+-- a part whose tree is told by its place and its end
+unfoldable pub reading : {A : Type 0} → Parsed → (ℕ → A) → Read A
+reading (Next p) f = got (f p) p
+reading Fault f = fault
+
+unfoldable pub readNumber : {A : Type 0} → Number → (ℕ → A) → Read A
+readNumber (Got v p) f = got (f v) p
+readNumber Bad f = fault
+
+-- a part and the white space after it
+unfoldable pub spaced : {A : Type 0} → List ℕ → Read A → Read A
+spaced s r = bind r (λ a p. skip (whiteAt s p) (got a))
+
+-- one to k parts, joined by commas
+unfoldable pub listR : {A : Type 0} → (ℕ → Read A) → List ℕ → ℕ → ℕ → Read (List A)
+listR r s zero at = fault
+listR r s (suc k) at =
+    bind (r at) (λ a p.
+    let more = skip (signAt comma s p) (λ q. bind (listR r s k q) (λ l e. got (a ∷ l) e)) in
+    pick (isAt s p comma) more (got (a ∷ []) p))
+
+-- where document 01 sets no limit on a list: more than any message has bytes
+unfoldable pub unlimited : List ℕ → ℕ
+unlimited s = length s + 1
+
+-- a keyword and `=`
+unfoldable pub keyAt : Token → List ℕ → ℕ → Parsed
+keyAt k s at = after (keywordAt k s at) (λ p. after (whiteAt s p) (signAt equal s))
+
+unfoldable pub wordR : List ℕ → ℕ → Read (List ℕ)
+wordR s at = reading (wordAt s at) (part s at)
+
+-- ---- items
+
+-- "optional `/` word"
+unfoldable pub secondR : List ℕ → ℕ → Read (Option (List ℕ))
+secondR s at = pick (isAt s at slash) (bind (wordR s (at + 1)) (λ w p. got (some w) p)) (got none at)
+
+-- the bytes of a value, or those between its quotes
+unfoldable pub valueOf : List ℕ → ℕ → ℕ → Value
+valueOf s a e = pick (isAt s a quote) (quoted (part s (a + 1) (e - 1))) (plain (part s a e))
+
+-- "optional `=` value"
+unfoldable pub valueR : List ℕ → ℕ → Read (Option Value)
+valueR s at =
+    let given = skip (signAt equal s at) (λ p. spaced s (reading (valueAt s p) (λ e. some (valueOf s p e)))) in
+    pick (isAt s at equal) given (got none at)
+
+-- "optional `{` items `}`"
+unfoldable pub bracesR : {A : Type 0} → (ℕ → Read (List A)) → List ℕ → ℕ → Read (Option (List A))
+bracesR inner s at =
+    let given = skip (signAt leftBrace s at) (λ p. bind (inner p) (λ is q. skip (signAt rightBrace s q) (got (some is)))) in
+    pick (isAt s at leftBrace) given (got none at)
+
+unfoldable pub itemR : {A : Type 0} → (ℕ → Read (List A)) → List ℕ → ℕ → Read (ItemOf A)
+itemR inner s at =
+    bind (wordR s at) (λ w p.
+    bind (spaced s (secondR s p)) (λ x q.
+    bind (valueR s q) (λ v r.
+    bind (bracesR inner s r) (λ is e.
+    got (item w x v is) e))))
+
+-- "Items are one or more, joined by commas", of k levels
+unfoldable pub itemsR : (k : ℕ) → List ℕ → ℕ → Read (List (Item k))
+itemsR zero s at = fault
+itemsR (suc k) s at = listR (itemR (itemsR k s) s) s (unlimited s) at
+
+-- ---- commands
+
+-- `O-` or `W-` stands here, in either letter case
+unfoldable pub prefixAt : ℕ → List ℕ → ℕ → Bool
+prefixAt b s at = eqb (capital (getD s at 0)) b && isAt s (at + 1) dash
+
+unfoldable pub prefixEnd : ℕ → List ℕ → ℕ → ℕ
+prefixEnd b s at = pick (prefixAt b s at) (at + 2) at
+
+-- "PR; EG; these words are never commands"
+unfoldable pub isProperty : List ℕ → Bool
+isProperty w = spells PriorityToken w || spells EmergencyToken w
+
+-- a command's word
+unfoldable pub orderR : List ℕ → ℕ → Read (List ℕ)
+orderR s at = bind (wordR s at) (λ w p. pick (isProperty w) fault (got w p))
+
+unfoldable pub commandR : List ℕ → ℕ → Read Command
+commandR s at =
+    let o = prefixEnd 0x4f s at in
+    bind (spaced s (orderR s (prefixEnd 0x57 s o))) (λ w p.
+    skip (signAt equal s p) (λ q.
+    bind (spaced s (reading (terminationAt s q) (part s q))) (λ n r.
+    bind (bracesR (itemsR 8 s) s r) (λ is e.
+    got (command (prefixAt 0x4f s at) (prefixAt 0x57 s o) w n is) e))))
+
+-- ---- actions
+
+-- "number up to 4294967295, at most 10 digits, or `-`, `$`, `*`"
+unfoldable pub contextR : List ℕ → ℕ → Read Context
+contextR s at =
+    pick (isAt s at dash) (got null (at + 1))
+    (pick (isAt s at dollar) (got choose (at + 1))
+    (pick (isAt s at star) (got all (at + 1))
+    (readNumber (numberAt s at 10 4294967295) number)))
+
+-- the whole word that stands here
+unfoldable pub wordHere : List ℕ → ℕ → List ℕ
+wordHere s at = part s at (rowAt Word s at)
+
+-- "PR `=` 1 to 5 digits; EG"
+unfoldable pub propertyR : List ℕ → ℕ → Read Property
+propertyR s at =
+    pick (spells EmergencyToken (wordHere s at))
+    (spaced s (reading (wordAt s at) (λ e. emergency)))
+    (skip (keyAt PriorityToken s at) (λ p. spaced s (readNumber (numberAt s p 5 99999) priority)))
+
+-- what stands in an action's braces
+pub data Body : Type 0 where
+  body : List Property → List Command → Body
+
+unfoldable pub with-property : Property → Body → Body
+with-property p (body ps cs) = body (p ∷ ps) cs
+
+-- "properties, then commands, all joined by commas, at least one of either", "at most 64 commands an action"
+unfoldable pub bodyR : ℕ → List ℕ → ℕ → Read Body
+bodyR zero s at = fault
+bodyR (suc k) s at =
+    let more = bind (propertyR s at) (λ x p.
+        let rest = skip (signAt comma s p) (λ q. bind (bodyR k s q) (λ b e. got (with-property x b) e)) in
+        pick (isAt s p comma) rest (got (body (x ∷ []) []) p)) in
+    let commands = bind (listR (commandR s) s 64 at) (λ cs e. got (body [] cs) e) in
+    pick (isProperty (wordHere s at)) more commands
+
+unfoldable pub actionOf : Context → Body → Action
+actionOf c (body ps cs) = action c ps cs
+
+unfoldable pub actionR : List ℕ → ℕ → Read Action
+actionR s at =
+    skip (keyAt CtxToken s at) (λ p.
+    bind (spaced s (contextR s p)) (λ c q.
+    skip (signAt leftBrace s q) (λ r.
+    bind (bodyR (unlimited s) s r) (λ b e.
+    skip (signAt rightBrace s e) (got (actionOf c b))))))
+
+-- ---- transactions and the message: where a fault is told
+
+-- "1 to 16 actions, comma between", from behind the opening brace through the closing one
+unfoldable pub actionsR : List ℕ → ℕ → Read (List Action)
+actionsR s at = skip (whiteAt s at) (λ p. bind (listR (actionR s) s 16 p) (λ acts q. skip (markAt rightBrace s q) (got acts)))
+
+-- "Fault elsewhere: ER=400{}"
+unfoldable pub elsewhere : Parsed → (ℕ → Message) → Message
+elsewhere (Next p) f = f p
+elsewhere Fault f = fault400
+
+unfoldable pub numbered : Number → (ℕ → ℕ → Message) → Message
+numbered (Got v p) f = f v p
+numbered Bad f = fault400
+
+-- "Fault between a transaction's opening and closing brace": 403
+unfoldable pub inside : ℕ → Read (List Action) → (List Action → ℕ → Message) → Message
+inside id (got acts p) f = f acts p
+inside id fault f = fault403 id
+
+unfoldable pub followed : Transaction → Message → Message
+followed x (wellFormed xs) = wellFormed (x ∷ xs)
+followed x fault400 = fault400
+followed x (fault403 id) = fault403 id
+followed x fault406 = fault406
+
+-- at most k transactions, to the end of the message. "or identifier 0": 403 as soon as its digits end
+unfoldable pub transactionsR : ℕ → List ℕ → ℕ → Message
+transactionsR zero s at = fault400
+transactionsR (suc k) s at =
+    elsewhere (keyAt TransToken s at) (λ p.
+    numbered (numberAt s p 10 4294967295) (λ id q.
+    let rest = elsewhere (after (whiteAt s q) (markAt leftBrace s)) (λ r.
+        inside id (actionsR s r) (λ acts u.
+        elsewhere (whiteAt s u) (λ e.
+        let more = followed (transaction id acts) (transactionsR k s e) in
+        pick (ltb e (length s)) more (wellFormed (transaction id acts ∷ []))))) in
+    pick (eqb id 0) (fault403 0) rest))
+
+-- "MEGACO `/`", before the version
+unfoldable pub startAt : List ℕ → Parsed
+startAt s =
+    after (whiteAt s 0) (λ p.
+    after (pick (isAt s p 0x21) (Next (p + 1)) (keywordAt MegacopToken s p)) (markAt slash s))
+
+-- the mId, with white space on both sides
+unfoldable pub senderAt : List ℕ → ℕ → Parsed
+senderAt s at = after (sepAt s at) (λ p. after (mIdAt s p) (sepAt s))
+
+-- "MEGACO `/` version (1 or 2 digits), mId, then 1 to 8 transactions". "A header that reads well with a version other than 1: ER=406{}"
+unfoldable pub messageR : List ℕ → Message
+messageR s =
+    elsewhere (startAt s) (λ p.
+    numbered (numberAt s p 2 99) (λ v q.
+    elsewhere (senderAt s q) (λ r.
+    let rest = transactionsR 8 s r in
+    pick (eqb v 1) rest fault406)))

@@ -1,0 +1,430 @@
+-- Running a transaction (document 01, 'Running'): a list of steps, action starts and commands. An attempt looks at a few words, is judged by
+-- them alone, and then changes the table.
+use Prim.Native.Nat.{ℕ, zero, suc, _+_, _*_, _-_, _/_, _%_}
+use mathlib.Core.Bool.{Bool, true, false, not, _&&_, _||_}
+use mathlib.Core.List.{List, [], _∷_, _++_}
+use mathlib.Core.Option.{Option, none, some}
+use lib.Dec.{ltb, leb, eqb}
+use Rattle.base.specs.Pick.{pick}
+use Rattle.base.specs.Bytes.{text, _then_}
+use Rattle.megaco.specs.Keywords.{AddToken, ModifyToken, SubtractToken, MoveToken, spells}
+use Rattle.megaco.specs.Tree.{Items, Command, command, Context, null, number, choose, all, Property, priority, emergency, Action, action, Transaction, transaction, Message, wellFormed, fault400, fault403, fault406}
+use Rattle.megaco.specs.Table.{Cell, prop, rec, Slot, ctx, cell, Write, write, get, apply, most, lineTerminations, contextWords, isEphemeral, exists, known, members, freeContext, freeEphemeral, stateOf, priorityOf, emergencyOf}
+use Rattle.megaco.specs.Names.{Name, termination, root, chosen, unchosen, wildcard, unmatched, unknown, Range, inRange, nameOf, nameText}
+use Rattle.megaco.specs.Items.{Values, update, Judged, wrong, right, judgeItems, given?}
+use Rattle.megaco.specs.Reply.{Op, add, modify, subtract, move, Report, tried, failed, standing, Acted, errorText, replyText, transactionText}
+
+-- ---- tests
+
+-- a test: its code stands where the flag is up
+pub data Check : Type 0 where
+  check : Bool → ℕ → Check
+
+pub data Result : Type 0 where
+  refused : ℕ → Result
+  done : List Write → Result
+
+-- the first test whose flag is up decides
+unfoldable pub judge : List Check → List Write → Result
+judge [] ws = done ws
+judge (check b code ∷ cs) ws = let r = judge cs ws in pick b (refused code) r
+
+-- ---- what an attempt sees of the table
+
+-- a context's record and how many stand in it; nothing of a number that no context has
+pub record Seen : Type 0 where
+  pub held : ℕ
+  pub members : ℕ
+
+abbrev pub unseen : Seen
+unseen = record { held = 0; members = 0 }
+
+unfoldable pub seen : ℕ → List ℕ → Seen
+seen c t = let s : Seen = record { held = get t (cell (rec c)); members = members c t } in pick (known c) s unseen
+
+-- where a termination stands, its property word, the action's context, the context that it stands in, the lowest number absent
+pub record View : Type 0 where
+  pub here : ℕ
+  pub word : ℕ
+  pub there : Seen
+  pub from : Seen
+  pub free : ℕ
+
+-- null is 0 in the table; `$` and `*` are no number yet
+unfoldable pub numberOf : Context → ℕ
+numberOf null = 0
+numberOf (number c) = c
+numberOf choose = 0
+numberOf all = 0
+
+-- "the lowest number absent before that attempt", asked in `$` alone
+unfoldable pub freeAt : Context → List ℕ → ℕ
+freeAt null t = 0
+freeAt (number c) t = 0
+freeAt choose t = freeContext t
+freeAt all t = 0
+
+unfoldable pub look : Context → ℕ → List ℕ → View
+look at i t =
+    record { here = get t (ctx i); word = get t (cell (prop i)); there = seen (numberOf at) t; from = seen (get t (ctx i)) t; free = freeAt at t }
+
+-- ---- one attempt: tests 5 and 6, and what it changes
+
+unfoldable pub isChoose : Context → Bool
+isChoose null = false
+isChoose (number c) = false
+isChoose choose = true
+isChoose all = false
+
+-- the number of the context that an attempt means
+unfoldable pub target : Context → View → ℕ
+target at v = pick (isChoose at) (v .free) (numberOf at)
+
+-- "412: a context must be made and 128 exist. 434: the target holds 8"
+unfoldable pub roomChecks : Context → View → List Check
+roomChecks at v = check (isChoose at && eqb (v .free) 0) 412 ∷ check (leb most (v .there .members)) 434 ∷ []
+
+-- "Add: 433 if not in null. Modify, Subtract: 435 if not in the action's context. Move: 435 from null, 433 if already in the target"
+unfoldable pub checks : Op → Context → View → List Check
+checks add at v = check (not (eqb (v .here) 0)) 433 ∷ roomChecks at v
+checks modify at v = check (not (eqb (v .here) (numberOf at))) 435 ∷ []
+checks subtract at v = check (not (eqb (v .here) (numberOf at))) 435 ∷ []
+checks move at v = check (eqb (v .here) 0) 435 ∷ check (eqb (v .here) (numberOf at)) 433 ∷ roomChecks at v
+
+-- the context that an attempt joins: `$` comes to be, with the record given
+unfoldable pub joining : Context → ℕ → View → List Write → List Write
+joining at given v ws = pick (isChoose at) (write (cell (rec (v .free))) given ∷ ws) ws
+
+-- "A context ends with its last termination"
+unfoldable pub leaving : View → List Write → List Write
+leaving v ws = pick (leb (v .from .members) 1) (write (cell (rec (v .here))) 0 ∷ ws) ws
+
+-- a termination put into a context, with its property word
+unfoldable pub placed : ℕ → ℕ → ℕ → List Write
+placed i c word = write (ctx i) c ∷ write (cell (prop i)) word ∷ []
+
+-- "Add makes an ephemeral with property 0"
+unfoldable pub added : ℕ → ℕ → ℕ
+added i word = pick (isEphemeral i) 0 word
+
+-- "Subtract removes an ephemeral; a line returns to null with mode 0, its state kept"
+unfoldable pub subtracted : ℕ → ℕ → ℕ
+subtracted i word = pick (isEphemeral i) 0 (8 * stateOf word)
+
+-- "Add, Modify and Move then set the values given"
+unfoldable pub changes : Op → Context → ℕ → ℕ → Values → View → List Write
+changes add at given i vs v = joining at given v (placed i (target at v) (update vs (added i (v .word))))
+changes modify at given i vs v = write (cell (prop i)) (update vs (v .word)) ∷ []
+changes subtract at given i vs v = leaving v (placed i 0 (subtracted i (v .word)))
+changes move at given i vs v = leaving v (joining at given v (placed i (target at v) (update vs (v .word))))
+
+unfoldable pub attempt : Op → Context → ℕ → ℕ → Values → View → Result
+attempt op at given i vs v = judge (checks op at v) (changes op at given i vs v)
+
+-- `$` "becomes .. the lowest number absent before that attempt, and stays that number for the rest of the action"
+unfoldable pub settled : Context → View → Context
+settled at v = pick (isChoose at) (number (v .free)) at
+
+-- what an attempt writes and reports, and the action's context after it
+pub record Effect : Type 0 where
+  pub writes : List Write
+  pub report : Report
+  pub at : Context
+  pub good : Bool
+
+-- "A success, and an attempt of a wildcard, bears the full name with capital letters; other failures the bytes received"
+unfoldable pub concluded : Op → Bool → List ℕ → ℕ → Context → View → Result → Effect
+concluded op wild name i at v (refused code) =
+    record { writes = []; report = tried op (pick wild (nameText i) name) code; at = at; good = false }
+concluded op wild name i at v (done ws) = record { writes = ws; report = tried op (nameText i) 0; at = settled at v; good = true }
+
+unfoldable pub effect : Op → Bool → List ℕ → ℕ → Values → ℕ → Context → View → Effect
+effect op wild name given vs i at v = concluded op wild name i at v (attempt op at given i vs v)
+
+-- ---- one command
+
+-- what a command leaves: the table, its reports, the action's context, and whether the transaction goes on
+pub record Outcome : Type 0 where
+  pub table : List ℕ
+  pub reports : List Report
+  pub at : Context
+  pub going : Bool
+
+abbrev pub outcome : List ℕ → List Report → Context → Bool → Outcome
+outcome t rs at g = record { table = t; reports = rs; at = at; going = g }
+
+-- attempts in the order given. "Each is reported; the command failed if one failed"
+unfoldable pub tries : Op → Bool → List ℕ → ℕ → Values → List ℕ → Context → List ℕ → Outcome
+tries op wild name given vs [] at t = outcome t [] at true
+tries op wild name given vs (i ∷ is) at t =
+    let e = effect op wild name given vs i at (look at i t) in
+    let r = tries op wild name given vs is (e .at) (apply (e .writes) t) in
+    outcome (r .table) (e .report ∷ r .reports) (r .at) (e .good && r .going)
+
+-- the command failed before any attempt: "other failures the bytes received"
+unfoldable pub missed : Op → List ℕ → ℕ → Context → List ℕ → Outcome
+missed op name code at t = outcome t (tried op name code ∷ []) at false
+
+-- "Action errors end the transaction, `O-` or not"
+unfoldable pub actionError : ℕ → Context → List ℕ → Outcome
+actionError code at t = outcome t (failed code ∷ []) at false
+
+-- "for Add, those in null; for Modify and Subtract, those in the action's context; for Move, those in a non-null context other than the target"
+unfoldable pub wanted : Op → ℕ → ℕ → Bool
+wanted add c word = eqb word 0
+wanted modify c word = eqb word c
+wanted subtract c word = eqb word c
+wanted move c word = not (eqb word 0) && not (eqb word c)
+
+-- "A wildcard matches existing terminations only", "tried in ascending number": from number i on, with the rest of the context words
+unfoldable pub matchesFrom : Op → ℕ → Range → ℕ → List ℕ → List ℕ
+matchesFrom op c r i [] = []
+matchesFrom op c r i (x ∷ xs) = let m = matchesFrom op c r (i + 1) xs in pick (inRange r i && exists i x && wanted op c x) (i ∷ m) m
+
+-- "The matches are fixed before the first attempt"
+unfoldable pub matches : Op → Context → Range → List ℕ → List ℕ
+matches op at r t = matchesFrom op (numberOf at) r 0 (contextWords t)
+
+-- whom a command's name means: nobody, with a code; the gateway itself; the terminations to try
+pub data Aim : Type 0 where
+  misses : ℕ → Aim
+  gateway : Aim
+  meets : (wild : Bool) → List ℕ → Aim
+
+unfoldable pub isAdd : Op → Bool
+isAdd add = true
+isAdd modify = false
+isAdd subtract = false
+isAdd move = false
+
+unfoldable pub isModify : Op → Bool
+isModify add = false
+isModify modify = true
+isModify subtract = false
+isModify move = false
+
+unfoldable pub isSubtract : Op → Bool
+isSubtract add = false
+isSubtract modify = false
+isSubtract subtract = true
+isSubtract move = false
+
+unfoldable pub isNull : Context → Bool
+isNull null = true
+isNull (number c) = false
+isNull choose = false
+isNull all = false
+
+-- "`ROOT`: 410 unless Modify; 435 outside `-`; 447 with items"
+unfoldable pub aimRoot : Op → Context → Bool → Aim
+aimRoot op at items =
+    pick (not (isModify op)) (misses 410) (pick (not (isNull at)) (misses 435) (pick items (misses 447) gateway))
+
+-- "choose the lowest absent ephemeral, 432 if none"
+unfoldable pub aimFree : ℕ → Aim
+aimFree n = pick (eqb n 0) (misses 432) (meets false ((lineTerminations + (n - 1)) ∷ []))
+
+-- "431 if nothing matches"
+unfoldable pub aimMatches : List ℕ → Aim
+aimMatches [] = misses 431
+aimMatches (i ∷ is) = meets true (i ∷ is)
+
+-- test 4
+unfoldable pub aim : Op → Context → Bool → Name → List ℕ → Aim
+aim op at items root t = aimRoot op at items
+aim op at items chosen t = let m = aimFree (freeEphemeral t) in pick (not (isAdd op)) (misses 410) m
+aim op at items unchosen t = pick (not (isAdd op)) (misses 410) (misses 432)
+aim op at items (wildcard r) t = aimMatches (matches op at r t)
+aim op at items unmatched t = misses 431
+aim op at items (termination i) t = pick (exists i (get t (ctx i))) (meets false (i ∷ [])) (misses 430)
+aim op at items unknown t = misses 430
+
+-- tests 5 and 6, for each that the name means
+unfoldable pub aimed : Op → List ℕ → ℕ → Values → Aim → Context → List ℕ → Outcome
+aimed op name given vs (misses code) at t = missed op name code at t
+aimed op name given vs gateway at t = outcome t (tried op (text "ROOT") 0 ∷ []) at true
+aimed op name given vs (meets wild is) at t = tries op wild name given vs is at t
+
+-- "443 unknown command or `W-`"
+unfoldable pub opOf : Bool → List ℕ → Option Op
+opOf true word = none
+opOf false word =
+    pick (spells AddToken word) (some add)
+    (pick (spells ModifyToken word) (some modify)
+    (pick (spells SubtractToken word) (some subtract)
+    (pick (spells MoveToken word) (some move) none)))
+
+-- "421 Add, Subtract or Move in `-`"
+unfoldable pub barred : Op → Context → Bool
+barred op at = isNull at && not (isModify op)
+
+-- "411: the context does not exist now .., or `$` not yet a number for Modify and Subtract"
+unfoldable pub lost : Op → Context → ℕ → Bool
+lost op null held = false
+lost op (number c) held = eqb held 0
+lost op choose held = isModify op || isSubtract op
+lost op all held = true
+
+-- test 4 after test 3
+unfoldable pub named : Op → List ℕ → ℕ → Bool → Judged → Context → List ℕ → Outcome
+named op name given items (wrong code) at t = missed op name code at t
+named op name given items (right vs) at t = aimed op name given vs (aim op at items (nameOf name) t) at t
+
+-- tests 2 to 6
+unfoldable pub tested : Op → List ℕ → Items → ℕ → Context → List ℕ → Outcome
+tested op name items given at t =
+    let r = named op name given (given? items) (judgeItems (isSubtract op) items) at t in
+    pick (lost op at (seen (numberOf at) t .held)) (missed op name 411 at t) r
+
+-- "After a failed command without `O-` the rest of its transaction does not run; after an optional one it does"
+unfoldable pub unlessOptional : Bool → Outcome → Outcome
+unlessOptional o x = outcome (x .table) (x .reports) (x .at) (x .going || o)
+
+-- test 1, then the others
+unfoldable pub ordered : Bool → Option Op → List ℕ → Items → ℕ → Context → List ℕ → Outcome
+ordered o none name items given at t = actionError 443 at t
+ordered o (some op) name items given at t =
+    let r = unlessOptional o (tested op name items given at t) in
+    pick (barred op at) (actionError 421 at t) r
+
+unfoldable pub runCommand : Command → ℕ → Context → List ℕ → Outcome
+runCommand (command o w word name items) given at t = ordered o (opOf w word) name items given at t
+
+-- ---- an action's start
+
+unfoldable pub over15 : List Property → Bool
+over15 [] = false
+over15 (priority n ∷ ps) = ltb 15 n || over15 ps
+over15 (emergency ∷ ps) = over15 ps
+
+unfoldable pub anyGiven : List Property → Bool
+anyGiven [] = false
+anyGiven (p ∷ ps) = true
+
+-- "421 for context `*`; 421 for properties in `-`, or in `$` without commands; 449 for any priority over 15; 411 for properties in a
+-- numbered context that does not exist"
+unfoldable pub startChecks : Context → List Property → Bool → ℕ → List Check
+startChecks null ps alone held = check (anyGiven ps) 421 ∷ []
+startChecks (number c) ps alone held = check (over15 ps) 449 ∷ check (anyGiven ps && eqb held 0) 411 ∷ []
+startChecks choose ps alone held = check (anyGiven ps && alone) 421 ∷ check (over15 ps) 449 ∷ []
+startChecks all ps alone held = check true 421 ∷ []
+
+-- "A new context has priority 0, no emergency"
+abbrev pub newRecord : ℕ
+newRecord = 1
+
+-- "Properties are then set, the last of a kind holding"
+unfoldable pub setProperties : List Property → ℕ → ℕ
+setProperties [] r = r
+setProperties (priority n ∷ ps) r = setProperties ps (1 + n + 16 * emergencyOf r)
+setProperties (emergency ∷ ps) r = setProperties ps (1 + priorityOf r + 16)
+
+unfoldable pub startWrites : Context → List Property → ℕ → List Write
+startWrites null ps r = []
+startWrites (number c) ps r = pick (anyGiven ps) (write (cell (rec c)) (setProperties ps r) ∷ []) []
+startWrites choose ps r = []
+startWrites all ps r = []
+
+-- what an action's start writes, and the action as it then stands
+pub record Start : Type 0 where
+  pub writes : List Write
+  pub acted : Acted
+  pub going : Bool
+
+-- "An action of properties alone reports" them; those of `$` "are given to the context when it comes to be"
+unfoldable pub startReports : List Property → Bool → ℕ → List Report
+startReports ps alone r = pick alone (standing (setProperties ps r) ∷ []) []
+
+unfoldable pub startedBy : Context → List Property → Bool → ℕ → Result → Start
+startedBy c ps alone held (refused code) =
+    record { writes = []; acted = record { at = c; given = newRecord; said = failed code ∷ [] }; going = false }
+startedBy c ps alone held (done ws) =
+    record { writes = ws; acted = record { at = c; given = setProperties ps newRecord; said = startReports ps alone held }; going = true }
+
+-- given the record of its context
+unfoldable pub started : Context → List Property → Bool → ℕ → Start
+started c ps alone held = startedBy c ps alone held (judge (startChecks c ps alone held) (startWrites c ps held))
+
+-- ---- a transaction
+
+-- an action's start, with its properties and whether they stand alone; a command
+pub data Step : Type 0 where
+  start : Context → List Property → (alone : Bool) → Step
+  order : Command → Step
+
+unfoldable pub orders : List Command → List Step → List Step
+orders [] rest = rest
+orders (c ∷ cs) rest = order c ∷ orders cs rest
+
+unfoldable pub noCommands : List Command → Bool
+noCommands [] = true
+noCommands (c ∷ cs) = false
+
+unfoldable pub steps : List Action → List Step
+steps [] = []
+steps (action c ps cs ∷ acts) = start c ps (noCommands cs) ∷ orders cs (steps acts)
+
+-- how far a transaction has come: whether it goes on, and the actions that it started, the last one first
+pub record Progress : Type 0 where
+  pub going : Bool
+  pub acts : List Acted
+
+abbrev pub progress : Bool → List Acted → Progress
+progress g acts = record { going = g; acts = acts }
+
+pub record State : Type 0 where
+  pub table : List ℕ
+  pub progress : Progress
+
+abbrev pub state : List ℕ → Progress → State
+state t p = record { table = t; progress = p }
+
+unfoldable pub begin : Start → List ℕ → List Acted → State
+begin x t acts = state (apply (x .writes) t) (progress (x .going) (x .acted ∷ acts))
+
+-- the running action after a command of it
+unfoldable pub advance : Outcome → Acted → List Acted → State
+advance x a acts = state (x .table) (progress (x .going) (record { at = x .at; given = a .given; said = a .said ++ x .reports } ∷ acts))
+
+unfoldable pub proceed : Step → List ℕ → List Acted → State
+proceed (start c ps alone) t acts = begin (started c ps alone (seen (numberOf c) t .held)) t acts
+proceed (order c) t [] = state t (progress true [])
+proceed (order c) t (a ∷ acts) = advance (runCommand c (a .given) (a .at) t) a acts
+
+-- a transaction that has stopped takes no more steps
+unfoldable pub step : Step → State → State
+step s x = let r = proceed s (x .table) (x .progress .acts) in pick (x .progress .going) r x
+
+unfoldable pub run : List Step → State → State
+run [] x = x
+run (s ∷ ss) x = run ss (step s x)
+
+abbrev pub fresh : Progress
+fresh = progress true []
+
+-- the table and the text that a part of a message leaves
+pub record Ran : Type 0 where
+  pub table : List ℕ
+  pub text : List ℕ
+
+abbrev pub ran : List ℕ → List ℕ → Ran
+ran t x = record { table = t; text = x }
+
+-- a transaction's table and its `P=id{..}`
+unfoldable pub runTransaction : Transaction → List ℕ → Ran
+runTransaction (transaction id acts) t =
+    let x = run (steps acts) (state t fresh) in ran (x .table) (transactionText id (x .progress .acts))
+
+unfoldable pub runTransactions : List Transaction → List ℕ → Ran
+runTransactions [] t = ran t []
+runTransactions (x ∷ xs) t =
+    let y = runTransaction x t in
+    let z = runTransactions xs (y .table) in
+    ran (z .table) (y .text then z .text)
+
+-- "The whole message is read before anything runs. On a fault nothing runs"
+unfoldable pub runMessage : Message → List ℕ → Ran
+runMessage (wellFormed xs) t = runTransactions xs t
+runMessage fault400 t = ran t (errorText 400)
+runMessage (fault403 id) t = ran t (replyText id (errorText 403))
+runMessage fault406 t = ran t (errorText 406)

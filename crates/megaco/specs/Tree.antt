@@ -1,0 +1,51 @@
+-- The tree of a message. Names, words and values are the bytes received.
+use Prim.Native.Nat.{ℕ, zero, suc}
+use mathlib.Core.Bool.{Bool}
+use mathlib.Core.List.{List}
+use mathlib.Core.Option.{Option}
+
+-- a value is plain or stands between quotes
+pub data Value : Type 0 where
+  plain quoted : List ℕ → Value
+
+-- "Item: word, optional `/` word, optional `=` value, optional `{` items `}`"
+pub data ItemOf (A : Type 0) : Type 0 where
+  item : (word : List ℕ) (second : Option (List ℕ)) (value : Option Value) (inside : Option (List A)) → ItemOf A
+
+-- "An item holds items in its turn": an item with k levels, its own among them
+abbrev pub Item : ℕ → Type 0
+Item zero = ⊥
+Item (suc k) = ItemOf (Item k)
+
+-- "the command's own are level 1, and level 9 is a fault"
+abbrev pub Items : Type 0
+Items = Option (List (Item 8))
+
+-- "Command: optional `O-`, optional `W-`, word `=` termination, optional `{` items `}`"
+pub data Command : Type 0 where
+  command : (optional wild : Bool) (word name : List ℕ) (items : Items) → Command
+
+-- an action's context: `-`, a number, `$`, `*`
+pub data Context : Type 0 where
+  null : Context
+  number : ℕ → Context
+  choose : Context
+  all : Context
+
+-- "Properties: PR `=` 1 to 5 digits; EG"
+pub data Property : Type 0 where
+  priority : ℕ → Property
+  emergency : Property
+
+pub data Action : Type 0 where
+  action : (context : Context) (properties : List Property) (commands : List Command) → Action
+
+pub data Transaction : Type 0 where
+  transaction : (id : ℕ) (actions : List Action) → Transaction
+
+-- what a message reads as
+pub data Message : Type 0 where
+  wellFormed : List Transaction → Message
+  fault400 : Message
+  fault403 : (id : ℕ) → Message
+  fault406 : Message

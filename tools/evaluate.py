@@ -1,0 +1,136 @@
+#!/usr/bin/env python3
+"""Evaluates the definition of the call (crates/megaco) on recorded calls, by computed equality.
+
+usage: tools/evaluate.py CALLS.jsonl [--rows N] [--longest BYTES] [--seed S] [--keep DIR]
+
+Takes N rows (default 300), of messages of at most BYTES bytes (default 200), so that every kind of row and every code and
+fault that the file has is among them. Each row is a theorem `holds row ≡ true`, proved by computation, in a crate `rows`
+that is written into a temporary repository beside copies of `base` and `megaco`. It stands outside the gate.
+"""
+import argparse, collections, glob, json, os, random, re, shutil, subprocess, sys, tempfile
+
+ROOT = os.path.dirname(os.path.dirname(os.path.abspath(__file__)))
+
+
+def opened(crates):
+    """Every definition that stays shut, with the `use` line that brings it."""
+    uses, names = [], []
+    for crate in crates:
+        for path in sorted(glob.glob(f'{ROOT}/crates/{crate}/specs/*.antt')):
+            module = os.path.basename(path)[:-5]
+            found = re.findall(r'^\s*unfoldable pub (\S+)', open(path, encoding='utf-8').read(), re.M)
+            if found:
+                uses.append(f"use Rattle.{crate}.specs.{module}.{{{', '.join(found)}}}")
+                names += found
+    twice = [n for n, k in collections.Counter(names).items() if k > 1]
+    if twice:
+        sys.exit(f'declared twice: {twice}')
+    return uses, names
+
+
+def number_list(bs):
+    return '(' + ''.join(f'{b} ∷ ' for b in bs) + '[])'
+
+
+def table(length, pairs):
+    text = f'(replicate {length} 0)'
+    for i, v in pairs:
+        text = f'(set {text} {i} {v})'
+    return text
+
+
+def marks(row):
+    """What a row shows: its kind, its refusal, the codes of its reply."""
+    found = {('kind', row['kind']), ('refusal', row['refusal'])}
+    reply = bytes.fromhex(row['reply'])
+    found |= {('code', c) for c in re.findall(rb'ER=(\d+)', reply)}
+    found |= {('word', c) for c in re.findall(rb'(?:[{,])([A-Z]+)=', reply)}
+    return found
+
+
+def choose(rows, n, seed):
+    rng = random.Random(seed)
+    rng.shuffle(rows)
+    have, first, rest = collections.Counter(), [], []
+    for row in rows:
+        if any(have[m] < 6 for m in marks(row)):
+            first.append(row)
+            have.update(marks(row))
+        else:
+            rest.append(row)
+    taken = (first + rest)[:n]
+    return taken
+
+
+def main():
+    ap = argparse.ArgumentParser()
+    ap.add_argument('calls')
+    ap.add_argument('--rows', type=int, default=300)
+    ap.add_argument('--longest', type=int, default=200)
+    ap.add_argument('--seed', type=int, default=1)
+    ap.add_argument('--keep')
+    a = ap.parse_args()
+    rows = [json.loads(line) for line in open(a.calls)]
+    rows = [r for r in rows if len(r['message']) // 2 <= a.longest]
+    taken = choose(rows, a.rows, a.seed)
+    work = a.keep or tempfile.mkdtemp()
+    os.makedirs(f'{work}/crates/rows/src', exist_ok=True)
+    os.makedirs(f'{work}/crates/rows/specs', exist_ok=True)
+    for crate in ('base', 'megaco'):
+        shutil.rmtree(f'{work}/crates/{crate}', ignore_errors=True)
+        shutil.copytree(f'{ROOT}/crates/{crate}', f'{work}/crates/{crate}')
+        shutil.rmtree(f'{work}/crates/{crate}/must-fail', ignore_errors=True)
+    open(f'{work}/crates.txt', 'w').write('base:\nmegaco: base\nrows: megaco base\n')
+    open(f'{work}/crates/rows/src/lib.rt', 'w').write('// Rows.\n')
+    uses, names = opened(('base', 'megaco'))
+    head = f'''use Prim.Native.Nat.{{ℕ}}
+use mathlib.Core.Path.{{_≡_, refl}}
+use mathlib.Core.Bool.{{Bool, true, false, _&&_}}
+use mathlib.Core.List.{{List, [], _∷_}}
+use lib.ListN.{{replicate, set, take}}
+use lib.Dec.{{eqb}}
+use Rattle.megaco.specs.Call.{{Called}}
+{chr(10).join(uses)}
+
+abbrev fits : Called → ℕ → List ℕ → List ℕ → Bool
+fits c n a u = eqb (c .refusal) n && same (take (c .size) (c .reply)) a && same (c .table) u
+
+unfoldable holds : List ℕ → List ℕ → List ℕ → ℕ → ℕ → List ℕ → List ℕ → Bool
+unfolding {' '.join(names)}
+holds m t own b n a u = fits (call m t own (replicate b 0)) n a u
+
+'''
+    per = 25
+    modules = []
+    for k in range(0, len(taken), per):
+        module = f'Rows{k // per}'
+        modules.append(module)
+        with open(f'{work}/crates/rows/specs/{module}.antt', 'w', encoding='utf-8') as f:
+            f.write(head)
+            for i, r in enumerate(taken[k:k + per]):
+                f.write(f'''-- {r['kind']}: {bytes.fromhex(r['message'])!r}
+row{k + i} : holds {number_list(bytes.fromhex(r['message']))} {table(r['table_len'], r['table'])} {number_list(bytes.fromhex(r['own']))} {r['buf']} {r['refusal']} {number_list(bytes.fromhex(r['reply']))} {table(r['table_len'], r['after'])} ≡ true
+unfolding holds
+row{k + i} = refl
+
+''')
+    open(f'{work}/crates/rows/specs/Lib.antt', 'w').write(''.join(f'pub mod {m}\n' for m in modules))
+    shown = collections.Counter(m for r in taken for m in marks(r))
+    print(f'{len(taken)} rows of {len(rows)}; codes:', ' '.join(sorted(c.decode() for k, c in shown if k == 'code')),
+          '; refusals:', ' '.join(sorted(str(c) for k, c in shown if k == 'refusal')))
+    out = subprocess.run(['rt', 'dev', 'rows'], cwd=work, env=dict(os.environ, RT_CUT='0'), capture_output=True, text=True)
+    text = out.stdout + out.stderr
+    bad = sorted(set(re.findall(r'error: `(row\d+)`', text) + re.findall(r'in `(row\d+)`', text)), key=lambda s: int(s[3:]))
+    for b in bad[:20]:
+        r = taken[int(b[3:])]
+        print('DIFFERS', b, r['kind'], bytes.fromhex(r['message']), 'expected', r['refusal'], bytes.fromhex(r['reply']))
+    ok = out.returncode == 0 and not bad
+    if not ok and not bad:
+        print(text[-3000:])
+    print(f'{len(taken) - len(bad)} rows hold, {len(bad)} differ' if ok or bad else 'not checked')
+    if not a.keep:
+        shutil.rmtree(work)
+    sys.exit(0 if ok else 1)
+
+
+main()
