@@ -41,10 +41,10 @@ def table(length, pairs):
 
 def marks(row):
     """What a row shows: its kind, its refusal, the codes of its reply."""
-    found = {('kind', row['kind']), ('refusal', row['refusal'])}
+    found = {('kind', row['kind'][:1]), ('refusal', row['refusal'])}
     reply = bytes.fromhex(row['reply'])
     found |= {('code', c) for c in re.findall(rb'ER=(\d+)', reply)}
-    found |= {('word', c) for c in re.findall(rb'(?:[{,])([A-Z]+)=', reply)}
+    found |= {('report', c) for c in re.findall(rb'[{,]([A-Z]+=[A-Z$*])', reply)}
     return found
 
 

@@ -6,7 +6,7 @@ use lib.ListN.{getD}
 use lib.Dec.{leb, eqb}
 use Rattle.base.specs.Pick.{pick}
 use Rattle.megaco.specs.declared.Class.{Class}
-use Rattle.megaco.specs.declared.Class.the-variants.{Word, Name, Safe, Quoted, Domain}
+use Rattle.megaco.specs.declared.Class.the-variants.{WordByte, NameByte, SafeByte, QuotedByte, DomainByte}
 
 -- ---- single bytes: Annex B.2's EQUAL, COMMA, LBRKT, RBRKT, SLASH, COLON, DOT, DQUOTE, and the signs of document 01
 abbrev pub equal : ℕ
@@ -46,7 +46,6 @@ abbrev pub star : ℕ
 star = 0x2a
 
 -- ---- classes
-
 
 -- ALPHA
 unfoldable pub isLetter : ℕ → Bool
@@ -95,11 +94,11 @@ unfoldable pub isDomain : ℕ → Bool
 isDomain b = isLetter b || isDigit b || eqb b 0x2d || eqb b 0x2e
 
 unfoldable pub inClass : Class → ℕ → Bool
-inClass Word b = isWord b
-inClass Name b = isName b
-inClass Safe b = isSafe b
-inClass Quoted b = isQuoted b
-inClass Domain b = isDomain b
+inClass WordByte b = isWord b
+inClass NameByte b = isName b
+inClass SafeByte b = isSafe b
+inClass QuotedByte b = isQuoted b
+inClass DomainByte b = isDomain b
 
 -- ---- letter case
 

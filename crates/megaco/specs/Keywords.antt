@@ -5,14 +5,8 @@ use mathlib.Core.List.{List}
 use Rattle.base.specs.Lists.{same}
 use Rattle.base.specs.Bytes.{text}
 use Rattle.megaco.specs.Bytes.{capitals}
-
-pub data Token : Type 0 where
-  MegacopToken TransToken CtxToken : Token
-  AddToken ModifyToken SubtractToken MoveToken : Token
-  MediaToken LocalControlToken TerminationStateToken ModeToken ServiceStatesToken : Token
-  PriorityToken EmergencyToken : Token
-  InactiveToken SendonlyToken RecvonlyToken SendrecvToken LoopbackToken : Token
-  InSvcToken OutOfSvcToken TestToken : Token
+use Rattle.megaco.specs.declared.Token.{Token}
+use Rattle.megaco.specs.declared.Token.the-variants.{MegacopToken, TransToken, CtxToken, AddToken, ModifyToken, SubtractToken, MoveToken, MediaToken, LocalControlToken, TerminationStateToken, ModeToken, ServiceStatesToken, PriorityToken, EmergencyToken, InactiveToken, SendonlyToken, RecvonlyToken, SendrecvToken, LoopbackToken, InSvcToken, OutOfSvcToken, TestToken}
 
 -- a keyword's long and short form
 pub data Forms : Type 0 where

@@ -8,22 +8,10 @@ use Rattle.base.specs.Lists.{same, has, before, behind}
 use Rattle.base.specs.Bytes.{text, decimal, _then_}
 use Rattle.megaco.specs.Bytes.{slash, star, dollar, isDigit, capitals}
 use Rattle.megaco.specs.Table.{lines, channels, lineTerminations, ephemerals, isEphemeral}
-
--- what a wildcard ranges over: `*`, `L/*`, `L/l/*`, `R/*`
-pub data Range : Type 0 where
-  everyone everyLine everyEphemeral : Range
-  channelsOf : (line : ℕ) → Range
-
-pub data Name : Type 0 where
-  termination : ℕ → Name
-  root : Name
-  -- `$` and `R/$`; another name with `$`
-  chosen : Name
-  unchosen : Name
-  -- a name with `*` and no `$`: one of the four forms; another
-  wildcard : Range → Name
-  unmatched : Name
-  unknown : Name
+use Rattle.megaco.specs.declared.Range.{Range}
+use Rattle.megaco.specs.declared.Range.the-variants.{Everyone, EveryLine, EveryEphemeral, ChannelsOf}
+use Rattle.megaco.specs.declared.Name.{Name}
+use Rattle.megaco.specs.declared.Name.the-variants.{Termination, Root, Chosen, Unchosen, Wildcard, Unmatched, Unknown}
 
 -- a number of one or two digits without a leading zero; 0 for any other bytes
 unfoldable pub numeral : List ℕ → ℕ
@@ -37,36 +25,36 @@ within x m = ltb 0 x && leb x m
 
 -- "`L/l/s`, l 1..8, s 1..31, is number 31 × (l − 1) + (s − 1)"
 unfoldable pub lineName : ℕ → ℕ → Name
-lineName l s = pick (within l lines && within s channels) (termination (channels * (l - 1) + (s - 1))) unknown
+lineName l s = pick (within l lines && within s channels) (Termination (channels * (l - 1) + (s - 1))) Unknown
 
 -- "`R/n`, n 1..64, is number 247 + n"
 unfoldable pub ephemeralName : ℕ → Name
-ephemeralName n = pick (within n ephemerals) (termination (lineTerminations + (n - 1))) unknown
+ephemeralName n = pick (within n ephemerals) (Termination (lineTerminations + (n - 1))) Unknown
 
 -- a name without `*` and `$`, in capital letters
 unfoldable pub plainName : List ℕ → Name
 plainName n =
     pick (same (before slash n) (text "L")) (lineName (numeral (before slash (behind slash n))) (numeral (behind slash (behind slash n))))
-    (pick (same (before slash n) (text "R")) (ephemeralName (numeral (behind slash n))) unknown)
+    (pick (same (before slash n) (text "R")) (ephemeralName (numeral (behind slash n))) Unknown)
 
 -- `L/l/*`
 unfoldable pub lineRange : List ℕ → Name
 lineRange n =
     let l = numeral (before slash (behind slash n)) in
-    pick (same (before slash n) (text "L") && same (behind slash (behind slash n)) (text "*") && within l lines) (wildcard (channelsOf l)) unmatched
+    pick (same (before slash n) (text "L") && same (behind slash (behind slash n)) (text "*") && within l lines) (Wildcard (ChannelsOf l)) Unmatched
 
 -- "`*`, `L/*`, `L/l/*`, `R/*` match"
 unfoldable pub wildcardName : List ℕ → Name
 wildcardName n =
-    pick (same n (text "*")) (wildcard everyone)
-    (pick (same n (text "L/*")) (wildcard everyLine)
-    (pick (same n (text "R/*")) (wildcard everyEphemeral) (lineRange n)))
+    pick (same n (text "*")) (Wildcard Everyone)
+    (pick (same n (text "L/*")) (Wildcard EveryLine)
+    (pick (same n (text "R/*")) (Wildcard EveryEphemeral) (lineRange n)))
 
 -- "A name with `$` ..", "A name with `*` and no `$` ..", "Else .."
 unfoldable pub capitalName : List ℕ → Name
 capitalName n =
-    pick (same n (text "ROOT")) root
-    (pick (has dollar n) (pick (same n (text "$") || same n (text "R/$")) chosen unchosen)
+    pick (same n (text "ROOT")) Root
+    (pick (has dollar n) (pick (same n (text "$") || same n (text "R/$")) Chosen Unchosen)
     (pick (has star n) (wildcardName n) (plainName n)))
 
 unfoldable pub nameOf : List ℕ → Name
@@ -74,10 +62,10 @@ nameOf n = capitalName (capitals n)
 
 -- is a termination in the range
 unfoldable pub inRange : Range → ℕ → Bool
-inRange everyone i = true
-inRange everyLine i = not (isEphemeral i)
-inRange everyEphemeral i = isEphemeral i
-inRange (channelsOf l) i = eqb (i / channels + 1) l && not (isEphemeral i)
+inRange Everyone i = true
+inRange EveryLine i = not (isEphemeral i)
+inRange EveryEphemeral i = isEphemeral i
+inRange (ChannelsOf l) i = eqb (i / channels + 1) l && not (isEphemeral i)
 
 -- "the full name with capital letters"
 unfoldable pub nameText : ℕ → List ℕ

@@ -10,14 +10,20 @@ use Rattle.base.specs.Pick.{pick}
 use Rattle.base.specs.Lists.{isAt, part}
 use Rattle.megaco.specs.Bytes.{equal, comma, leftBrace, rightBrace, slash, quote, dash, dollar, star, capital}
 use Rattle.megaco.specs.White.{after, whiteAt, sepAt}
-use Rattle.megaco.specs.Keywords.{Token, MegacopToken, TransToken, CtxToken, PriorityToken, EmergencyToken, spells}
+use Rattle.megaco.specs.Keywords.{spells}
+use Rattle.megaco.specs.declared.Token.{Token}
+use Rattle.megaco.specs.declared.Token.the-variants.{MegacopToken, TransToken, CtxToken, PriorityToken, EmergencyToken}
 use Rattle.megaco.specs.Tokens.{markAt, signAt, rowAt, wordAt, keywordAt, terminationAt, numberAt, valueAt, mIdAt}
-use Rattle.megaco.specs.Tree.{Value, plain, quoted, ItemOf, item, Item, Items, Command, command, Context, null, number, choose, all, Property, priority, emergency, Action, action, Transaction, transaction, Message, wellFormed, fault400, fault403, fault406}
+use Rattle.megaco.specs.Tree.{Value, plain, quoted, ItemOf, item, Item, Items, Command, command, Action, action, Transaction, transaction, Message, wellFormed, fault400, fault403, fault406}
 use Rattle.megaco.specs.declared.Parsed.{Parsed}
 use Rattle.megaco.specs.declared.Parsed.the-variants.{Next, Fault}
 use Rattle.megaco.specs.declared.Number.{Number}
 use Rattle.megaco.specs.declared.Number.the-variants.{Got, Bad}
-use Rattle.megaco.specs.declared.Class.the-variants.{Word}
+use Rattle.megaco.specs.declared.Class.the-variants.{WordByte}
+use Rattle.megaco.specs.declared.Context.{Context}
+use Rattle.megaco.specs.declared.Context.the-variants.{Null, Numbered, Choose, All}
+use Rattle.megaco.specs.declared.Property.{Property}
+use Rattle.megaco.specs.declared.Property.the-variants.{Priority, Emergency}
 
 -- ---- what a reader gives, and how one follows another
 
@@ -133,38 +139,43 @@ commandR s at =
 -- "number up to 4294967295, at most 10 digits, or `-`, `$`, `*`"
 unfoldable pub contextR : List ℕ → ℕ → Read Context
 contextR s at =
-    pick (isAt s at dash) (got null (at + 1))
-    (pick (isAt s at dollar) (got choose (at + 1))
-    (pick (isAt s at star) (got all (at + 1))
-    (readNumber (numberAt s at 10 4294967295) number)))
+    pick (isAt s at dash) (got Null (at + 1))
+    (pick (isAt s at dollar) (got Choose (at + 1))
+    (pick (isAt s at star) (got All (at + 1))
+    (readNumber (numberAt s at 10 4294967295) Numbered)))
 
 -- the whole word that stands here
 unfoldable pub wordHere : List ℕ → ℕ → List ℕ
-wordHere s at = part s at (rowAt Word s at)
+wordHere s at = part s at (rowAt WordByte s at)
 
 -- "PR `=` 1 to 5 digits; EG"
 unfoldable pub propertyR : List ℕ → ℕ → Read Property
 propertyR s at =
     pick (spells EmergencyToken (wordHere s at))
-    (spaced s (reading (wordAt s at) (λ e. emergency)))
-    (skip (keyAt PriorityToken s at) (λ p. spaced s (readNumber (numberAt s p 5 99999) priority)))
+    (spaced s (reading (wordAt s at) (λ e. Emergency)))
+    (skip (keyAt PriorityToken s at) (λ p. spaced s (readNumber (numberAt s p 5 99999) Priority)))
 
 -- what stands in an action's braces
 pub data Body : Type 0 where
   body : List Property → List Command → Body
 
-unfoldable pub with-property : Property → Body → Body
-with-property p (body ps cs) = body (p ∷ ps) cs
+unfoldable pub withProperty : Property → Body → Body
+withProperty p (body ps cs) = body (p ∷ ps) cs
 
--- "properties, then commands, all joined by commas, at least one of either", "at most 64 commands an action"
+-- a property, and what may follow it
+unfoldable pub propertyThen : (ℕ → Read Body) → List ℕ → ℕ → Read Body
+propertyThen rest s at =
+    bind (propertyR s at) (λ x p.
+    let more = skip (signAt comma s p) (λ q. bind (rest q) (λ b e. got (withProperty x b) e)) in
+    pick (isAt s p comma) more (got (body (x ∷ []) []) p))
+
+-- "properties, then commands, all joined by commas, at least one of either", "At most 64 commands an action"
 unfoldable pub bodyR : ℕ → List ℕ → ℕ → Read Body
 bodyR zero s at = fault
 bodyR (suc k) s at =
-    let more = bind (propertyR s at) (λ x p.
-        let rest = skip (signAt comma s p) (λ q. bind (bodyR k s q) (λ b e. got (with-property x b) e)) in
-        pick (isAt s p comma) rest (got (body (x ∷ []) []) p)) in
+    let properties = propertyThen (bodyR k s) s at in
     let commands = bind (listR (commandR s) s 64 at) (λ cs e. got (body [] cs) e) in
-    pick (isProperty (wordHere s at)) more commands
+    pick (isProperty (wordHere s at)) properties commands
 
 unfoldable pub actionOf : Context → Body → Action
 actionOf c (body ps cs) = action c ps cs
@@ -203,17 +214,25 @@ followed x fault400 = fault400
 followed x (fault403 id) = fault403 id
 followed x fault406 = fault406
 
+-- the end of the message, or more of it
+unfoldable pub endOr : (ℕ → Message) → Transaction → List ℕ → ℕ → Message
+endOr rest x s at = let more = followed x (rest at) in pick (ltb at (length s)) more (wellFormed (x ∷ []))
+
+-- a transaction from behind its identifier, and what may follow it
+unfoldable pub bracesThen : (ℕ → Message) → ℕ → List ℕ → ℕ → Message
+bracesThen rest id s at =
+    elsewhere (after (whiteAt s at) (markAt leftBrace s)) (λ p.
+    inside id (actionsR s p) (λ acts q.
+    elsewhere (whiteAt s q) (λ e.
+    endOr rest (transaction id acts) s e)))
+
 -- at most k transactions, to the end of the message. "or identifier 0": 403 as soon as its digits end
 unfoldable pub transactionsR : ℕ → List ℕ → ℕ → Message
 transactionsR zero s at = fault400
 transactionsR (suc k) s at =
     elsewhere (keyAt TransToken s at) (λ p.
     numbered (numberAt s p 10 4294967295) (λ id q.
-    let rest = elsewhere (after (whiteAt s q) (markAt leftBrace s)) (λ r.
-        inside id (actionsR s r) (λ acts u.
-        elsewhere (whiteAt s u) (λ e.
-        let more = followed (transaction id acts) (transactionsR k s e) in
-        pick (ltb e (length s)) more (wellFormed (transaction id acts ∷ []))))) in
+    let rest = bracesThen (transactionsR k s) id s q in
     pick (eqb id 0) (fault403 0) rest))
 
 -- "MEGACO `/`", before the version

@@ -6,11 +6,11 @@ use lib.ListN.{length}
 use lib.Dec.{ltb, eqb}
 use Rattle.base.specs.Pick.{pick}
 use Rattle.base.specs.Bytes.{text, decimal, _then_}
-use Rattle.megaco.specs.Tree.{Context, null, number, choose, all}
 use Rattle.megaco.specs.Table.{priorityOf, emergencyOf}
-
-pub data Op : Type 0 where
-  add modify subtract move : Op
+use Rattle.megaco.specs.declared.Context.{Context}
+use Rattle.megaco.specs.declared.Context.the-variants.{Null, Numbered, Choose, All}
+use Rattle.megaco.specs.declared.Op.{Op}
+use Rattle.megaco.specs.declared.Op.the-variants.{Add, Modify, Subtract, Move}
 
 -- "per attempt, the short keyword, `=` and name; a failed one adds `{ER=code{}}`", code 0 being success; "An action error stands last, as
 -- `ER=code{}`"; "An action of properties alone reports its context's `PR=n`, then `,EG` if set"
@@ -26,10 +26,10 @@ pub record Acted : Type 0 where
   pub said : List Report
 
 unfoldable pub opText : Op → List ℕ
-opText add = text "A"
-opText modify = text "MF"
-opText subtract = text "S"
-opText move = text "MV"
+opText Add = text "A"
+opText Modify = text "MF"
+opText Subtract = text "S"
+opText Move = text "MV"
 
 unfoldable pub errorText : ℕ → List ℕ
 errorText code = text "ER=" then decimal code then text "{}"
@@ -52,10 +52,10 @@ reportsText first (r ∷ rs) = separator first then reportText r then reportsTex
 
 -- "`$` not turned into a number stays `$`"
 unfoldable pub contextText : Context → List ℕ
-contextText null = text "-"
-contextText (number c) = decimal c
-contextText choose = text "$"
-contextText all = text "*"
+contextText Null = text "-"
+contextText (Numbered c) = decimal c
+contextText Choose = text "$"
+contextText All = text "*"
 
 -- `C=id{..}`
 unfoldable pub actionText : Context → List Report → List ℕ

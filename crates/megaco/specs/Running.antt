@@ -7,12 +7,27 @@ use mathlib.Core.Option.{Option, none, some}
 use lib.Dec.{ltb, leb, eqb}
 use Rattle.base.specs.Pick.{pick}
 use Rattle.base.specs.Bytes.{text, _then_}
-use Rattle.megaco.specs.Keywords.{AddToken, ModifyToken, SubtractToken, MoveToken, spells}
-use Rattle.megaco.specs.Tree.{Items, Command, command, Context, null, number, choose, all, Property, priority, emergency, Action, action, Transaction, transaction, Message, wellFormed, fault400, fault403, fault406}
+use Rattle.megaco.specs.Keywords.{spells}
+use Rattle.megaco.specs.declared.Token.the-variants.{AddToken, ModifyToken, SubtractToken, MoveToken}
+use Rattle.megaco.specs.Tree.{Items, Command, command, Action, action, Transaction, transaction, Message, wellFormed, fault400, fault403, fault406}
 use Rattle.megaco.specs.Table.{Cell, prop, rec, Slot, ctx, cell, Write, write, get, apply, most, lineTerminations, contextWords, isEphemeral, exists, known, members, freeContext, freeEphemeral, stateOf, priorityOf, emergencyOf}
-use Rattle.megaco.specs.Names.{Name, termination, root, chosen, unchosen, wildcard, unmatched, unknown, Range, inRange, nameOf, nameText}
-use Rattle.megaco.specs.Items.{Values, update, Judged, wrong, right, judgeItems, given?}
-use Rattle.megaco.specs.Reply.{Op, add, modify, subtract, move, Report, tried, failed, standing, Acted, errorText, replyText, transactionText}
+use Rattle.megaco.specs.Names.{inRange, nameOf, nameText}
+use Rattle.megaco.specs.Items.{update, judgeItems, given?}
+use Rattle.megaco.specs.Reply.{Report, tried, failed, standing, Acted, errorText, replyText, transactionText}
+use Rattle.megaco.specs.declared.Context.{Context}
+use Rattle.megaco.specs.declared.Context.the-variants.{Null, Numbered, Choose, All}
+use Rattle.megaco.specs.declared.Property.{Property}
+use Rattle.megaco.specs.declared.Property.the-variants.{Priority, Emergency}
+use Rattle.megaco.specs.declared.Op.{Op}
+use Rattle.megaco.specs.declared.Op.the-variants.{Add, Modify, Subtract, Move}
+use Rattle.megaco.specs.declared.Range.{Range}
+use Rattle.megaco.specs.declared.Name.{Name}
+use Rattle.megaco.specs.declared.Name.the-variants.{Termination, Root, Chosen, Unchosen, Wildcard, Unmatched, Unknown}
+use Rattle.megaco.specs.declared.Judged.{Judged}
+use Rattle.megaco.specs.declared.Judged.the-variants.{Wrong, Right}
+use Rattle.megaco.specs.declared.Values.{Values}
+use Rattle.megaco.specs.declared.Seen.{Seen}
+use Rattle.megaco.specs.declared.View.{View}
 
 -- ---- tests
 
@@ -31,38 +46,25 @@ judge (check b code ∷ cs) ws = let r = judge cs ws in pick b (refused code) r
 
 -- ---- what an attempt sees of the table
 
--- a context's record and how many stand in it; nothing of a number that no context has
-pub record Seen : Type 0 where
-  pub held : ℕ
-  pub members : ℕ
-
 abbrev pub unseen : Seen
 unseen = record { held = 0; members = 0 }
 
 unfoldable pub seen : ℕ → List ℕ → Seen
 seen c t = let s : Seen = record { held = get t (cell (rec c)); members = members c t } in pick (known c) s unseen
 
--- where a termination stands, its property word, the action's context, the context that it stands in, the lowest number absent
-pub record View : Type 0 where
-  pub here : ℕ
-  pub word : ℕ
-  pub there : Seen
-  pub from : Seen
-  pub free : ℕ
-
 -- null is 0 in the table; `$` and `*` are no number yet
 unfoldable pub numberOf : Context → ℕ
-numberOf null = 0
-numberOf (number c) = c
-numberOf choose = 0
-numberOf all = 0
+numberOf Null = 0
+numberOf (Numbered c) = c
+numberOf Choose = 0
+numberOf All = 0
 
 -- "the lowest number absent before that attempt", asked in `$` alone
 unfoldable pub freeAt : Context → List ℕ → ℕ
-freeAt null t = 0
-freeAt (number c) t = 0
-freeAt choose t = freeContext t
-freeAt all t = 0
+freeAt Null t = 0
+freeAt (Numbered c) t = 0
+freeAt Choose t = freeContext t
+freeAt All t = 0
 
 unfoldable pub look : Context → ℕ → List ℕ → View
 look at i t =
@@ -71,10 +73,10 @@ look at i t =
 -- ---- one attempt: tests 5 and 6, and what it changes
 
 unfoldable pub isChoose : Context → Bool
-isChoose null = false
-isChoose (number c) = false
-isChoose choose = true
-isChoose all = false
+isChoose Null = false
+isChoose (Numbered c) = false
+isChoose Choose = true
+isChoose All = false
 
 -- the number of the context that an attempt means
 unfoldable pub target : Context → View → ℕ
@@ -86,10 +88,10 @@ roomChecks at v = check (isChoose at && eqb (v .free) 0) 412 ∷ check (leb most
 
 -- "Add: 433 if not in null. Modify, Subtract: 435 if not in the action's context. Move: 435 from null, 433 if already in the target"
 unfoldable pub checks : Op → Context → View → List Check
-checks add at v = check (not (eqb (v .here) 0)) 433 ∷ roomChecks at v
-checks modify at v = check (not (eqb (v .here) (numberOf at))) 435 ∷ []
-checks subtract at v = check (not (eqb (v .here) (numberOf at))) 435 ∷ []
-checks move at v = check (eqb (v .here) 0) 435 ∷ check (eqb (v .here) (numberOf at)) 433 ∷ roomChecks at v
+checks Add at v = check (not (eqb (v .here) 0)) 433 ∷ roomChecks at v
+checks Modify at v = check (not (eqb (v .here) (numberOf at))) 435 ∷ []
+checks Subtract at v = check (not (eqb (v .here) (numberOf at))) 435 ∷ []
+checks Move at v = check (eqb (v .here) 0) 435 ∷ check (eqb (v .here) (numberOf at)) 433 ∷ roomChecks at v
 
 -- the context that an attempt joins: `$` comes to be, with the record given
 unfoldable pub joining : Context → ℕ → View → List Write → List Write
@@ -113,17 +115,17 @@ subtracted i word = pick (isEphemeral i) 0 (8 * stateOf word)
 
 -- "Add, Modify and Move then set the values given"
 unfoldable pub changes : Op → Context → ℕ → ℕ → Values → View → List Write
-changes add at given i vs v = joining at given v (placed i (target at v) (update vs (added i (v .word))))
-changes modify at given i vs v = write (cell (prop i)) (update vs (v .word)) ∷ []
-changes subtract at given i vs v = leaving v (placed i 0 (subtracted i (v .word)))
-changes move at given i vs v = leaving v (joining at given v (placed i (target at v) (update vs (v .word))))
+changes Add at given i vs v = joining at given v (placed i (target at v) (update vs (added i (v .word))))
+changes Modify at given i vs v = write (cell (prop i)) (update vs (v .word)) ∷ []
+changes Subtract at given i vs v = leaving v (placed i 0 (subtracted i (v .word)))
+changes Move at given i vs v = leaving v (joining at given v (placed i (target at v) (update vs (v .word))))
 
 unfoldable pub attempt : Op → Context → ℕ → ℕ → Values → View → Result
 attempt op at given i vs v = judge (checks op at v) (changes op at given i vs v)
 
 -- `$` "becomes .. the lowest number absent before that attempt, and stays that number for the rest of the action"
 unfoldable pub settled : Context → View → Context
-settled at v = pick (isChoose at) (number (v .free)) at
+settled at v = pick (isChoose at) (Numbered (v .free)) at
 
 -- what an attempt writes and reports, and the action's context after it
 pub record Effect : Type 0 where
@@ -171,10 +173,10 @@ actionError code at t = outcome t (failed code ∷ []) at false
 
 -- "for Add, those in null; for Modify and Subtract, those in the action's context; for Move, those in a non-null context other than the target"
 unfoldable pub wanted : Op → ℕ → ℕ → Bool
-wanted add c word = eqb word 0
-wanted modify c word = eqb word c
-wanted subtract c word = eqb word c
-wanted move c word = not (eqb word 0) && not (eqb word c)
+wanted Add c word = eqb word 0
+wanted Modify c word = eqb word c
+wanted Subtract c word = eqb word c
+wanted Move c word = not (eqb word 0) && not (eqb word c)
 
 -- "A wildcard matches existing terminations only", "tried in ascending number": from number i on, with the rest of the context words
 unfoldable pub matchesFrom : Op → ℕ → Range → ℕ → List ℕ → List ℕ
@@ -192,28 +194,28 @@ pub data Aim : Type 0 where
   meets : (wild : Bool) → List ℕ → Aim
 
 unfoldable pub isAdd : Op → Bool
-isAdd add = true
-isAdd modify = false
-isAdd subtract = false
-isAdd move = false
+isAdd Add = true
+isAdd Modify = false
+isAdd Subtract = false
+isAdd Move = false
 
 unfoldable pub isModify : Op → Bool
-isModify add = false
-isModify modify = true
-isModify subtract = false
-isModify move = false
+isModify Add = false
+isModify Modify = true
+isModify Subtract = false
+isModify Move = false
 
 unfoldable pub isSubtract : Op → Bool
-isSubtract add = false
-isSubtract modify = false
-isSubtract subtract = true
-isSubtract move = false
+isSubtract Add = false
+isSubtract Modify = false
+isSubtract Subtract = true
+isSubtract Move = false
 
 unfoldable pub isNull : Context → Bool
-isNull null = true
-isNull (number c) = false
-isNull choose = false
-isNull all = false
+isNull Null = true
+isNull (Numbered c) = false
+isNull Choose = false
+isNull All = false
 
 -- "`ROOT`: 410 unless Modify; 435 outside `-`; 447 with items"
 unfoldable pub aimRoot : Op → Context → Bool → Aim
@@ -231,13 +233,13 @@ aimMatches (i ∷ is) = meets true (i ∷ is)
 
 -- test 4
 unfoldable pub aim : Op → Context → Bool → Name → List ℕ → Aim
-aim op at items root t = aimRoot op at items
-aim op at items chosen t = let m = aimFree (freeEphemeral t) in pick (not (isAdd op)) (misses 410) m
-aim op at items unchosen t = pick (not (isAdd op)) (misses 410) (misses 432)
-aim op at items (wildcard r) t = aimMatches (matches op at r t)
-aim op at items unmatched t = misses 431
-aim op at items (termination i) t = pick (exists i (get t (ctx i))) (meets false (i ∷ [])) (misses 430)
-aim op at items unknown t = misses 430
+aim op at items Root t = aimRoot op at items
+aim op at items Chosen t = let m = aimFree (freeEphemeral t) in pick (not (isAdd op)) (misses 410) m
+aim op at items Unchosen t = pick (not (isAdd op)) (misses 410) (misses 432)
+aim op at items (Wildcard r) t = aimMatches (matches op at r t)
+aim op at items Unmatched t = misses 431
+aim op at items (Termination i) t = pick (exists i (get t (ctx i))) (meets false (i ∷ [])) (misses 430)
+aim op at items Unknown t = misses 430
 
 -- tests 5 and 6, for each that the name means
 unfoldable pub aimed : Op → List ℕ → ℕ → Values → Aim → Context → List ℕ → Outcome
@@ -249,10 +251,10 @@ aimed op name given vs (meets wild is) at t = tries op wild name given vs is at 
 unfoldable pub opOf : Bool → List ℕ → Option Op
 opOf true word = none
 opOf false word =
-    pick (spells AddToken word) (some add)
-    (pick (spells ModifyToken word) (some modify)
-    (pick (spells SubtractToken word) (some subtract)
-    (pick (spells MoveToken word) (some move) none)))
+    pick (spells AddToken word) (some Add)
+    (pick (spells ModifyToken word) (some Modify)
+    (pick (spells SubtractToken word) (some Subtract)
+    (pick (spells MoveToken word) (some Move) none)))
 
 -- "421 Add, Subtract or Move in `-`"
 unfoldable pub barred : Op → Context → Bool
@@ -260,15 +262,15 @@ barred op at = isNull at && not (isModify op)
 
 -- "411: the context does not exist now .., or `$` not yet a number for Modify and Subtract"
 unfoldable pub lost : Op → Context → ℕ → Bool
-lost op null held = false
-lost op (number c) held = eqb held 0
-lost op choose held = isModify op || isSubtract op
-lost op all held = true
+lost op Null held = false
+lost op (Numbered c) held = eqb held 0
+lost op Choose held = isModify op || isSubtract op
+lost op All held = true
 
 -- test 4 after test 3
 unfoldable pub named : Op → List ℕ → ℕ → Bool → Judged → Context → List ℕ → Outcome
-named op name given items (wrong code) at t = missed op name code at t
-named op name given items (right vs) at t = aimed op name given vs (aim op at items (nameOf name) t) at t
+named op name given items (Wrong code) at t = missed op name code at t
+named op name given items (Right vs) at t = aimed op name given vs (aim op at items (nameOf name) t) at t
 
 -- tests 2 to 6
 unfoldable pub tested : Op → List ℕ → Items → ℕ → Context → List ℕ → Outcome
@@ -294,8 +296,8 @@ runCommand (command o w word name items) given at t = ordered o (opOf w word) na
 
 unfoldable pub over15 : List Property → Bool
 over15 [] = false
-over15 (priority n ∷ ps) = ltb 15 n || over15 ps
-over15 (emergency ∷ ps) = over15 ps
+over15 (Priority n ∷ ps) = ltb 15 n || over15 ps
+over15 (Emergency ∷ ps) = over15 ps
 
 unfoldable pub anyGiven : List Property → Bool
 anyGiven [] = false
@@ -304,10 +306,10 @@ anyGiven (p ∷ ps) = true
 -- "421 for context `*`; 421 for properties in `-`, or in `$` without commands; 449 for any priority over 15; 411 for properties in a
 -- numbered context that does not exist"
 unfoldable pub startChecks : Context → List Property → Bool → ℕ → List Check
-startChecks null ps alone held = check (anyGiven ps) 421 ∷ []
-startChecks (number c) ps alone held = check (over15 ps) 449 ∷ check (anyGiven ps && eqb held 0) 411 ∷ []
-startChecks choose ps alone held = check (anyGiven ps && alone) 421 ∷ check (over15 ps) 449 ∷ []
-startChecks all ps alone held = check true 421 ∷ []
+startChecks Null ps alone held = check (anyGiven ps) 421 ∷ []
+startChecks (Numbered c) ps alone held = check (over15 ps) 449 ∷ check (anyGiven ps && eqb held 0) 411 ∷ []
+startChecks Choose ps alone held = check (anyGiven ps && alone) 421 ∷ check (over15 ps) 449 ∷ []
+startChecks All ps alone held = check true 421 ∷ []
 
 -- "A new context has priority 0, no emergency"
 abbrev pub newRecord : ℕ
@@ -316,14 +318,14 @@ newRecord = 1
 -- "Properties are then set, the last of a kind holding"
 unfoldable pub setProperties : List Property → ℕ → ℕ
 setProperties [] r = r
-setProperties (priority n ∷ ps) r = setProperties ps (1 + n + 16 * emergencyOf r)
-setProperties (emergency ∷ ps) r = setProperties ps (1 + priorityOf r + 16)
+setProperties (Priority n ∷ ps) r = setProperties ps (1 + n + 16 * emergencyOf r)
+setProperties (Emergency ∷ ps) r = setProperties ps (1 + priorityOf r + 16)
 
 unfoldable pub startWrites : Context → List Property → ℕ → List Write
-startWrites null ps r = []
-startWrites (number c) ps r = pick (anyGiven ps) (write (cell (rec c)) (setProperties ps r) ∷ []) []
-startWrites choose ps r = []
-startWrites all ps r = []
+startWrites Null ps r = []
+startWrites (Numbered c) ps r = pick (anyGiven ps) (write (cell (rec c)) (setProperties ps r) ∷ []) []
+startWrites Choose ps r = []
+startWrites All ps r = []
 
 -- what an action's start writes, and the action as it then stands
 pub record Start : Type 0 where

@@ -9,13 +9,14 @@ use Rattle.base.specs.Pick.{pick}
 use Rattle.base.specs.Lists.{isAt, part}
 use Rattle.megaco.specs.Bytes.{colon, dot, quote, star, dollar, isLetter, isDigit, inClass}
 use Rattle.megaco.specs.White.{after, whiteAt}
-use Rattle.megaco.specs.Keywords.{Token, spells}
+use Rattle.megaco.specs.Keywords.{spells}
+use Rattle.megaco.specs.declared.Token.{Token}
 use Rattle.megaco.specs.declared.Parsed.{Parsed}
 use Rattle.megaco.specs.declared.Parsed.the-variants.{Next, Fault}
 use Rattle.megaco.specs.declared.Number.{Number}
 use Rattle.megaco.specs.declared.Number.the-variants.{Got, Bad}
 use Rattle.megaco.specs.declared.Class.{Class}
-use Rattle.megaco.specs.declared.Class.the-variants.{Word, Name, Safe, Quoted, Domain}
+use Rattle.megaco.specs.declared.Class.the-variants.{WordByte, NameByte, SafeByte, QuotedByte, DomainByte}
 
 -- one given byte
 unfoldable pub markAt : ℕ → List ℕ → ℕ → Parsed
@@ -42,7 +43,7 @@ upTo64 a e = pick (ltb 64 (e - a)) Fault (Next e)
 
 -- "Word: a letter, then up to 63 letters, digits, `_`"
 unfoldable pub wordAt : List ℕ → ℕ → Parsed
-wordAt s at = let e = rowAt Word s at in pick (letterAt s at) (upTo64 at e) Fault
+wordAt s at = let e = rowAt WordByte s at in pick (letterAt s at) (upTo64 at e) Fault
 
 -- a word that is the keyword
 unfoldable pub keywordAt : Token → List ℕ → ℕ → Parsed
@@ -53,7 +54,7 @@ unfoldable pub pathStart : List ℕ → ℕ → ℕ
 pathStart s at = pick (isAt s at star) (at + 1) at
 
 unfoldable pub pathNameAt : List ℕ → ℕ → Parsed
-pathNameAt s at = let e = rowAt Name s (pathStart s at) in pick (letterAt s (pathStart s at)) (upTo64 at e) Fault
+pathNameAt s at = let e = rowAt NameByte s (pathStart s at) in pick (letterAt s (pathStart s at)) (upTo64 at e) Fault
 
 -- "Termination: `*`, `$`, or a path name"
 unfoldable pub terminationAt : List ℕ → ℕ → Parsed
@@ -85,11 +86,11 @@ afterNumber Bad f = Fault
 
 -- "a quoted string with 0 to 64 of SafeChar, RestChar, space and tab inside"
 unfoldable pub quotedAt : List ℕ → ℕ → Parsed
-quotedAt s at = let e = rowAt Quoted s (at + 1) in after (upTo64 (at + 1) e) (markAt quote s)
+quotedAt s at = let e = rowAt QuotedByte s (at + 1) in after (upTo64 (at + 1) e) (markAt quote s)
 
 -- "1 to 64 SafeChar"
 unfoldable pub plainAt : List ℕ → ℕ → Parsed
-plainAt s at = let e = rowAt Safe s at in pick (ltb at e) (upTo64 at e) Fault
+plainAt s at = let e = rowAt SafeByte s at in pick (ltb at e) (upTo64 at e) Fault
 
 unfoldable pub valueAt : List ℕ → ℕ → Parsed
 valueAt s at = pick (isAt s at quote) (quotedAt s at) (plainAt s at)
@@ -112,7 +113,7 @@ addressAt s at = after (octetAt dot s (at + 1)) (λ p. after (octetAt dot s p) (
 unfoldable pub domainAt : List ℕ → ℕ → Parsed
 domainAt s at =
     let b = getD s (at + 1) 0 in
-    let e = rowAt Domain s (at + 1) in
+    let e = rowAt DomainByte s (at + 1) in
     pick (isLetter b || isDigit b) (after (upTo64 (at + 1) e) (markAt 0x3e s)) Fault
 
 unfoldable pub mIdAt : List ℕ → ℕ → Parsed

@@ -3,6 +3,8 @@ use Prim.Native.Nat.{ℕ, zero, suc}
 use mathlib.Core.Bool.{Bool}
 use mathlib.Core.List.{List}
 use mathlib.Core.Option.{Option}
+use Rattle.megaco.specs.declared.Context.{Context}
+use Rattle.megaco.specs.declared.Property.{Property}
 
 -- a value is plain or stands between quotes
 pub data Value : Type 0 where
@@ -24,18 +26,6 @@ Items = Option (List (Item 8))
 -- "Command: optional `O-`, optional `W-`, word `=` termination, optional `{` items `}`"
 pub data Command : Type 0 where
   command : (optional wild : Bool) (word name : List ℕ) (items : Items) → Command
-
--- an action's context: `-`, a number, `$`, `*`
-pub data Context : Type 0 where
-  null : Context
-  number : ℕ → Context
-  choose : Context
-  all : Context
-
--- "Properties: PR `=` 1 to 5 digits; EG"
-pub data Property : Type 0 where
-  priority : ℕ → Property
-  emergency : Property
 
 pub data Action : Type 0 where
   action : (context : Context) (properties : List Property) (commands : List Command) → Action

@@ -1,4 +1,4 @@
-// The plain types that definitions and contracts share. The definitions themselves are in specs/.
+// The plain types that definitions and contracts share. What they mean is said in specs/.
 
 // What a reader of one part finds: the place after it, or that the part does not stand there.
 pub enum Parsed {
@@ -14,9 +14,117 @@ pub enum Number {
 
 // Classes of bytes that may stand in a row: in a word, a name, a plain value, a quoted value, a domain name.
 pub enum Class {
-    Word,
-    Name,
-    Safe,
-    Quoted,
-    Domain,
+    WordByte,
+    NameByte,
+    SafeByte,
+    QuotedByte,
+    DomainByte,
+}
+
+// Keywords, under Annex B.2's names.
+pub enum Token {
+    MegacopToken,
+    TransToken,
+    CtxToken,
+    AddToken,
+    ModifyToken,
+    SubtractToken,
+    MoveToken,
+    MediaToken,
+    LocalControlToken,
+    TerminationStateToken,
+    ModeToken,
+    ServiceStatesToken,
+    PriorityToken,
+    EmergencyToken,
+    InactiveToken,
+    SendonlyToken,
+    RecvonlyToken,
+    SendrecvToken,
+    LoopbackToken,
+    InSvcToken,
+    OutOfSvcToken,
+    TestToken,
+}
+
+// An action's context: `-`, a number, `$`, `*`.
+pub enum Context {
+    Null,
+    Numbered(u32),
+    Choose,
+    All,
+}
+
+// A context's property, as an action gives it: `PR=n`, `EG`.
+pub enum Property {
+    Priority(u32),
+    Emergency,
+}
+
+// The commands that are built.
+pub enum Op {
+    Add,
+    Modify,
+    Subtract,
+    Move,
+}
+
+// What a wildcard ranges over: `*`, `L/*`, `R/*`, `L/l/*`.
+pub enum Range {
+    Everyone,
+    EveryLine,
+    EveryEphemeral,
+    ChannelsOf(u32),
+}
+
+// What a termination's name means. `Chosen`: `$` and `R/$`; `Unchosen`: another name with `$`; `Wildcard`: a form with `*` that
+// matches; `Unmatched`: another name with `*`.
+pub enum Name {
+    Termination(usize),
+    Root,
+    Chosen,
+    Unchosen,
+    Wildcard(Range),
+    Unmatched,
+    Unknown,
+}
+
+// A value given by a command's items, or none.
+pub enum Given {
+    Keep,
+    To(u32),
+}
+
+// The mode and the state that a command's items give.
+pub struct Values {
+    pub mode: Given,
+    pub state: Given,
+}
+
+// A command's items: the first code in reading order, or the values given.
+pub enum Judged {
+    Wrong(u32),
+    Right(Values),
+}
+
+// Which property a descriptor holds: Mode in LocalControl, ServiceStates in TerminationState.
+pub enum Kind {
+    InControl,
+    InState,
+}
+
+// Of a context: its record, and how many terminations stand in it.
+pub struct Seen {
+    pub held: u32,
+    pub members: usize,
+}
+
+// What an attempt sees: where the termination stands, its property word, the action's context, the context that it stands in, and
+// the lowest number absent.
+pub struct View {
+    pub here: u32,
+    pub word: u32,
+    pub there: Seen,
+    pub from: Seen,
+    pub free: u32,
 }
