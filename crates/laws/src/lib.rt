@@ -1,0 +1,1 @@
+// Theorems about the definitions of crate `megaco`; see specs/. No code stands here.
