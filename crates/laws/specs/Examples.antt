@@ -1,0 +1,142 @@
+-- Document 01's fourteen examples ('Proof owed'): the six lines of the session and the eight short cases that begin with `T`, one table of
+-- rows, proved by one computed test over the whole call, bytes to bytes and table to table, for any reply buffer that is long enough.
+use Prim.Native.Nat.{ℕ, _≤_}
+use mathlib.Core.Path.{_≡_, refl, sym, ap, _∙_}
+use mathlib.Core.Bool.{Bool, true, false, not, _&&_, _||_}
+use mathlib.Core.List.{List, [], _∷_}
+use lib.ListN.{length, replicate, set}
+use lib.Dec.{ltb, leb, eqb}
+use borrow.Author.Tests.{le-ltb}
+use Rattle.base.specs.Pick.{pick}
+use Rattle.base.specs.Lists.{same}
+use Rattle.base.specs.Bytes.{text, _then_}
+use Rattle.megaco.specs.Tokens.{isMid}
+use Rattle.megaco.specs.Reading.{messageR}
+use Rattle.megaco.specs.Table.{sound}
+use Rattle.megaco.specs.Reply.{headerText}
+use Rattle.megaco.specs.Running.{Ran, runMessage}
+use Rattle.megaco.specs.Call.{Called, turnedDown, written, replied, taken, call}
+use Rattle.laws.specs.Tests.{and-true, or-false, same-is}
+use Rattle.laws.specs.Opened.{computed}
+
+-- a table, a message, the reply to it and the table after it
+pub data Row : Type 0 where
+  row : (before message reply after : List ℕ) → Row
+
+-- the gateway's own mId
+abbrev pub own : List ℕ
+own = text "[10.0.0.9]"
+
+-- ---- the tables of the session
+
+abbrev pub fresh : List ℕ
+fresh = replicate 752 0
+
+-- L/1/5 and R/1 in context 1
+abbrev pub called : List ℕ
+called = set (set (set fresh 4 1) 248 1) 624 1
+
+-- L/1/5 moved to context 2
+abbrev pub moved : List ℕ
+moved = set (set called 4 2) 625 1
+
+-- R/1 subtracted, and context 1 with it
+abbrev pub alone : List ℕ
+alone = set (set moved 248 0) 624 0
+
+-- L/1/5 sends and receives
+abbrev pub ended : List ℕ
+ended = set alone 316 3
+
+-- ---- the rows
+
+pub examples : List Row
+examples =
+    row fresh (text "!/1 [10.0.0.1] T=7{C=${A=L/1/5,A=$}}") (text "!/1 [10.0.0.9] P=7{C=1{A=L/1/5,A=R/1}}") called
+    ∷ row called (text "!/1 [10.0.0.1] T=8{C=1{A=L/1/5}}") (text "!/1 [10.0.0.9] P=8{C=1{A=L/1/5{ER=433{}}}}") called
+    ∷ row called (text "!/1 [10.0.0.1] T=9{C=${MV=L/1/5}}") (text "!/1 [10.0.0.9] P=9{C=2{MV=L/1/5}}") moved
+    ∷ row moved (text "!/1 [10.0.0.1] T=10{C=1{S=*,A=L/2/1}}") (text "!/1 [10.0.0.9] P=10{C=1{S=R/1,A=L/2/1{ER=411{}}}}") alone
+    ∷ row alone (text "!/1 [10.0.0.1] T=11{C=2{O-S=L/8/31,MF=L/1/5{M{O{MO=SR}}}}}") (text "!/1 [10.0.0.9] P=11{C=2{S=L/8/31{ER=435{}},MF=L/1/5}}") ended
+    ∷ row ended (text "!/1 [10.0.0.1] T=12{C=2{S=L/8/31,S=L/1/5}}") (text "!/1 [10.0.0.9] P=12{C=2{S=L/8/31{ER=435{}}}}") ended
+    ∷ row fresh (text "!/1 [10.0.0.1] T=1{C=5{}}") (text "!/1 [10.0.0.9] P=1{ER=403{}}") fresh
+    ∷ row fresh (text "!/1 [10.0.0.1] T=1{}") (text "!/1 [10.0.0.9] P=1{ER=403{}}") fresh
+    ∷ row fresh (text "!/1 [10.0.0.1] T=1{C=5{S=*") (text "!/1 [10.0.0.9] P=1{ER=403{}}") fresh
+    ∷ row fresh (text "!/1 [10.0.0.1] T=1{C=1{PR=16}}") (text "!/1 [10.0.0.9] P=1{C=1{ER=449{}}}") fresh
+    ∷ row fresh (text "!/1 [10.0.0.1] T=1{C=5{PR=3}}") (text "!/1 [10.0.0.9] P=1{C=5{ER=411{}}}") fresh
+    ∷ row fresh (text "!/1 [10.0.0.1] T=1{C=-{A=$}}") (text "!/1 [10.0.0.9] P=1{C=-{ER=421{}}}") fresh
+    ∷ row fresh (text "!/1 [10.0.0.1] T=1{C=${A=R/1}}") (text "!/1 [10.0.0.9] P=1{C=${A=R/1{ER=430{}}}}") fresh
+    ∷ row fresh (text "!/1 [10.0.0.1] T=1{C=-{MF=*}}") (text "!/1 [10.0.0.9] P=1{ER=533{}}") fresh
+    ∷ []
+
+-- ---- the test of a row, and what it tells
+
+fits : Ran → List ℕ → List ℕ → Bool
+fits x a u = same (x .table) u && same (x .text) a
+
+admitted : List ℕ → List ℕ → Bool
+admitted t m = sound t && not (eqb (length m) 0 || ltb 4096 (length m))
+
+holds : Row → Bool
+holds (row t m a u) = admitted t m && fits (computed m t own) a u
+
+all-hold : List Row → Bool
+all-hold [] = true
+all-hold (r ∷ rs) = holds r && all-hold rs
+
+-- a call with a long enough buffer answers, writes and leaves exactly what the row says
+abbrev pub Answers : Row → Type 0
+Answers (row t m a u) = (o : List ℕ) → 16640 ≤ length o → call m t own o ≡ written u a o
+
+abbrev pub Hold : List Row → Type 0
+Hold [] = Unit {0}
+Hold (r ∷ rs) = Answers r × Hold rs
+
+own-is : isMid own ≡ true
+unfolding computed
+own-is = refl
+
+not-true : (b : Bool) → not b ≡ true → b ≡ false
+not-true true e = sym e
+not-true false e = refl
+
+-- a call that nothing turns down
+taken-is : (m t o : List ℕ) → 16640 ≤ length o → sound t ≡ true → (eqb (length m) 0 || ltb 4096 (length m)) ≡ false → call m t own o ≡ taken m t own o
+unfolding call pick
+taken-is m t o h s e = rw (le-ltb (length o) 16640 h, s, own-is, e)
+
+computed-is : (m t : List ℕ) → computed m t own ≡ record { table = runMessage (messageR m) t .table; text = headerText own then runMessage (messageR m) t .text }
+unfolding computed
+computed-is m t = refl
+
+row-answers : (r : Row) → holds r ≡ true → Answers r
+unfolding holds admitted fits taken replied
+row-answers (row t m a u) e =
+    λ o h.
+    let p = and-true (admitted t m) (fits (computed m t own) a u) e in
+    let q = and-true (sound t) (not (eqb (length m) 0 || ltb 4096 (length m))) (p .0) in
+    let r = and-true (same (computed m t own .table) u) (same (computed m t own .text) a) (p .1) in
+    let x : computed m t own .table ≡ u = same-is (computed m t own .table) u (r .0) in
+    let y : computed m t own .text ≡ a = same-is (computed m t own .text) a (r .1) in
+    taken-is m t o h (q .0) (not-true _ (q .1))
+    ∙ ap (λ (z : Ran). written (z .table) (z .text) o) (sym (computed-is m t))
+    ∙ (λ i. written (x i) (y i) o)
+
+rows-answer : (rs : List Row) → all-hold rs ≡ true → Hold rs
+unfolding all-hold
+rows-answer [] e = tt
+rows-answer (r ∷ rs) e =
+    let p = and-true (holds r) (all-hold rs) e in
+    (row-answers r (p .0), rows-answer rs (p .1))
+
+examples-compute : all-hold examples ≡ true
+unfolding examples all-hold holds admitted fits computed
+examples-compute = refl
+
+-- the fourteen examples
+pub examples-hold : Hold examples
+unfolding examples
+examples-hold = rows-answer examples examples-compute
+
+-- "Word 4 is then 2, word 316 is 3, word 625 is 1, all others 0"
+pub session-ends : ended ≡ set (set (set (replicate 752 0) 4 2) 316 3) 625 1
+session-ends = refl
