@@ -1,5 +1,2 @@
 pub mod Slots
 pub mod Counting
-pub mod Tests
-pub mod Opened
-pub mod Examples

@@ -10,14 +10,14 @@ use borrow.Author.Tests.{le-ltb}
 use Rattle.base.specs.Pick.{pick}
 use Rattle.base.specs.Lists.{same}
 use Rattle.base.specs.Bytes.{text, _then_}
 use Rattle.megaco.specs.Tokens.{isMid}
 use Rattle.megaco.specs.Reading.{messageR}
 use Rattle.megaco.specs.Table.{sound}
 use Rattle.megaco.specs.Reply.{headerText}
 use Rattle.megaco.specs.Running.{Ran, runMessage}
 use Rattle.megaco.specs.Call.{Called, turnedDown, written, replied, taken, call}
-use Rattle.laws.specs.Tests.{and-true, or-false, same-is}
-use Rattle.laws.specs.Opened.{computed}
+use Rattle.megaco.proofs.Tests.{and-true, or-false, same-is}
+use Rattle.megaco.proofs.Opened.{computed}
 
 -- a table, a message, the reply to it and the table after it
 pub data Row : Type 0 where
