@@ -1,0 +1,21 @@
+-- What the functions of a run promise: the table and the reports that the definition gives, the reports' text appended in a buffer.
+use Prim.Native.Nat.{ℕ}
+use mathlib.Core.Path.{_≡_}
+use mathlib.Core.List.{List, [], _∷_, _++_}
+use mathlib.Core.Bool.{Bool, _&&_}
+use Rattle.base.specs.Out.{Appended}
+use Rattle.megaco.specs.Reply.{reportsText}
+use Rattle.megaco.specs.Running.{Outcome, outcome}
+use Rattle.megaco.specs.declared.Context.{Context}
+use Rattle.tries.specs.declared.Went.{Went}
+
+-- from the buffer o at `at`, a run leaves the table t′ and the buffer o′; `first` tells that no comma is due before its first report
+pub record Did (x : Outcome) (first : Bool) (o : List ℕ) (at : ℕ) (t′ o′ : List ℕ) (r : Went) : Type 0 where
+  pub table : t′ ≡ x .table
+  pub text : Appended o at (reportsText first (x .reports)) o′ (r .next)
+  pub place : r .at ≡ x .at
+  pub going : r .going ≡ x .going
+
+-- one outcome after another, in the table that it left
+unfoldable pub joined : Outcome → Outcome → Outcome
+joined x y = outcome (y .table) (x .reports ++ y .reports) (y .at) (x .going && y .going)
