@@ -26,11 +26,11 @@ use Rattle.megaco.specs.Call.{Called, turnedDown, written, replied, taken, call
 
 -- ---- what is read: at most 8 transactions, each with an identifier of 32 bits
 
-abbrev largest : ℕ
+abbrev pub largest : ℕ
 largest = 4294967295
 
 -- a number that was read is within its limit
-abbrev Within : ℕ → Number → Type 0
+abbrev pub Within : ℕ → Number → Type 0
 Within limit (Got v p) = v ≤ limit
 Within limit Bad = Unit {0}
 
