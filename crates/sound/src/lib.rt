@@ -21,10 +21,10 @@ pub fn is_sound(table: &[u32]) -> bool
         return false;
     }
     contexts_are_sound(&table[0..TERMINATIONS], &table[RECORDS..WORDS])
-        & lines_are_sound(&table[TERMINATIONS..TERMINATIONS + LINE_TERMINATIONS])
+        & lines_are_sound(&table[TERMINATIONS..EPHEMERAL_PROPERTIES])
         & ephemerals_are_sound(
             &table[LINE_TERMINATIONS..TERMINATIONS],
-            &table[TERMINATIONS + LINE_TERMINATIONS..RECORDS],
+            &table[EPHEMERAL_PROPERTIES..RECORDS],
         )
 }
 

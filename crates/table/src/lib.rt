@@ -5,11 +5,21 @@ ghost use lib.ListN.{length, getD, set};
 ghost use Rattle.base.specs.Lists.{count, lowestAbsent};
 ghost use Rattle.megaco.specs.Table.{words, prop, rec, ctx, cell, address, get, write, store, isEphemeral, exists, known, members, freeContext, freeEphemeral};
 
-// Terminations of the lines fitted.
+// The lines fitted, the channels of each, and the ephemerals.
+pub const LINES: u32 = 8;
+
+pub const CHANNELS: usize = 31;
+
+pub const EPHEMERALS: u32 = 64;
+
+// Terminations of lines have the numbers before this one, ephemerals those from it on.
 pub const LINE_TERMINATIONS: usize = 248;
 
 // All terminations; their properties start at this word.
 pub const TERMINATIONS: usize = 312;
+
+// The properties of ephemerals start at this word.
+pub const EPHEMERAL_PROPERTIES: usize = 560;
 
 // The records of the contexts start at this word.
 pub const RECORDS: usize = 624;
