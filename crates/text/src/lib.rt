@@ -1,0 +1,522 @@
+// Leaf readers: bytes and their classes, white space, rows of bytes, given bytes, keywords.
+ghost use mathlib.Core.Path.{_≡_};
+ghost use Prim.Native.Nat.{_<_};
+ghost use lib.Dec.{eqb};
+ghost use Rattle.base.specs.Lists.{isAt, same};
+ghost use Rattle.megaco.specs.Bytes.{isLetter, isDigit, isLineEnd, inClass, capital, capitals};
+ghost use Rattle.megaco.specs.White.{goesOn, insideAfter, stopAt, whiteAt, sepAt};
+ghost use Rattle.megaco.specs.Keywords.{forms, spelt, spells};
+ghost use Rattle.megaco.specs.Tokens.{markAt, signAt, letterAt, rowAt};
+ghost use Rattle.text.specs.Classes.{OfBit, bitOf, whiteBit};
+use megaco::Class;
+use megaco::Parsed;
+use megaco::Token;
+
+// ---- bytes
+
+// Whether a byte stands at a place. Past the end stands 0.
+pub fn is_at(s: &[u8], at: usize, b: u8) -> bool
+    ensures { λ r. ⌜ r ≡ isAt (now (s .entry)) at b ⌝ }
+{
+    if at < s.len() { s[at] == b } else { 0 == b }
+}
+
+pub fn is_letter(b: u8) -> bool
+    ensures { λ r. ⌜ r ≡ isLetter b ⌝ }
+{
+    (0x41 <= b) & (b <= 0x5a) | (0x61 <= b) & (b <= 0x7a)
+}
+
+pub fn is_digit(b: u8) -> bool
+    ensures { λ r. ⌜ r ≡ isDigit b ⌝ }
+{
+    (0x30 <= b) & (b <= 0x39)
+}
+
+pub fn letter_at(s: &[u8], at: usize) -> bool
+    ensures { λ r. ⌜ r ≡ letterAt (now (s .entry)) at ⌝ }
+{
+    if at < s.len() {
+        is_letter(s[at])
+    } else {
+        false
+    }
+}
+
+// A small letter as its capital; any other byte as it is.
+pub fn capital(b: u8) -> u8
+    ensures { λ r. ⌜ r ≡ capital b ⌝ }
+{
+    if (0x61 <= b) & (b <= 0x7a) {
+        return b - 0x20;
+    }
+    b
+}
+
+// ---- classes of bytes
+
+// What each byte may stand in: 1 a word, 2 a name, 4 a plain value, 8 a quoted value, 16 a domain name, 32 white space, 64 a comment
+// with its line end.
+const CLASSES: [u8; 256] = [
+    0,
+    0,
+    0,
+    0,
+    0,
+    0,
+    0,
+    0,
+    0,
+    104,
+    96,
+    0,
+    0,
+    96,
+    0,
+    0,
+    0,
+    0,
+    0,
+    0,
+    0,
+    0,
+    0,
+    0,
+    0,
+    0,
+    0,
+    0,
+    0,
+    0,
+    0,
+    0,
+    104,
+    76,
+    64,
+    72,
+    78,
+    76,
+    76,
+    76,
+    76,
+    76,
+    78,
+    76,
+    72,
+    92,
+    92,
+    78,
+    95,
+    95,
+    95,
+    95,
+    95,
+    95,
+    95,
+    95,
+    95,
+    95,
+    72,
+    104,
+    72,
+    72,
+    72,
+    76,
+    76,
+    95,
+    95,
+    95,
+    95,
+    95,
+    95,
+    95,
+    95,
+    95,
+    95,
+    95,
+    95,
+    95,
+    95,
+    95,
+    95,
+    95,
+    95,
+    95,
+    95,
+    95,
+    95,
+    95,
+    95,
+    95,
+    95,
+    72,
+    76,
+    72,
+    76,
+    79,
+    76,
+    95,
+    95,
+    95,
+    95,
+    95,
+    95,
+    95,
+    95,
+    95,
+    95,
+    95,
+    95,
+    95,
+    95,
+    95,
+    95,
+    95,
+    95,
+    95,
+    95,
+    95,
+    95,
+    95,
+    95,
+    95,
+    95,
+    72,
+    76,
+    72,
+    76,
+    0,
+    0,
+    0,
+    0,
+    0,
+    0,
+    0,
+    0,
+    0,
+    0,
+    0,
+    0,
+    0,
+    0,
+    0,
+    0,
+    0,
+    0,
+    0,
+    0,
+    0,
+    0,
+    0,
+    0,
+    0,
+    0,
+    0,
+    0,
+    0,
+    0,
+    0,
+    0,
+    0,
+    0,
+    0,
+    0,
+    0,
+    0,
+    0,
+    0,
+    0,
+    0,
+    0,
+    0,
+    0,
+    0,
+    0,
+    0,
+    0,
+    0,
+    0,
+    0,
+    0,
+    0,
+    0,
+    0,
+    0,
+    0,
+    0,
+    0,
+    0,
+    0,
+    0,
+    0,
+    0,
+    0,
+    0,
+    0,
+    0,
+    0,
+    0,
+    0,
+    0,
+    0,
+    0,
+    0,
+    0,
+    0,
+    0,
+    0,
+    0,
+    0,
+    0,
+    0,
+    0,
+    0,
+    0,
+    0,
+    0,
+    0,
+    0,
+    0,
+    0,
+    0,
+    0,
+    0,
+    0,
+    0,
+    0,
+    0,
+    0,
+    0,
+    0,
+    0,
+    0,
+    0,
+    0,
+    0,
+    0,
+    0,
+    0,
+    0,
+    0,
+    0,
+    0,
+    0,
+    0,
+    0,
+    0,
+    0,
+    0,
+    0,
+    0,
+    0,
+    0,
+    0,
+    0,
+    0,
+    0,
+];
+
+// Whether a byte's entry has a bit.
+fn has_bit(b: u8, bit: u8) -> bool
+    ensures { λ r. ⌜ OfBit b bit r ⌝ }
+{
+    CLASSES[b as usize] & bit != 0
+}
+
+fn bit_of(k: Class) -> u8
+    ensures { λ r. ⌜ r ≡ bitOf k ⌝ }
+{
+    match k {
+        Class::WordByte => 1,
+        Class::NameByte => 2,
+        Class::SafeByte => 4,
+        Class::QuotedByte => 8,
+        Class::DomainByte => 16,
+    }
+}
+
+pub fn in_class(k: Class, b: u8) -> bool
+    ensures { λ r. ⌜ r ≡ inClass k b ⌝ }
+{
+    has_bit(b, bit_of(k))
+}
+
+// The end of the bytes of a class that stand here.
+pub fn row(s: &[u8], at: usize, k: Class) -> usize
+    ensures { λ r. ⌜ r ≡ rowAt k (now (s .entry)) at ⌝ }
+{
+    let bit = bit_of(k);
+    let mut i = at;
+    while i < s.len() {
+        if has_bit(s[i], bit) {
+            i += 1;
+        } else {
+            return i;
+        }
+    }
+    i
+}
+
+// ---- white space
+
+// The bit of the bytes that white space goes on with, inside a comment or outside one.
+fn white_bit(inside: bool) -> u8
+    ensures { λ r. ⌜ r ≡ whiteBit inside ⌝ }
+{
+    if inside { 64 } else { 32 }
+}
+
+fn goes_on(inside: bool, b: u8) -> bool
+    ensures { λ r. ⌜ r ≡ goesOn inside b ⌝ }
+{
+    has_bit(b, white_bit(inside))
+}
+
+// A comment begins with `;` and ends with its line end.
+fn inside_after(inside: bool, b: u8) -> bool
+    ensures { λ r. ⌜ r ≡ insideAfter inside b ⌝ }
+{
+    inside & !((b == 0x0d) | (b == 0x0a)) | !inside & (b == 0x3b)
+}
+
+fn stop_at(inside: bool, i: usize) -> Parsed
+    ensures { λ r. ⌜ r ≡ stopAt inside i ⌝ }
+{
+    if inside {
+        Parsed::Fault
+    } else {
+        Parsed::Next(i)
+    }
+}
+
+// White space of some bytes.
+fn white_run(s: &[u8], at: usize) -> Parsed
+    ensures { λ r. ⌜ r ≡ whiteAt (now (s .entry)) at ⌝ }
+{
+    let mut i = at;
+    let mut inside = false;
+    while i < s.len() {
+        let b = s[i];
+        if goes_on(inside, b) {
+            inside = inside_after(inside, b);
+            i += 1;
+        } else {
+            return stop_at(inside, i);
+        }
+    }
+    stop_at(inside, i)
+}
+
+// White space that may stand here. Most often there is none.
+pub fn white(s: &[u8], at: usize) -> Parsed
+    ensures { λ r. ⌜ r ≡ whiteAt (now (s .entry)) at ⌝ }
+{
+    if at < s.len() {
+        if goes_on(false, s[at]) {
+            return white_run(s, at);
+        }
+    }
+    Parsed::Next(at)
+}
+
+// White space that must stand here.
+pub fn sep(s: &[u8], at: usize) -> Parsed
+    ensures { λ r. ⌜ r ≡ sepAt (now (s .entry)) at ⌝ }
+{
+    let w = white(s, at);
+    let Parsed::Next(p) = w else {
+        return Parsed::Fault;
+    };
+    if at < p {
+        return Parsed::Next(p);
+    }
+    Parsed::Fault
+}
+
+// ---- given bytes
+
+// One given byte.
+pub fn mark(s: &[u8], at: usize, b: u8) -> Parsed
+    requires { ⌜ 0 < b ⌝ }
+    ensures { λ r. ⌜ r ≡ markAt b (now (s .entry)) at ⌝ }
+{
+    if is_at(s, at, b) {
+        return Parsed::Next(at + 1);
+    }
+    Parsed::Fault
+}
+
+// One given byte, and white space after it.
+pub fn sign(s: &[u8], at: usize, b: u8) -> Parsed
+    requires { ⌜ 0 < b ⌝ }
+    ensures { λ r. ⌜ r ≡ signAt b (now (s .entry)) at ⌝ }
+{
+    let m = mark(s, at, b);
+    let Parsed::Next(p) = m else {
+        return Parsed::Fault;
+    };
+    white(s, p)
+}
+
+// ---- keywords
+
+fn same_letter(x: u8, y: u8) -> bool
+    ensures { λ r. ⌜ r ≡ eqb (capital x) y ⌝ }
+{
+    capital(x) == y
+}
+
+// Whether a word, in any letter case, is this one.
+fn is_word(w: &[u8], form: &[u8]) -> bool
+    ensures { λ r. ⌜ r ≡ same (capitals (now (w .entry))) (now (form .entry)) ⌝ }
+{
+    if w.len() != form.len() {
+        return false;
+    }
+    let mut i = 0;
+    while i < w.len() {
+        if same_letter(w[i], form[i]) {
+            i += 1;
+        } else {
+            return false;
+        }
+    }
+    true
+}
+
+// The long or the short form.
+fn is_either(w: &[u8], long: &[u8], short: &[u8]) -> bool
+    ensures { λ r. ⌜ r ≡ spelt (forms (now (long .entry)) (now (short .entry))) (capitals (now (w .entry))) ⌝ }
+{
+    is_word(w, long) | is_word(w, short)
+}
+
+// Whether a word is the keyword, in either form and any letter case.
+pub fn spells(k: Token, w: &[u8]) -> bool
+    ensures { λ r. ⌜ r ≡ spells k (now (w .entry)) ⌝ }
+{
+    match k {
+        Token::MegacopToken => is_either(w, b"MEGACO", b"!"),
+        Token::TransToken => is_either(w, b"TRANSACTION", b"T"),
+        Token::CtxToken => is_either(w, b"CONTEXT", b"C"),
+        Token::AddToken => is_either(w, b"ADD", b"A"),
+        Token::ModifyToken => is_either(w, b"MODIFY", b"MF"),
+        Token::SubtractToken => is_either(w, b"SUBTRACT", b"S"),
+        Token::MoveToken => is_either(w, b"MOVE", b"MV"),
+        Token::MediaToken => is_either(w, b"MEDIA", b"M"),
+        Token::LocalControlToken => is_either(w, b"LOCALCONTROL", b"O"),
+        Token::TerminationStateToken => is_either(w, b"TERMINATIONSTATE", b"TS"),
+        Token::ModeToken => is_either(w, b"MODE", b"MO"),
+        Token::ServiceStatesToken => is_either(w, b"SERVICESTATES", b"SI"),
+        Token::PriorityToken => is_either(w, b"PRIORITY", b"PR"),
+        Token::EmergencyToken => is_either(w, b"EMERGENCY", b"EG"),
+        Token::InactiveToken => is_either(w, b"INACTIVE", b"IN"),
+        Token::SendonlyToken => is_either(w, b"SENDONLY", b"SO"),
+        Token::RecvonlyToken => is_either(w, b"RECEIVEONLY", b"RC"),
+        Token::SendrecvToken => is_either(w, b"SENDRECEIVE", b"SR"),
+        Token::LoopbackToken => is_either(w, b"LOOPBACK", b"LB"),
+        Token::InSvcToken => is_either(w, b"INSERVICE", b"IV"),
+        Token::OutOfSvcToken => is_either(w, b"OUTOFSERVICE", b"OS"),
+        Token::TestToken => is_either(w, b"TEST", b"TE"),
+    }
+}
