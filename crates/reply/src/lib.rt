@@ -31,9 +31,9 @@ pub fn put_code(out: &mut [u8], at: usize, code: u32) -> usize
     if code == 0 {
         return at;
     }
-    let p = writer::put_bytes(out, at, b"{");
+    let p = writer::put_byte(out, at, b'{');
     let q = put_error(out, p, code);
-    writer::put_bytes(out, q, b"}")
+    writer::put_byte(out, q, b'}')
 }
 
 // A command's short keyword.
@@ -41,9 +41,9 @@ pub fn put_op(out: &mut [u8], at: usize, op: Op) -> usize
     ensures { λ r. ⌜ Appended (now (out .entry)) at (opText op) (now (out .exit)) r ⌝ }
 {
     match op {
-        Op::Add => writer::put_bytes(out, at, b"A"),
+        Op::Add => writer::put_byte(out, at, b'A'),
         Op::Modify => writer::put_bytes(out, at, b"MF"),
-        Op::Subtract => writer::put_bytes(out, at, b"S"),
+        Op::Subtract => writer::put_byte(out, at, b'S'),
         Op::Move => writer::put_bytes(out, at, b"MV"),
     }
 }
@@ -58,7 +58,7 @@ pub fn put_name(out: &mut [u8], at: usize, i: usize) -> usize
     }
     let p = writer::put_bytes(out, at, b"L/");
     let q = writer::put_count(out, p, i / CHANNELS + 1);
-    let u = writer::put_bytes(out, q, b"/");
+    let u = writer::put_byte(out, q, b'/');
     writer::put_count(out, u, i % CHANNELS + 1)
 }
 
@@ -67,10 +67,10 @@ pub fn put_context(out: &mut [u8], at: usize, c: Context) -> usize
     ensures { λ r. ⌜ Appended (now (out .entry)) at (contextText c) (now (out .exit)) r ⌝ }
 {
     match c {
-        Context::Null => writer::put_bytes(out, at, b"-"),
+        Context::Null => writer::put_byte(out, at, b'-'),
         Context::Numbered(n) => writer::put_decimal(out, at, n),
-        Context::Choose => writer::put_bytes(out, at, b"$"),
-        Context::All => writer::put_bytes(out, at, b"*"),
+        Context::Choose => writer::put_byte(out, at, b'$'),
+        Context::All => writer::put_byte(out, at, b'*'),
     }
 }
 
@@ -79,7 +79,7 @@ pub fn put_tried(out: &mut [u8], at: usize, op: Op, name: &[u8], code: u32) -> u
     ensures { λ r. ⌜ Appended (now (out .entry)) at (reportText (tried op (now (name .entry)) code)) (now (out .exit)) r ⌝ }
 {
     let p = put_op(out, at, op);
-    let q = writer::put_bytes(out, p, b"=");
+    let q = writer::put_byte(out, p, b'=');
     let u = writer::put_bytes(out, q, name);
     put_code(out, u, code)
 }
@@ -89,7 +89,7 @@ pub fn put_named(out: &mut [u8], at: usize, op: Op, i: usize, code: u32) -> usiz
     ensures { λ r. ⌜ Appended (now (out .entry)) at (reportText (tried op (nameText i) code)) (now (out .exit)) r ⌝ }
 {
     let p = put_op(out, at, op);
-    let q = writer::put_bytes(out, p, b"=");
+    let q = writer::put_byte(out, p, b'=');
     let u = put_name(out, q, i);
     put_code(out, u, code)
 }
@@ -136,7 +136,7 @@ pub fn put_separator(out: &mut [u8], at: usize, first: bool) -> usize
     if first {
         return at;
     }
-    writer::put_bytes(out, at, b",")
+    writer::put_byte(out, at, b',')
 }
 
 // `P=id{`
@@ -145,7 +145,7 @@ pub fn put_reply_open(out: &mut [u8], at: usize, id: u32) -> usize
 {
     let p = writer::put_bytes(out, at, b"P=");
     let q = writer::put_decimal(out, p, id);
-    writer::put_bytes(out, q, b"{")
+    writer::put_byte(out, q, b'{')
 }
 
 // `C=id{`
@@ -154,7 +154,7 @@ pub fn put_action_open(out: &mut [u8], at: usize, c: Context) -> usize
 {
     let p = writer::put_bytes(out, at, b"C=");
     let q = put_context(out, p, c);
-    writer::put_bytes(out, q, b"{")
+    writer::put_byte(out, q, b'{')
 }
 
 // `!/1 `, the own mId, one space.
@@ -163,7 +163,7 @@ pub fn put_header(out: &mut [u8], at: usize, own: &[u8]) -> usize
 {
     let p = writer::put_bytes(out, at, b"!/1 ");
     let q = writer::put_bytes(out, p, own);
-    writer::put_bytes(out, q, b" ")
+    writer::put_byte(out, q, b' ')
 }
 
 // `P=id{ER=code{}}`
@@ -172,7 +172,7 @@ fn put_fault(out: &mut [u8], at: usize, id: u32, code: u32) -> usize
 {
     let p = put_reply_open(out, at, id);
     let q = put_error(out, p, code);
-    writer::put_bytes(out, q, b"}")
+    writer::put_byte(out, q, b'}')
 }
 
 // The reply to a fault inside a transaction.

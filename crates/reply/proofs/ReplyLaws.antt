@@ -1,0 +1,63 @@
+-- Laws of the writers' texts, in the form in which `search` uses them.
+use Prim.Native.Nat.{ℕ, _-_, _<_, _≤_, min}
+use mathlib.Core.Path.{_≡_, ap, _∙_}
+use mathlib.Core.List.{List}
+use mathlib.Core.Bool.{true, false}
+use native.Mathlib.Omega.{arith}
+use lib.ListN.{length, take, drop, replicate, length-replicate}
+use lib.Dec.{eqb}
+use borrow.Author.Tests.{eq-eqb, ne-eqb, lt-ltb, le-ltb}
+use Rattle.base.specs.Pick.{pick}
+use Rattle.base.specs.Bytes.{text, decimal}
+use Rattle.base.specs.Out.{Appended}
+use Rattle.base.proofs.OutLaws.{_▸_, length-put, take-put}
+use Rattle.megaco.specs.Table.{priorityOf, emergencyOf}
+use Rattle.megaco.specs.Reply.{standing, errorText, replyText, limited, reportText}
+use Rattle.reply.proofs.RowLaws.{reply-is}
+use Rattle.reply.specs.Texts.{replyOpen, emergencyText, Limited}
+
+-- a record of at most 16 has no emergency
+pub calm : (held : ℕ) → held < 17 → eqb (emergencyOf held) 0 ≡ true
+calm held h = let e : emergencyOf held ≡ 0 = omega arith in eq-eqb _ _ e
+
+pub urgent : (held : ℕ) → 17 ≤ held → eqb (emergencyOf held) 0 ≡ false
+urgent held h = let e : emergencyOf held ≡ 0 → ⊥ = omega arith in ne-eqb _ _ e
+
+pub standing-is : (o : List ℕ) (at held x : ℕ) (o₁ o₂ o₃ : List ℕ) (p q r : ℕ) → x ≡ priorityOf held → Appended o at (text "PR=") o₁ p → Appended o₁ p (decimal x) o₂ q
+    → Appended o₂ q (emergencyText held) o₃ r → Appended o at (reportText (standing held)) o₃ r
+unfolding reportText emergencyText
+standing-is o at held x o₁ o₂ o₃ p q r e f g h = f ▸ (rw e at g) ▸ h
+
+pub fault-is : (o : List ℕ) (at id code : ℕ) (o₁ o₂ o₃ : List ℕ) (p q r : ℕ) → Appended o at (replyOpen id) o₁ p → Appended o₁ p (errorText code) o₂ q
+    → Appended o₂ q (text "}") o₃ r → Appended o at (replyText id (errorText code)) o₃ r
+fault-is o at id code o₁ o₂ o₃ p q r f g h = rw reply-is (f ▸ g ▸ h)
+
+-- a text that was put into a scratch buffer of 2,049 bytes
+module _ (z bs scratch : List ℕ) (n : ℕ) (size : length z ≡ 2049) (w : Appended z 0 bs scratch n) where
+  held-short : n < 2049 → (length bs ≤ 2048) × (take (min n (length scratch)) scratch ≡ bs)
+  held-short h =
+      let m : n ≡ length bs = omega (arith, w .next) in
+      let l : length scratch ≡ length z = ap length (w .text) ∙ length-put z 0 bs in
+      let e : min n (length scratch) ≡ length bs = omega arith in
+      (omega arith, rw (e, w .text) (take-put z bs (omega arith)))
+
+  held-long : 2049 ≤ n → 2048 < length bs
+  held-long h = omega (arith, w .next)
+
+module _ (id : ℕ) (scratch : List ℕ) (n : ℕ) (o : List ℕ) (at : ℕ) (o′ : List ℕ) (r : ℕ) where
+  pub limited-short : (e : ℕ) → n < 2049 → e ≡ min n (length scratch) → Appended o at (take (e - 0) (drop 0 scratch)) o′ r → Limited id scratch n o at o′ r
+  unfolding limited pick
+  limited-short e h m f = record { is = go }
+    where
+      go : (bs : List ℕ) → Appended (replicate 2049 0) 0 bs scratch n → Appended o at (limited id bs) o′ r
+      go bs w =
+          let k = held-short (replicate 2049 0) bs scratch n (length-replicate {A = ℕ} 2049 0) w h in
+          let z : e - 0 ≡ min n (length scratch) = omega arith in
+          rw (le-ltb 2048 (length bs) (k .0)) (rw (z, k .1) at f)
+
+  pub limited-long : 2049 ≤ n → Appended o at (replyText id (errorText 533)) o′ r → Limited id scratch n o at o′ r
+  unfolding limited pick
+  limited-long h f = record { is = go }
+    where
+      go : (bs : List ℕ) → Appended (replicate 2049 0) 0 bs scratch n → Appended o at (limited id bs) o′ r
+      go bs w = rw (lt-ltb 2048 (length bs) (held-long (replicate 2049 0) bs scratch n (length-replicate {A = ℕ} 2049 0) w h)) f
