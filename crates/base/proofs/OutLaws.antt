@@ -120,6 +120,10 @@ module _ (o : List ℕ) (at : ℕ) (t : Bool) (a b o′ : List ℕ) (r : ℕ) wh
 pub of-case : {A : Type 0} (f : A → List ℕ) (x y : A) (o : List ℕ) (at : ℕ) (o′ : List ℕ) (r : ℕ) → x ≡ y → Appended o at (f y) o′ r → Appended o at (f x) o′ r
 of-case f x y o at o′ r e g = rw e g
 
+-- where the buffer has room, the position is past the text
+pub end-within : (o : List ℕ) (at : ℕ) (bs o′ : List ℕ) (r : ℕ) → Appended o at bs o′ r → at + length bs ≤ length o → r ≡ at + length bs
+end-within o at bs o′ r f h = omega (arith, f .next)
+
 -- a text that was put into a buffer, and copied from there as far as that buffer reached: the second one, which reaches no farther, has it all
 take-room : (z bs : List ℕ) (n : ℕ) → n ≡ min (length bs) (length z) → take n (put z 0 bs) ≡ take (length z) bs
 unfolding put

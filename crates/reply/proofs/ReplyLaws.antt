@@ -1,32 +1,34 @@
--- Laws of the writers' texts, in the form in which `search` uses them.
+-- A reply and an action around what stands in their braces, actions one after another, and the limit of 2,048 bytes.
 use Prim.Native.Nat.{ℕ, _-_, _<_, _≤_, min}
-use mathlib.Core.Path.{_≡_, ap, _∙_}
-use mathlib.Core.List.{List}
-use mathlib.Core.Bool.{true, false}
+use mathlib.Core.Path.{_≡_, sym, ap, _∙_}
+use mathlib.Core.List.{List, [], _∷_}
+use mathlib.Core.Bool.{true}
 use native.Mathlib.Omega.{arith}
 use lib.ListN.{length, take, drop, replicate, length-replicate}
-use lib.Dec.{eqb}
-use borrow.Author.Tests.{eq-eqb, ne-eqb, lt-ltb, le-ltb}
+use borrow.Author.Tests.{lt-ltb, le-ltb}
 use Rattle.base.specs.Pick.{pick}
-use Rattle.base.specs.Bytes.{text, decimal}
+use Rattle.base.specs.Bytes.{text, _then_}
 use Rattle.base.specs.Out.{Appended}
+use Rattle.base.proofs.TextLaws.{then-assoc, none-then}
 use Rattle.base.proofs.OutLaws.{_▸_, length-put, take-put}
-use Rattle.megaco.specs.Table.{priorityOf, emergencyOf}
-use Rattle.megaco.specs.Reply.{standing, errorText, replyText, limited, reportText}
-use Rattle.reply.proofs.RowLaws.{reply-is}
-use Rattle.reply.specs.Texts.{replyOpen, emergencyText, Limited}
+use Rattle.megaco.specs.declared.Context.{Context}
+use Rattle.megaco.specs.Reply.{Report, Acted, errorText, separator, reportsText, actionText, earlierText, actionsText, replyText, limited}
+use Rattle.reply.specs.Texts.{replyOpen, actionOpen, noActions, Limited}
 
--- a record of at most 16 has no emergency
-pub calm : (held : ℕ) → held < 17 → eqb (emergencyOf held) 0 ≡ true
-calm held h = let e : emergencyOf held ≡ 0 = omega arith in eq-eqb _ _ e
+-- `P=id{..}` and `C=id{..}`
+pub reply-is : (id : ℕ) (x : List ℕ) → replyText id x ≡ replyOpen id then x then text "}"
+unfolding replyText replyOpen
+reply-is id x = simp then-assoc
 
-pub urgent : (held : ℕ) → 17 ≤ held → eqb (emergencyOf held) 0 ≡ false
-urgent held h = let e : emergencyOf held ≡ 0 → ⊥ = omega arith in ne-eqb _ _ e
+pub action-is : (c : Context) (said : List Report) → actionText c said ≡ actionOpen c then reportsText true said then text "}"
+unfolding actionText actionOpen
+action-is c said = simp then-assoc
 
-pub standing-is : (o : List ℕ) (at held x : ℕ) (o₁ o₂ o₃ : List ℕ) (p q r : ℕ) → x ≡ priorityOf held → Appended o at (text "PR=") o₁ p → Appended o₁ p (decimal x) o₂ q
-    → Appended o₂ q (emergencyText held) o₃ r → Appended o at (reportText (standing held)) o₃ r
-unfolding reportText emergencyText
-standing-is o at held x o₁ o₂ o₃ p q r e f g h = f ▸ (rw e at g) ▸ h
+-- an action after others
+pub actions-next : (a : Acted) (earlier : List Acted) → actionsText (a ∷ earlier) ≡ actionsText earlier then separator (noActions earlier) then actionText (a .at) (a .said)
+unfolding actionsText earlierText noActions separator pick
+actions-next a [] = sym (none-then _)
+actions-next a (b ∷ earlier) = simp then-assoc
 
 pub fault-is : (o : List ℕ) (at id code : ℕ) (o₁ o₂ o₃ : List ℕ) (p q r : ℕ) → Appended o at (replyOpen id) o₁ p → Appended o₁ p (errorText code) o₂ q
     → Appended o₂ q (text "}") o₃ r → Appended o at (replyText id (errorText code)) o₃ r
@@ -61,3 +63,8 @@ module _ (id : ℕ) (scratch : List ℕ) (n : ℕ) (o : List ℕ) (at : ℕ) (o�
     where
       go : (bs : List ℕ) → Appended (replicate 2049 0) 0 bs scratch n → Appended o at (limited id bs) o′ r
       go bs w = rw (lt-ltb 2048 (length bs) (held-long (replicate 2049 0) bs scratch n (length-replicate {A = ℕ} 2049 0) w h)) f
+
+-- who wrote a text into a scratch buffer has it limited
+pub limited-is : (id : ℕ) (scratch : List ℕ) (n : ℕ) (o : List ℕ) (at : ℕ) (o′ : List ℕ) (r : ℕ) (bs : List ℕ) → Appended (replicate 2049 0) 0 bs scratch n
+    → Limited id scratch n o at o′ r → Appended o at (limited id bs) o′ r
+limited-is id scratch n o at o′ r bs w l = l .is bs w

@@ -3,12 +3,9 @@ use Prim.Native.Nat.{ℕ}
 use mathlib.Core.Bool.{Bool, true, false}
 use mathlib.Core.List.{List, [], _∷_}
 use lib.ListN.{replicate}
-use lib.Dec.{eqb}
-use Rattle.base.specs.Pick.{pick}
 use Rattle.base.specs.Bytes.{text, decimal, _then_}
 use Rattle.base.specs.Out.{Appended}
-use Rattle.megaco.specs.Table.{emergencyOf}
-use Rattle.megaco.specs.Reply.{Report, Acted, contextText, limited}
+use Rattle.megaco.specs.Reply.{Acted, contextText, limited}
 use Rattle.megaco.specs.declared.Context.{Context}
 
 -- `P=id{`
@@ -18,15 +15,6 @@ replyOpen id = text "P=" then decimal id then text "{"
 -- `C=id{`
 unfoldable pub actionOpen : Context → List ℕ
 actionOpen c = text "C=" then contextText c then text "{"
-
--- "then `,EG` if set"
-unfoldable pub emergencyText : ℕ → List ℕ
-emergencyText held = pick (eqb (emergencyOf held) 0) [] (text ",EG")
-
--- whether no comma is due after some reports: `first` tells that none was due before them
-unfoldable pub firstAfter : Bool → List Report → Bool
-firstAfter first [] = first
-firstAfter first (r ∷ rs) = false
 
 -- whether an action would be the first of its transaction
 unfoldable pub noActions : List Acted → Bool

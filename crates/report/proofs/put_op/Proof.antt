@@ -1,8 +1,8 @@
 use borrow.Author.Needs.{needs}
 use Rattle.megaco.specs.Reply.{opText}
 use Rattle.base.proofs.OutLaws.{of-case}
-use Rattle.reply.proofs.put_op.Statement.{statement}
-use Rattle.reply.proofs.put_op.Tie as tie
+use Rattle.report.proofs.put_op.Statement.{statement}
+use Rattle.report.proofs.put_op.Tie as tie
 
 pub put-op-spec : {M : Type 1} → statement M
 put-op-spec =

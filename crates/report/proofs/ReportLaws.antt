@@ -1,25 +1,30 @@
--- Texts in a row: a reply and an action around what stands in their braces, reports and actions one after another.
-use Prim.Native.Nat.{ℕ}
+-- A context's properties as a text, and reports one after another.
+use Prim.Native.Nat.{ℕ, _<_, _≤_}
 use mathlib.Core.Path.{_≡_, refl, sym}
 use mathlib.Core.List.{List, [], _∷_, _++_}
 use mathlib.Core.Bool.{Bool, true, false}
-use Rattle.base.specs.Pick.{pick}
-use Rattle.base.specs.Bytes.{text, _then_}
+use native.Mathlib.Omega.{arith}
+use lib.Dec.{eqb}
+use borrow.Author.Tests.{eq-eqb, ne-eqb}
+use Rattle.base.specs.Bytes.{text, decimal, _then_}
 use Rattle.base.specs.Out.{Appended}
 use Rattle.base.proofs.TextLaws.{then-assoc, none-then, then-none}
 use Rattle.base.proofs.OutLaws.{_▸_}
-use Rattle.megaco.specs.declared.Context.{Context}
-use Rattle.megaco.specs.Reply.{Report, Acted, reportText, separator, reportsText, actionText, earlierText, actionsText, replyText}
-use Rattle.reply.specs.Texts.{replyOpen, actionOpen, firstAfter, noActions}
+use Rattle.megaco.specs.Table.{priorityOf, emergencyOf}
+use Rattle.megaco.specs.Reply.{Report, standing, reportText, separator, reportsText}
+use Rattle.report.specs.Rows.{emergencyText, firstAfter}
 
--- `P=id{..}` and `C=id{..}`
-pub reply-is : (id : ℕ) (x : List ℕ) → replyText id x ≡ replyOpen id then x then text "}"
-unfolding replyText replyOpen
-reply-is id x = simp then-assoc
+-- a record of at most 16 has no emergency
+pub calm : (held : ℕ) → held < 17 → eqb (emergencyOf held) 0 ≡ true
+calm held h = let e : emergencyOf held ≡ 0 = omega arith in eq-eqb _ _ e
 
-pub action-is : (c : Context) (said : List Report) → actionText c said ≡ actionOpen c then reportsText true said then text "}"
-unfolding actionText actionOpen
-action-is c said = simp then-assoc
+pub urgent : (held : ℕ) → 17 ≤ held → eqb (emergencyOf held) 0 ≡ false
+urgent held h = let e : emergencyOf held ≡ 0 → ⊥ = omega arith in ne-eqb _ _ e
+
+pub standing-is : (o : List ℕ) (at held x : ℕ) (o₁ o₂ o₃ : List ℕ) (p q r : ℕ) → x ≡ priorityOf held → Appended o at (text "PR=") o₁ p → Appended o₁ p (decimal x) o₂ q
+    → Appended o₂ q (emergencyText held) o₃ r → Appended o at (reportText (standing held)) o₃ r
+unfolding reportText emergencyText
+standing-is o at held x o₁ o₂ o₃ p q r e f g h = f ▸ (rw e at g) ▸ h
 
 -- reports after others
 first-false : (xs : List Report) → firstAfter false xs ≡ false
@@ -40,12 +45,6 @@ reports-split first (r ∷ xs) ys = rw (reports-split false xs ys, first-false x
 pub reports-one : (first : Bool) (x : Report) → reportsText first (x ∷ []) ≡ separator first then reportText x
 unfolding reportsText
 reports-one first x = rw then-none
-
--- an action after others
-pub actions-next : (a : Acted) (earlier : List Acted) → actionsText (a ∷ earlier) ≡ actionsText earlier then separator (noActions earlier) then actionText (a .at) (a .said)
-unfolding actionsText earlierText noActions separator pick
-actions-next a [] = sym (none-then _)
-actions-next a (b ∷ earlier) = simp then-assoc
 
 -- the same as they are written
 module _ (o : List ℕ) (at : ℕ) (o₁ o₂ : List ℕ) (p r : ℕ) where

@@ -1,9 +1,9 @@
 use borrow.Author.Needs.{needs}
-use Rattle.reply.specs.Texts.{emergencyText}
+use Rattle.report.specs.Rows.{emergencyText}
 use Rattle.base.proofs.OutLaws.{chosen-yes, chosen-no, none}
-use Rattle.reply.proofs.ReplyLaws.{calm, urgent}
-use Rattle.reply.proofs.put_emergency.Statement.{statement}
-use Rattle.reply.proofs.put_emergency.Tie as tie
+use Rattle.report.proofs.ReportLaws.{calm, urgent}
+use Rattle.report.proofs.put_emergency.Statement.{statement}
+use Rattle.report.proofs.put_emergency.Tie as tie
 
 pub put-emergency-spec : {M : Type 1} → statement M
 put-emergency-spec =

@@ -1,7 +1,7 @@
 use borrow.Author.Needs.{needs}
 use Rattle.megaco.specs.Reply.{reportText}
-use Rattle.reply.proofs.put_failed.Statement.{statement}
-use Rattle.reply.proofs.put_failed.Tie as tie
+use Rattle.report.proofs.put_failed.Statement.{statement}
+use Rattle.report.proofs.put_failed.Tie as tie
 
 pub put-failed-spec : {M : Type 1} → statement M
 put-failed-spec =

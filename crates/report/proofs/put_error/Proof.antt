@@ -1,8 +1,8 @@
 use borrow.Author.Needs.{needs}
 use Rattle.megaco.specs.Reply.{errorText}
 use Rattle.base.proofs.OutLaws.{three}
-use Rattle.reply.proofs.put_error.Statement.{statement}
-use Rattle.reply.proofs.put_error.Tie as tie
+use Rattle.report.proofs.put_error.Statement.{statement}
+use Rattle.report.proofs.put_error.Tie as tie
 
 pub put-error-spec : {M : Type 1} → statement M
 put-error-spec =

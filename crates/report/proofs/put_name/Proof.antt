@@ -3,8 +3,8 @@ use borrow.Author.Tests.{le-leb, lt-leb}
 use Rattle.megaco.specs.Names.{nameText}
 use Rattle.megaco.specs.Table.{isEphemeral}
 use Rattle.base.proofs.OutLaws.{chosen-yes, chosen-no, after, four}
-use Rattle.reply.proofs.put_name.Statement.{statement}
-use Rattle.reply.proofs.put_name.Tie as tie
+use Rattle.report.proofs.put_name.Statement.{statement}
+use Rattle.report.proofs.put_name.Tie as tie
 
 pub put-name-spec : {M : Type 1} → statement M
 put-name-spec =

@@ -1,8 +1,8 @@
 use borrow.Author.Needs.{needs}
 use Rattle.megaco.specs.Reply.{separator}
 use Rattle.base.proofs.OutLaws.{chosen-yes, chosen-no, none}
-use Rattle.reply.proofs.put_separator.Statement.{statement}
-use Rattle.reply.proofs.put_separator.Tie as tie
+use Rattle.report.proofs.put_separator.Statement.{statement}
+use Rattle.report.proofs.put_separator.Tie as tie
 
 pub put-separator-spec : {M : Type 1} → statement M
 put-separator-spec =

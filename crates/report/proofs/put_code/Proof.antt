@@ -2,8 +2,8 @@ use borrow.Author.Needs.{needs}
 use borrow.Author.Tests.{eq-eqb, ne-eqb}
 use Rattle.megaco.specs.Reply.{codeText}
 use Rattle.base.proofs.OutLaws.{chosen-yes, chosen-no, none, three}
-use Rattle.reply.proofs.put_code.Statement.{statement}
-use Rattle.reply.proofs.put_code.Tie as tie
+use Rattle.report.proofs.put_code.Statement.{statement}
+use Rattle.report.proofs.put_code.Tie as tie
 
 pub put-code-spec : {M : Type 1} → statement M
 put-code-spec =

@@ -1,7 +1,7 @@
 use borrow.Author.Needs.{needs}
-use Rattle.reply.proofs.ReplyLaws.{standing-is}
-use Rattle.reply.proofs.put_standing.Statement.{statement}
-use Rattle.reply.proofs.put_standing.Tie as tie
+use Rattle.report.proofs.ReportLaws.{standing-is}
+use Rattle.report.proofs.put_standing.Statement.{statement}
+use Rattle.report.proofs.put_standing.Tie as tie
 
 pub put-standing-spec : {M : Type 1} → statement M
 put-standing-spec =
