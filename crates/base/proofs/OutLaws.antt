@@ -2,10 +2,11 @@
 use Prim.Native.Nat.{ℕ, zero, suc, _+_, _-_, _/_, _%_, _<_, _≤_, min, max}
 use mathlib.Core.Path.{_≡_, refl, sym, ap, _∙_}
 use mathlib.Core.List.{List, [], _∷_, _++_, append-nil}
+use mathlib.Core.Bool.{Bool, true, false}
 use native.Mathlib.Numerals.{add-one}
 use native.Mathlib.Omega.{arith}
-use lib.ListN.{length, getD, take, drop, set, length-append}
-use lib.Seq.{take-suc, take-all}
+use lib.ListN.{length, getD, take, drop, set, length-append, length-take}
+use lib.Seq.{take-suc, take-all, take-nil}
 use borrow.Author.Tests.{lt-ltb, le-ltb}
 use Rattle.base.specs.Pick.{pick}
 use Rattle.base.specs.Bytes.{put, _then_, decimal, decimalF}
@@ -96,6 +97,60 @@ after o at a b o′ o″ p r f g = both o at a b o′ o″ p r f g
 infixr 50 _▸_
 pub _▸_ : {o : List ℕ} {at : ℕ} {a b o′ o″ : List ℕ} {p r : ℕ} → Appended o at a o′ p → Appended o′ p b o″ r → Appended o at (a then b) o″ r
 f ▸ g = after _ _ _ _ _ _ _ _ f g
+
+-- three and four texts in a row, in the form in which `search` uses them
+module _ (o : List ℕ) (at : ℕ) (a b c o₁ o₂ o₃ : List ℕ) (p q r : ℕ) (f : Appended o at a o₁ p) (g : Appended o₁ p b o₂ q) (h : Appended o₂ q c o₃ r) where
+  pub three : Appended o at (a then b then c) o₃ r
+  three = f ▸ g ▸ h
+
+  pub four : (d o₄ : List ℕ) (e : ℕ) → Appended o₃ r d o₄ e → Appended o at (a then b then c then d) o₄ e
+  four d o₄ e i = f ▸ g ▸ h ▸ i
+
+-- a text chosen by a test
+module _ (o : List ℕ) (at : ℕ) (t : Bool) (a b o′ : List ℕ) (r : ℕ) where
+  pub chosen-yes : t ≡ true → Appended o at a o′ r → Appended o at (pick t a b) o′ r
+  unfolding pick
+  chosen-yes e f = rw e f
+
+  pub chosen-no : t ≡ false → Appended o at b o′ r → Appended o at (pick t a b) o′ r
+  unfolding pick
+  chosen-no e f = rw e f
+
+-- the text of one case
+pub of-case : {A : Type 0} (f : A → List ℕ) (x y : A) (o : List ℕ) (at : ℕ) (o′ : List ℕ) (r : ℕ) → x ≡ y → Appended o at (f y) o′ r → Appended o at (f x) o′ r
+of-case f x y o at o′ r e g = rw e g
+
+-- where the buffer has room, the position is past the text
+pub end-within : (o : List ℕ) (at : ℕ) (bs o′ : List ℕ) (r : ℕ) → Appended o at bs o′ r → at + length bs ≤ length o → r ≡ at + length bs
+end-within o at bs o′ r f h = omega (arith, f .next)
+
+-- a text that was put into a buffer, and copied from there as far as that buffer reached: the second one, which reaches no farther, has it all
+take-room : (z bs : List ℕ) (n : ℕ) → n ≡ min (length bs) (length z) → take n (put z 0 bs) ≡ take (length z) bs
+unfolding put
+take-room [] bs n e = take-nil n
+take-room (y ∷ z) [] n e = let m : n ≡ 0 = omega arith in rw m
+take-room (y ∷ z) (b ∷ bs) n e =
+    let q : ℕ = min (length bs) (length z) in
+    let m : n ≡ suc q = omega arith in
+    rw m (ap (λ (l : List ℕ). b ∷ l) (take-room z bs q refl))
+
+put-room : (o : List ℕ) (at : ℕ) (bs : List ℕ) (k : ℕ) → length o ≤ at + k → put o at (take k bs) ≡ put o at bs
+unfolding put
+put-room [] at bs k h = refl
+put-room (y ∷ o) zero bs zero h = absurd (omega arith)
+put-room (y ∷ o) zero [] (suc k) h = refl
+put-room (y ∷ o) zero (b ∷ bs) (suc k) h = ap (λ (l : List ℕ). b ∷ l) (put-room o zero bs k (omega arith))
+put-room (y ∷ o) (suc at) bs k h = ap (λ (l : List ℕ). y ∷ l) (put-room o at bs k (omega arith))
+
+pub copied : (z bs s : List ℕ) (n : ℕ) (o : List ℕ) (at : ℕ) (o′ : List ℕ) (r : ℕ) → Appended z 0 bs s n → length o ≤ at + length z → Appended o at (take n s) o′ r
+    → Appended o at bs o′ r
+copied z bs s n o at o′ r w h f =
+    let m : n ≡ min (length bs) (length z) = omega (arith, w .next) in
+    let e : take n s ≡ take (length z) bs = rw (w .text) (take-room z bs n m) in
+    record {
+      text = f .text ∙ rw e (put-room o at bs (length z) h);
+      next = let l : length (take n s) ≡ min (length z) (length bs) = rw e (length-take (length z) bs) in omega (arith, f .next);
+    }
 
 -- a loop that writes a list byte by byte
 pub more : (o : List ℕ) (at : ℕ) (s o′ o″ : List ℕ) (i p r : ℕ) → i < length s → Appended o at (take i s) o′ p → Appended o′ p (getD s i 0 ∷ []) o″ r → Appended o at (take (i + 1) s) o″ r

@@ -1,13 +1,11 @@
 -- Parts of a reply's texts that are written by themselves, and the copy of a transaction's text out of a scratch buffer.
 use Prim.Native.Nat.{ℕ}
-use mathlib.Core.List.{List, []}
+use mathlib.Core.Bool.{Bool, true, false}
+use mathlib.Core.List.{List, [], _∷_}
 use lib.ListN.{replicate}
-use lib.Dec.{eqb}
-use Rattle.base.specs.Pick.{pick}
 use Rattle.base.specs.Bytes.{text, decimal, _then_}
 use Rattle.base.specs.Out.{Appended}
-use Rattle.megaco.specs.Table.{emergencyOf}
-use Rattle.megaco.specs.Reply.{contextText, limited}
+use Rattle.megaco.specs.Reply.{Acted, contextText, limited}
 use Rattle.megaco.specs.declared.Context.{Context}
 
 -- `P=id{`
@@ -18,9 +16,10 @@ replyOpen id = text "P=" then decimal id then text "{"
 unfoldable pub actionOpen : Context → List ℕ
 actionOpen c = text "C=" then contextText c then text "{"
 
--- "then `,EG` if set"
-unfoldable pub emergencyText : ℕ → List ℕ
-emergencyText held = pick (eqb (emergencyOf held) 0) [] (text ",EG")
+-- whether an action would be the first of its transaction
+unfoldable pub noActions : List Acted → Bool
+noActions [] = true
+noActions (a ∷ acts) = false
 
 -- "If `P=id{..}` would pass 2,048 bytes it becomes `P=id{ER=533{}}`": whatever text bs was put into the scratch buffer of 2,049 bytes, of
 -- which n are used, o′ is o with that text or the error put in
