@@ -19,7 +19,7 @@ use Rattle.megaco.specs.declared.Parsed.the-variants.{Next, Fault}
 use Rattle.megaco.specs.declared.Class.{Class}
 use Rattle.megaco.specs.Bytes.{isLetter, inClass}
 use Rattle.megaco.specs.White.{after, goesOn, insideAfter, stopAt, whiteFrom, whiteAt}
-use Rattle.megaco.specs.Tokens.{letterAt, rowFrom}
+use Rattle.megaco.specs.Tokens.{letterAt, rowFrom, rowAt}
 use Rattle.text.specs.Classes.{bitOf, OfBit}
 
 -- ---- single bytes
@@ -64,18 +64,25 @@ pub ruleset reads = (lit<, next-fits, picks, after-next, after-fault)
 
 -- ---- rows: the definition from the start is the definition from here
 
-module _ (k : Class) (s : List ℕ) (i q : ℕ) (inv : q ≡ rowFrom k (drop i s) i) where
-  pub row-on : (bit : ℕ) (x : Bool) → i < length s → OfBit (getD s i 0) bit x → bit ≡ bitOf k → x ≡ true → q ≡ rowFrom k (drop (i + 1) s) (i + 1)
-  unfolding rowFrom pick
-  row-on bit x h g b t = inv ∙ rw (drop-cons s i 0, ← g .class k b, t, add-one)
+pub record RowHere (bit : ℕ) (s : List ℕ) (at i : ℕ) : Type 0 where
+  pub is : (k : Class) → bit ≡ bitOf k → rowAt k s at ≡ rowFrom k (drop i s) i
 
-  pub row-stop : (bit : ℕ) (x : Bool) → i < length s → OfBit (getD s i 0) bit x → bit ≡ bitOf k → x ≡ false → i ≡ q
-  unfolding rowFrom pick
-  row-stop bit x h g b t = sym (inv ∙ rw (drop-cons s i 0, ← g .class k b, t))
+pub row-starts : (bit : ℕ) (s : List ℕ) (at : ℕ) → RowHere bit s at at
+unfolding rowAt
+row-starts bit s at = record { is = λ k b. refl }
 
-  pub row-end : length s ≤ i → i ≡ q
+module _ (bit : ℕ) (s : List ℕ) (at i : ℕ) (inv : RowHere bit s at i) where
+  pub row-on : (x : Bool) → i < length s → OfBit (getD s i 0) bit x → x ≡ true → RowHere bit s at (i + 1)
+  unfolding rowFrom pick
+  row-on x h g t = record { is = λ k b. inv .is k b ∙ rw (drop-cons s i 0, ← g .class k b, t, add-one) }
+
+  pub row-stop : (x : Bool) (k : Class) → i < length s → OfBit (getD s i 0) bit x → bit ≡ bitOf k → x ≡ false → i ≡ rowAt k s at
+  unfolding rowFrom pick
+  row-stop x k h g b t = sym (inv .is k b ∙ rw (drop-cons s i 0, ← g .class k b, t))
+
+  pub row-end : (k : Class) → length s ≤ i → bit ≡ bitOf k → i ≡ rowAt k s at
   unfolding rowFrom
-  row-end h = sym (inv ∙ rw (drop-of-length-le s h))
+  row-end k h b = sym (inv .is k b ∙ rw (drop-of-length-le s h))
 
 -- ---- white space, likewise
 
@@ -91,3 +98,12 @@ module _ (s : List ℕ) (i : ℕ) (m : Bool) (q : Parsed) (inv : q ≡ whiteFrom
   pub white-end : (r : Parsed) → length s ≤ i → r ≡ stopAt m i → r ≡ q
   unfolding whiteFrom
   white-end r h n = n ∙ sym (inv ∙ rw (drop-of-length-le s h))
+
+-- no white space stands here
+pub no-white : (s : List ℕ) (i : ℕ) (x : Bool) → i < length s → x ≡ goesOn false (getD s i 0) → x ≡ false → Next i ≡ whiteAt s i
+unfolding whiteAt stopAt pick
+no-white s i x h g t = white-stop s i false (whiteAt s i) refl x (Next i) h g t refl
+
+pub white-beyond : (s : List ℕ) (i : ℕ) → length s ≤ i → Next i ≡ whiteAt s i
+unfolding whiteAt stopAt pick
+white-beyond s i h = white-end s i false (whiteAt s i) refl (Next i) h refl

@@ -1,13 +1,11 @@
-use borrow.Author.Needs.{needs}
-use native.Mathlib.Omega.{arith}
+use mathlib.Core.Path.{refl}
+use Rattle.megaco.specs.Bytes.{isLineEnd}
+use Rattle.megaco.specs.White.{insideAfter}
 use Rattle.text.proofs.inside_after.Statement.{statement}
 use Rattle.text.proofs.inside_after.Tie as tie
-use Rattle.text.proofs.inside_after.Reads as reads
-use Rattle.text.proofs.inside_after.Lts as lts
-
--- src/lib.rt:376:1
-returns : tie.Need-returns
-returns c = ?
 
 pub inside-after-spec : {M : Type 1} → statement M
-inside-after-spec = tie.close (tie.spec returns)
+inside-after-spec =
+    tie.close
+    (tie.spec
+    (λ c. unfold insideAfter isLineEnd in refl))
