@@ -41,3 +41,7 @@ module _ (w f : List ℕ) (i : ℕ) (q : Bool) (inv : q ≡ same (capitals (drop
 pub word-end : (w f : List ℕ) (i : ℕ) (q : Bool) → q ≡ same (capitals (drop i w)) (drop i f) → length w ≡ length f → length w ≤ i → true ≡ q
 unfolding same capitals
 word-end w f i q inv long h = let m : length f ≤ i = omega arith in sym (inv ∙ rw (drop-of-length-le w h, drop-of-length-le f m))
+
+pub spells-by : (k j : Token) (w : List ℕ) (r : Bool) → k ≡ j → r ≡ spelt (formsOf j) (capitals w) → r ≡ spells k w
+unfolding spells
+spells-by k j w r e h = rw e h

@@ -6,12 +6,9 @@ use Rattle.text.proofs.ClassLaws.{of-bit, bit, entryOf, entries, ruled,
 use Rattle.text.proofs.has_bit.Statement.{statement}
 use Rattle.text.proofs.has_bit.Tie as tie
 
-array-read-result : tie.Need-array-read-result
-array-read-result c = search needs
-
-returns : tie.Need-returns
-unfolding bit entryOf entries all ruled agree both isLetter isDigit isWhite isLineEnd isComment isWord isName isSafe isRest isQuoted isDomain goesOn
-returns c = of-bit (entries 256 0) refl refl (c .args .b) (c .args .bit) (search needs)
-
 pub has-bit-spec : {M : Type 1} → statement M
-has-bit-spec = tie.close (tie.spec array-read-result returns)
+has-bit-spec =
+    tie.close
+    (tie.spec
+    (λ c. search needs)
+    (λ c. unfold bit entryOf entries all ruled agree both isLetter isDigit isWhite isLineEnd isComment isWord isName isSafe isRest isQuoted isDomain goesOn in of-bit (entries 256 0) refl refl (c .args .b) (c .args .bit) (search needs)))
