@@ -1,0 +1,34 @@
+-- Document 01's number and values for each answer of the call.
+use Prim.Native.Nat.{ℕ, _+_, _*_}
+use mathlib.Core.Path.{_≡_}
+use mathlib.Core.List.{List}
+use Rattle.megaco.specs.Call.{Called}
+use Rattle.gateway.specs.declared.Answer.{Answer}
+use Rattle.gateway.specs.declared.Answer.the-variants.{Taken, ReplyTooShort, TableUnsound, MidUnfit, MessageUnfit}
+
+-- 'Calls turned down': the number, 0 for a call that is taken
+unfoldable pub refusalOf : Answer → ℕ
+refusalOf (Taken n) = 0
+refusalOf ReplyTooShort = 3
+refusalOf TableUnsound = 2
+refusalOf MidUnfit = 4
+refusalOf MessageUnfit = 1
+
+-- the reply's length: "Each gives length 0"
+unfoldable pub sizeOf : Answer → ℕ
+sizeOf (Taken n) = n
+sizeOf ReplyTooShort = 0
+sizeOf TableUnsound = 0
+sizeOf MidUnfit = 0
+sizeOf MessageUnfit = 0
+
+-- an answer, the table and the reply buffer after the call are those of the definition
+pub record Answered (c : Called) (t′ o′ : List ℕ) (r : Answer) : Type 0 where
+  pub refusal : refusalOf r ≡ c .refusal
+  pub size : sizeOf r ≡ c .size
+  pub table : t′ ≡ c .table
+  pub reply : o′ ≡ c .reply
+
+-- the answer as one number of 64 bits
+unfoldable pub packed : ℕ → ℕ → ℕ
+packed refusal size = size + 4294967296 * refusal
