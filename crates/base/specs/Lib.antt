@@ -1,3 +1,4 @@
 pub mod Pick
 pub mod Lists
 pub mod Bytes
+pub mod Out

@@ -1,0 +1,3 @@
+pub mod PickLaws
+pub mod TextLaws
+pub mod OutLaws

@@ -1,0 +1,126 @@
+// The reports of a reply, written into a lent buffer: what was tried and how it went.
+ghost use mathlib.Core.Path.{_≡_};
+ghost use Rattle.base.specs.Out.{Appended};
+ghost use Rattle.megaco.specs.Table.{priorityOf};
+ghost use Rattle.megaco.specs.Names.{nameText};
+ghost use Rattle.megaco.specs.Reply.{tried, failed, standing, opText, errorText, codeText, reportText, separator};
+ghost use Rattle.report.specs.Rows.{emergencyText};
+use megaco::Op;
+
+// Speech channels of a line.
+const CHANNELS: usize = 31;
+
+// The terminations of all lines; ephemerals have the numbers after them.
+const LINE_TERMINATIONS: usize = 248;
+
+// `ER=code{}`
+pub fn put_error(out: &mut [u8], at: usize, code: u32) -> usize
+    ensures { λ r. ⌜ Appended (now (out .entry)) at (errorText code) (now (out .exit)) r ⌝ }
+{
+    let p = writer::put_bytes(out, at, b"ER=");
+    let q = writer::put_decimal(out, p, code);
+    writer::put_bytes(out, q, b"{}")
+}
+
+// `{ER=code{}}` after a failed attempt, nothing after a success.
+pub fn put_code(out: &mut [u8], at: usize, code: u32) -> usize
+    ensures { λ r. ⌜ Appended (now (out .entry)) at (codeText code) (now (out .exit)) r ⌝ }
+{
+    if code == 0 {
+        return at;
+    }
+    let p = writer::put_byte(out, at, b'{');
+    let q = put_error(out, p, code);
+    writer::put_byte(out, q, b'}')
+}
+
+// A command's short keyword.
+pub fn put_op(out: &mut [u8], at: usize, op: Op) -> usize
+    ensures { λ r. ⌜ Appended (now (out .entry)) at (opText op) (now (out .exit)) r ⌝ }
+{
+    match op {
+        Op::Add => writer::put_byte(out, at, b'A'),
+        Op::Modify => writer::put_bytes(out, at, b"MF"),
+        Op::Subtract => writer::put_byte(out, at, b'S'),
+        Op::Move => writer::put_bytes(out, at, b"MV"),
+    }
+}
+
+// A termination's full name.
+pub fn put_name(out: &mut [u8], at: usize, i: usize) -> usize
+    ensures { λ r. ⌜ Appended (now (out .entry)) at (nameText i) (now (out .exit)) r ⌝ }
+{
+    if LINE_TERMINATIONS <= i {
+        let p = writer::put_bytes(out, at, b"R/");
+        return writer::put_count(out, p, i - LINE_TERMINATIONS + 1);
+    }
+    let p = writer::put_bytes(out, at, b"L/");
+    let q = writer::put_count(out, p, i / CHANNELS + 1);
+    let u = writer::put_byte(out, q, b'/');
+    writer::put_count(out, u, i % CHANNELS + 1)
+}
+
+// An attempt under the bytes received.
+pub fn put_tried(out: &mut [u8], at: usize, op: Op, name: &[u8], code: u32) -> usize
+    ensures { λ r. ⌜ Appended (now (out .entry)) at (reportText (tried op (now (name .entry)) code)) (now (out .exit)) r ⌝ }
+{
+    let p = put_op(out, at, op);
+    let q = writer::put_byte(out, p, b'=');
+    let u = writer::put_bytes(out, q, name);
+    put_code(out, u, code)
+}
+
+// An attempt under the termination's full name.
+pub fn put_named(out: &mut [u8], at: usize, op: Op, i: usize, code: u32) -> usize
+    ensures { λ r. ⌜ Appended (now (out .entry)) at (reportText (tried op (nameText i) code)) (now (out .exit)) r ⌝ }
+{
+    let p = put_op(out, at, op);
+    let q = writer::put_byte(out, p, b'=');
+    let u = put_name(out, q, i);
+    put_code(out, u, code)
+}
+
+// An action error.
+pub fn put_failed(out: &mut [u8], at: usize, code: u32) -> usize
+    ensures { λ r. ⌜ Appended (now (out .entry)) at (reportText (failed code)) (now (out .exit)) r ⌝ }
+{
+    put_error(out, at, code)
+}
+
+fn priority(held: u32) -> u32
+    ensures { λ r. ⌜ r ≡ priorityOf held ⌝ }
+{
+    if held == 0 {
+        return 0;
+    }
+    (held - 1) % 16
+}
+
+// `,EG` if set.
+fn put_emergency(out: &mut [u8], at: usize, held: u32) -> usize
+    ensures { λ r. ⌜ Appended (now (out .entry)) at (emergencyText held) (now (out .exit)) r ⌝ }
+{
+    if held < 17 {
+        return at;
+    }
+    writer::put_bytes(out, at, b",EG")
+}
+
+// The properties of a context, from its record.
+pub fn put_standing(out: &mut [u8], at: usize, held: u32) -> usize
+    ensures { λ r. ⌜ Appended (now (out .entry)) at (reportText (standing held)) (now (out .exit)) r ⌝ }
+{
+    let p = writer::put_bytes(out, at, b"PR=");
+    let q = writer::put_decimal(out, p, priority(held));
+    put_emergency(out, q, held)
+}
+
+// A comma, unless nothing stands before.
+pub fn put_separator(out: &mut [u8], at: usize, first: bool) -> usize
+    ensures { λ r. ⌜ Appended (now (out .entry)) at (separator first) (now (out .exit)) r ⌝ }
+{
+    if first {
+        return at;
+    }
+    writer::put_byte(out, at, b',')
+}
