@@ -5,3 +5,8 @@ pub mod Views
 pub mod Attempts
 pub mod Steps
 pub mod Mix
+pub mod Membership
+pub mod PlainNames
+pub mod Apart
+pub mod Reaching
+pub mod Demand

@@ -173,7 +173,7 @@ module _ (N K : ℕ → Type 0) where
         local-reads t (λ u. seen (numberOf w) u .held) (λ h u. pick (lost op w h) (missed op name 411 w u) (named op name given (given? items) (judgeItems (isSubtract op) items) w u))
         (λ u a. ap (λ (x : Seen). x .held) (seat-same N K F t u a w s))
         (local-pick t (lost op w (seen (numberOf w) t .held)) _ _ (local-missed t op name 411 w s)
-          (λ l. local-named op name given w s b l (given? items) (judgeItems (isSubtract op) items) m))
+        (λ l. local-named op name given w s b l (given? items) (judgeItems (isSubtract op) items) m))
 
     local-optional : (o : Bool) (f : List ℕ → Outcome) → Local f t → Local (λ u. unlessOptional o (f u)) t
     unfolding unlessOptional
