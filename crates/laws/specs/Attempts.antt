@@ -19,8 +19,9 @@ use Rattle.megaco.specs.declared.Op.{Op}
 use Rattle.megaco.specs.declared.Op.the-variants.{Add, Modify, Subtract, Move}
 use Rattle.megaco.specs.declared.Values.{Values}
 use Rattle.megaco.specs.declared.View.{View}
+use Rattle.laws.specs.Bools.{clash}
 use Rattle.laws.specs.Frame.{Ours, AllOurs, nothing, also, Foot}
-use Rattle.laws.specs.Views.{clash, known-above, held-known, Seat}
+use Rattle.laws.specs.Views.{known-above, held-known, Seat}
 
 -- every test is passed
 abbrev pub Passed : List Check → Type 0

@@ -1,5 +1,6 @@
 pub mod Slots
 pub mod Counting
+pub mod Bools
 pub mod Frame
 pub mod Views
 pub mod Attempts
@@ -8,5 +9,6 @@ pub mod Mix
 pub mod Membership
 pub mod PlainNames
 pub mod Apart
+pub mod ApartTest
 pub mod Reaching
 pub mod Demand

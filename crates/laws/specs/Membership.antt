@@ -2,28 +2,18 @@
 use Prim.Native.Nat.{ℕ, zero, suc, _<_}
 use mathlib.Core.Path.{_≡_, refl, sym, ap, _∙_, subst}
 use mathlib.Core.Bool.{Bool, true, false, not, _&&_}
-use mathlib.Core.List.{List, [], _∷_, List·Memᴰ, List·Memᴰ·head, List·Memᴰ·tail}
+use mathlib.Core.List.{List, [], _∷_, List·Memᴰ, List·Memᴰ·head, List·Memᴰ·tail, List·Memᴰ·not-nil}
+use mathlib.Core.Logic.{_⊎_, inl, inr}
+use mathlib.Core.Option.{Option, none, some}
 use lib.Dec.{eqb}
 use borrow.Author.Tests.{eqb-true, eqb-false, eq-eqb}
 use Rattle.base.specs.Pick.{pick}
 use Rattle.base.specs.Lists.{has}
-use Rattle.laws.specs.Views.{clash, and-true}
+use Rattle.laws.specs.Bools.{clash, and-left, and-right, not-holds}
 
 infix 40 _∈_
 abbrev pub _∈_ : {A : Type 0} → A → List A → Type 0
 a ∈ l = List·Memᴰ a l
-
--- a test's value by its absurdity
-pub not-holds : (b : Bool) → (b ≡ true → ⊥) → b ≡ false
-not-holds true h = absurd (h refl)
-not-holds false h = refl
-
-pub not-fails : (b : Bool) → (b ≡ false → ⊥) → b ≡ true
-not-fails true h = refl
-not-fails false h = absurd (h refl)
-
-pub and-both : (a b : Bool) → a ≡ true → b ≡ true → a && b ≡ true
-and-both a b p q = rw (p, q)
 
 -- ---- a number in a list
 
@@ -59,10 +49,45 @@ all? p (x ∷ xs) = p x && all? p xs
 
 pub all-is : {A : Type 0} (p : A → Bool) (l : List A) → all? p l ≡ true → (a : A) → a ∈ l → p a ≡ true
 unfolding all?
-all-is p _ e a (List·Memᴰ·head {x = x} {xs = xs} q) = ap p q ∙ and-true (p x) (all? p xs) e .0
-all-is p _ e a (List·Memᴰ·tail {x = x} {xs = xs} m) = all-is p xs (and-true (p x) (all? p xs) e .1) a m
+all-is p _ e a (List·Memᴰ·head {x = x} {xs = xs} q) = ap p q ∙ and-left (p x) (all? p xs) e
+all-is p _ e a (List·Memᴰ·tail {x = x} {xs = xs} m) = all-is p xs (and-right (p x) (all? p xs) e) a m
 
 pub is-all : {A : Type 0} (p : A → Bool) (l : List A) → ((a : A) → a ∈ l → p a ≡ true) → all? p l ≡ true
 unfolding all?
 is-all p [] h = refl
-is-all p (x ∷ xs) h = and-both (p x) (all? p xs) (h x (List·Memᴰ·head refl)) (is-all p xs (λ a m. h a (List·Memᴰ·tail m)))
+is-all p (x ∷ xs) h = rw (h x (List·Memᴰ·head refl), is-all p xs (λ a m. h a (List·Memᴰ·tail m)))
+
+-- ---- the numbers that the elements of a list give
+
+unfoldable pub ahead : Option ℕ → List ℕ → List ℕ
+ahead none l = l
+ahead (some i) l = i ∷ l
+
+unfoldable pub collect : {A : Type 0} → (A → Option ℕ) → List A → List ℕ
+collect f [] = []
+collect f (x ∷ xs) = ahead (f x) (collect f xs)
+
+ahead-later : (o : Option ℕ) (l : List ℕ) (i : ℕ) → i ∈ l → i ∈ ahead o l
+unfolding ahead
+ahead-later none l i m = m
+ahead-later (some j) l i m = List·Memᴰ·tail m
+
+ahead-either : (o : Option ℕ) (l : List ℕ) (i : ℕ) → i ∈ ahead o l → (o ≡ some i) ⊎ (i ∈ l)
+unfolding ahead
+ahead-either none l i m = inr m
+ahead-either (some j) l i (List·Memᴰ·head e) = inl (ap some (sym e))
+ahead-either (some j) l i (List·Memᴰ·tail m) = inr m
+
+pub in-collect : {A : Type 0} (f : A → Option ℕ) (l : List A) (a : A) (i : ℕ) → a ∈ l → f a ≡ some i → i ∈ collect f l
+unfolding collect
+in-collect f _ a i (List·Memᴰ·head {x = x} {xs = xs} p) e = rw (sym (ap f p) ∙ e) (unfold ahead in List·Memᴰ·head refl)
+in-collect f _ a i (List·Memᴰ·tail {x = x} {xs = xs} m) e = ahead-later (f x) (collect f xs) i (in-collect f xs a i m e)
+
+pub collect-in : {A : Type 0} (f : A → Option ℕ) (l : List A) (i : ℕ) → i ∈ collect f l → (a : A) × (a ∈ l) × (f a ≡ some i)
+unfolding collect
+collect-in f [] i m = absurd (List·Memᴰ·not-nil m)
+collect-in {A} f (x ∷ xs) i m = by (ahead-either (f x) (collect f xs) i m) (collect-in f xs i)
+  where
+    by : (f x ≡ some i) ⊎ (i ∈ collect f xs) → (i ∈ collect f xs → (a : A) × (a ∈ xs) × (f a ≡ some i)) → (a : A) × (a ∈ (x ∷ xs)) × (f a ≡ some i)
+    by (inl e) g = (x, List·Memᴰ·head refl, e)
+    by (inr m) g = let r = g m in (r .0, List·Memᴰ·tail (r .1), r .2)

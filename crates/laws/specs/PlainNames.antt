@@ -13,7 +13,7 @@ use Rattle.megaco.specs.Table.{terminations, lines, channels, lineTerminations,
 use Rattle.megaco.specs.Names.{within, lineName, ephemeralName, plainName, capitalName, nameOf}
 use Rattle.megaco.specs.declared.Name.{Name}
 use Rattle.megaco.specs.declared.Name.the-variants.{Termination, Root, Chosen, Unchosen, Wildcard, Unmatched, Unknown}
-use Rattle.laws.specs.Views.{clash, and-true}
+use Rattle.laws.specs.Bools.{clash, and-left, and-right}
 
 pub data Plain : Name → Type 0 where
   aTermination : {i : ℕ} → i < terminations → Plain (Termination i)
@@ -35,7 +35,7 @@ capital-sign b x h = by (leb 97 x && leb x 122) refl
   where
     by : (s : Bool) → leb 97 x && leb x 122 ≡ s → eqb (pick s (x - 32) x) b ≡ eqb x b
     by true e =
-        let l : 97 ≤ x = leb-true 97 x (and-true (leb 97 x) (leb x 122) e .0) in
+        let l : 97 ≤ x = leb-true 97 x (and-left (leb 97 x) (leb x 122) e) in
         ne-eqb (x - 32) b (omega arith) ∙ sym (ne-eqb x b (omega arith))
     by false e = refl
 
@@ -46,7 +46,7 @@ has-capitals b (x ∷ xs) h = rw (capital-sign b x h, has-capitals b xs h)
 
 within-range : (x m : ℕ) → within x m ≡ true → (0 < x) × (x ≤ m)
 unfolding within
-within-range x m e = let p = and-true (ltb 0 x) (leb x m) e in (ltb-true 0 x (p .0), leb-true x m (p .1))
+within-range x m e = (ltb-true 0 x (and-left (ltb 0 x) (leb x m) e), leb-true x m (and-right (ltb 0 x) (leb x m) e))
 
 line-plain : (l s : ℕ) → Plain (lineName l s)
 unfolding lineName
@@ -54,9 +54,8 @@ line-plain l s = plain-pick (within l lines && within s channels) _ _ (λ e. aTe
   where
     below : within l lines && within s channels ≡ true → channels * (l - 1) + (s - 1) < terminations
     below e =
-        let p = and-true (within l lines) (within s channels) e in
-        let q = within-range l lines (p .0) in
-        let r = within-range s channels (p .1) in
+        let q = within-range l lines (and-left (within l lines) (within s channels) e) in
+        let r = within-range s channels (and-right (within l lines) (within s channels) e) in
         omega arith
 
 ephemeral-plain : (n : ℕ) → Plain (ephemeralName n)

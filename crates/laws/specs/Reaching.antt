@@ -21,8 +21,9 @@ use Rattle.megaco.specs.declared.Context.{Context}
 use Rattle.megaco.specs.declared.Context.the-variants.{Null, Numbered}
 use Rattle.megaco.specs.declared.Name.{Name}
 use Rattle.megaco.specs.declared.Name.the-variants.{Termination, Root, Unknown}
+use Rattle.laws.specs.Bools.{clash, and-left, and-right}
 use Rattle.laws.specs.Frame.{Foot, Closed, Disjoint}
-use Rattle.laws.specs.Views.{clash, known-above, known-below, Seat}
+use Rattle.laws.specs.Views.{known-above, known-below, Seat}
 use Rattle.laws.specs.Steps.{Means, Named}
 use Rattle.laws.specs.Mix.{Both, run-one, run-two, Mixture, mixed, Each, Ready, exchange, one-after-other}
 use Rattle.laws.specs.Membership.{_∈_, has-not}
@@ -30,14 +31,6 @@ use Rattle.laws.specs.PlainNames.{Plain, aTermination, root, unknown, pl
 use Rattle.laws.specs.Apart.{contextsIn, namesThen, namesIn, contextsOf, namesOf, WellFormed, ByNumberOrNull, by-number, null-one, ContextsPlain, NamesPlain, Names, Reaches, writes, stands, Apart}
 
 -- ---- of a sound table: its length, and that nobody stands in a context past the last. No more of soundness is asked here
-
-and-left : (a b : Bool) → a && b ≡ true → a ≡ true
-and-left true b e = refl
-and-left false b e = absurd (clash (sym e))
-
-and-right : (a b : Bool) → a && b ≡ true → b ≡ true
-and-right true b e = e
-and-right false b e = absurd (clash (sym e))
 
 every-at : (p : ℕ → Bool) (k : ℕ) (t : List ℕ) → every p (take k t) ≡ true → (i : ℕ) → i < k → i < length t → p (getD t i 0) ≡ true
 unfolding every pick

@@ -13,23 +13,17 @@ use Rattle.megaco.specs.declared.Context.{Context}
 use Rattle.megaco.specs.declared.Context.the-variants.{Null, Numbered, Choose, All}
 use Rattle.megaco.specs.declared.Seen.{Seen}
 use Rattle.megaco.specs.declared.View.{View}
+use Rattle.laws.specs.Bools.{clash, and-left, and-right}
 use Rattle.laws.specs.Counting.{count-agree}
 use Rattle.laws.specs.Frame.{Foot, Closed, Agree}
 
-pub clash : true ≡ false → ⊥
-clash e = eqb-false 0 0 e refl
-
-pub and-true : (a b : Bool) → a && b ≡ true → (a ≡ true) × (b ≡ true)
-and-true true b e = (refl, e)
-and-true false b e = absurd (clash (sym e))
-
 pub known-above : (c : ℕ) → known c ≡ true → 0 < c
 unfolding known
-known-above c e = ltb-true 0 c (and-true (ltb 0 c) (leb c contexts) e .0)
+known-above c e = ltb-true 0 c (and-left (ltb 0 c) (leb c contexts) e)
 
 pub known-below : (c : ℕ) → known c ≡ true → c ≤ contexts
 unfolding known
-known-below c e = leb-true c contexts (and-true (ltb 0 c) (leb c contexts) e .1)
+known-below c e = leb-true c contexts (and-right (ltb 0 c) (leb c contexts) e)
 
 -- what is known of a context that is none of 1..128 is 0
 pub held-known : (c : ℕ) (t : List ℕ) → eqb (seen c t .held) 0 ≡ false → known c ≡ true
