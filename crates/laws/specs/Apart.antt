@@ -1,5 +1,5 @@
 -- The conditions of demand 3, sentence by sentence: what a transaction names, what it reaches, and when two transactions are apart.
-use Prim.Native.Nat.{ℕ, _≤_, _<_}
+use Prim.Native.Nat.{ℕ, _<_}
 use mathlib.Core.Path.{_≡_}
 use mathlib.Core.List.{List, [], _∷_}
 use Rattle.megaco.specs.Bytes.{star, dollar}
@@ -8,7 +8,7 @@ use Rattle.megaco.specs.Reading.{messageR}
 use Rattle.megaco.specs.Table.{ctx, get}
 use Rattle.megaco.specs.Names.{nameOf}
 use Rattle.megaco.specs.declared.Context.{Context}
-use Rattle.megaco.specs.declared.Context.the-variants.{Null, Numbered, Choose, All}
+use Rattle.megaco.specs.declared.Context.the-variants.{Null, Numbered}
 use Rattle.megaco.specs.declared.Name.the-variants.{Termination}
 use Rattle.laws.specs.Membership.{_∈_}
 

@@ -1,16 +1,14 @@
 -- The conditions of demand 3 as computed tests; each test holds exactly when its condition does.
-use Prim.Native.Nat.{ℕ, zero, suc, _≤_, _<_}
-use mathlib.Core.Path.{_≡_, refl, sym, ap, _∙_, subst}
-use mathlib.Core.Bool.{Bool, true, false, not, _&&_, _||_}
-use mathlib.Core.List.{List, [], _∷_, _++_, Memᴰ·append-left, Memᴰ·append-right, List·Memᴰ·append-cases}
+use Prim.Native.Nat.{ℕ}
+use mathlib.Core.Path.{_≡_, refl, sym, ap, subst}
+use mathlib.Core.Bool.{Bool, true, false, not, _&&_}
+use mathlib.Core.List.{List, _++_, Memᴰ·append-left, Memᴰ·append-right, List·Memᴰ·append-cases}
 use mathlib.Core.Logic.{_↔_, _⊎_, inl, inr}
 use mathlib.Core.Option.{Option, none, some}
-use lib.Dec.{eqb}
-use borrow.Author.Tests.{eqb-true, eqb-false, ne-eqb, not-true}
-use native.Mathlib.Omega.{arith}
+use borrow.Author.Tests.{not-true}
 use Rattle.base.specs.Lists.{has}
 use Rattle.megaco.specs.Bytes.{star, dollar}
-use Rattle.megaco.specs.Tree.{Transaction, transaction}
+use Rattle.megaco.specs.Tree.{Transaction}
 use Rattle.megaco.specs.Table.{ctx, get}
 use Rattle.megaco.specs.Names.{nameOf}
 use Rattle.megaco.specs.declared.Context.{Context}
@@ -18,7 +16,7 @@ use Rattle.megaco.specs.declared.Context.the-variants.{Null, Numbered, Choose, 
 use Rattle.megaco.specs.declared.Name.{Name}
 use Rattle.megaco.specs.declared.Name.the-variants.{Termination, Root, Chosen, Unchosen, Wildcard, Unmatched, Unknown}
 use Rattle.laws.specs.Bools.{clash, and-left, and-right}
-use Rattle.laws.specs.Membership.{_∈_, has-not, not-has, all?, all-is, is-all, collect, in-collect, collect-in}
+use Rattle.laws.specs.Membership.{_∈_, has-not, not-has, all?, all-is, is-all, noneShared?, onlyZeroShared?, none-shared, only-zero-shared, collect, in-collect, collect-in}
 use Rattle.laws.specs.Apart.{contextsOf, namesOf, ByNumberOrNull, by-number, null-one, ContextsPlain, NamesPlain, Names, Reaches, writes, stands, TerminationsApart, ContextsApart, Apart}
 
 -- ---- the tests
@@ -64,19 +62,15 @@ numbered x = collect writtenNumber (contextsOf x)
 unfoldable pub standing : List ℕ → List ℕ → List ℕ
 standing t is = collect (λ i. some (get t (ctx i))) is
 
--- no number stands in both
-unfoldable pub noneShared? : List ℕ → List ℕ → Bool
-noneShared? xs ys = all? (λ c. not (has c ys)) xs
-
--- no number but 0 stands in both
-unfoldable pub onlyZeroShared? : List ℕ → List ℕ → Bool
-onlyZeroShared? xs ys = all? (λ c. eqb c 0 || not (has c ys)) xs
+-- the contexts written, and those that the terminations named stand in
+unfoldable pub reached : List ℕ → Transaction → List ℕ
+reached t x = numbered x ++ standing t (named x)
 
 unfoldable pub terminationsApart? : Transaction → Transaction → Bool
 terminationsApart? x y = noneShared? (named x) (named y)
 
 unfoldable pub contextsApart? : List ℕ → Transaction → Transaction → Bool
-contextsApart? t x y = onlyZeroShared? (numbered x ++ standing t (named x)) (numbered y ++ standing t (named y))
+contextsApart? t x y = onlyZeroShared? (reached t x) (reached t y)
 
 unfoldable pub apart? : List ℕ → Transaction → Transaction → Bool
 apart? t x y = contextsPlain? x && contextsPlain? y && namesPlain? x && namesPlain? y && terminationsApart? x y && contextsApart? t x y
@@ -138,10 +132,10 @@ named-names x i m =
     record { name = r .0; written = r .1; means = termination-is (nameOf (r .0)) i (r .2) }
 
 pub terminations-apart-is : (x y : Transaction) → terminationsApart? x y ≡ true ↔ TerminationsApart x y
-unfolding terminationsApart? noneShared?
+unfolding terminationsApart?
 terminations-apart-is x y = (
-  λ e i m k. not-has i (named y) (not-true (has i (named y)) (all-is _ (named x) e i (names-named x i m))) (names-named y i k),
-  λ h. is-all _ (named x) (λ i m. rw (has-not i (named y) (λ k. h i (named-names x i m) (named-names y i k)))),
+  λ e i m k. none-shared (named x) (named y) .0 e i (names-named x i m) (names-named y i k),
+  λ h. none-shared (named x) (named y) .1 (λ i m k. h i (named-names x i m) (named-names y i k)),
 )
 
 -- ---- contexts reached
@@ -157,32 +151,25 @@ some-is : (a b : ℕ) → some a ≡ some b → a ≡ b
 some-is a b e = cc
 
 module _ (t : List ℕ) (x : Transaction) where
-  reaches-reached : (c : ℕ) → Reaches t x c → c ∈ (numbered x ++ standing t (named x))
-  unfolding numbered standing writtenNumber
+  reaches-reached : (c : ℕ) → Reaches t x c → c ∈ reached t x
+  unfolding reached numbered standing writtenNumber
   reaches-reached c (writes m) = Memᴰ·append-left (standing t (named x)) (in-collect writtenNumber (contextsOf x) (Numbered c) c m refl)
   reaches-reached c (stands i m e) = Memᴰ·append-right (numbered x) (in-collect (λ j. some (get t (ctx j))) (named x) i c (names-named x i m) (ap some e))
 
-  reached-reaches : (c : ℕ) → c ∈ (numbered x ++ standing t (named x)) → Reaches t x c
-  unfolding numbered standing
+  reached-reaches : (c : ℕ) → c ∈ reached t x → Reaches t x c
+  unfolding reached numbered standing
   reached-reaches c m = by (List·Memᴰ·append-cases (numbered x) m)
     where
       by : (c ∈ numbered x) ⊎ (c ∈ standing t (named x)) → Reaches t x c
       by (inl m) = let r = collect-in writtenNumber (contextsOf x) c m in writes (subst (λ (w : Context). w ∈ contextsOf x) (number-is (r .0) c (r .2)) (r .1))
       by (inr m) = let r = collect-in (λ j. some (get t (ctx j))) (named x) c m in stands (r .0) (named-names x (r .0) (r .1)) (some-is _ c (r .2))
 
-above-zero : (c : ℕ) (b : Bool) → 0 < c → eqb c 0 || not b ≡ true → b ≡ false
-above-zero c b h e = not-true b (rw (ne-eqb c 0 (omega arith)) at e)
-
 pub contexts-apart-is : (t : List ℕ) (x y : Transaction) → contextsApart? t x y ≡ true ↔ ContextsApart t x y
-unfolding contextsApart? onlyZeroShared?
+unfolding contextsApart?
 contexts-apart-is t x y = (
-  λ e c h a b. not-has c _ (above-zero c _ h (all-is _ (numbered x ++ standing t (named x)) e c (reaches-reached t x c a))) (reaches-reached t y c b),
-  λ h. is-all _ (numbered x ++ standing t (named x)) (λ c m. either c (λ z. has-not c _ (λ k. h c z (reached-reaches t x c m) (reached-reaches t y c k)))),
+  λ e c h a b. only-zero-shared (reached t x) (reached t y) .0 e c h (reaches-reached t x c a) (reaches-reached t y c b),
+  λ f. only-zero-shared (reached t x) (reached t y) .1 (λ c h a b. f c h (reached-reaches t x c a) (reached-reaches t y c b)),
 )
-  where
-    either : (c : ℕ) → (0 < c → has c (numbered y ++ standing t (named y)) ≡ false) → eqb c 0 || not (has c (numbered y ++ standing t (named y))) ≡ true
-    either zero f = refl
-    either (suc c) f = rw (ne-eqb (suc c) 0 (omega arith), f (omega arith))
 
 -- ---- all of them
 

@@ -1,16 +1,14 @@
 -- What an attempt, or an action's start, writes lies in its footprint.
-use Prim.Native.Nat.{ℕ, zero, suc, _+_, _*_, _≤_, _<_}
-use mathlib.Core.Path.{_≡_, refl, sym, ap, _∙_, subst}
-use mathlib.Core.Bool.{Bool, true, false, not, _&&_, _||_}
+use Prim.Native.Nat.{ℕ, _<_}
+use mathlib.Core.Path.{_≡_, refl}
+use mathlib.Core.Bool.{Bool, true, false}
 use mathlib.Core.List.{List, [], _∷_}
 use lib.Dec.{eqb, leb}
 use borrow.Author.Tests.{eqb-true, eqb-false, not-false}
 use native.Mathlib.Omega.{arith}
 use Rattle.base.specs.Pick.{pick}
-use Rattle.megaco.specs.Table.{prop, rec, ctx, cell, Write, write, known}
-use Rattle.megaco.specs.Items.{update}
-use Rattle.megaco.specs.Reply.{failed, standing}
-use Rattle.megaco.specs.Running.{Check, check, Result, refused, done, judge, seen, numberOf, isChoose, target, roomChecks, checks, joining, leaving, placed, added, subtracted, changes, attempt, settled, Effect, concluded, effect}
+use Rattle.megaco.specs.Table.{prop, rec, ctx, cell, Write}
+use Rattle.megaco.specs.Running.{Check, check, Result, refused, done, judge, seen, numberOf, isChoose, target, checks, joining, leaving, placed, changes, attempt, settled, Effect, concluded, effect}
 use Rattle.megaco.specs.Running.{isNull, isModify, barred, lost, anyGiven, startChecks, startWrites, Start, startedBy, started}
 use Rattle.megaco.specs.declared.Context.{Context}
 use Rattle.megaco.specs.declared.Context.the-variants.{Null, Numbered, Choose, All}
@@ -19,7 +17,7 @@ use Rattle.megaco.specs.declared.Op.{Op}
 use Rattle.megaco.specs.declared.Op.the-variants.{Add, Modify, Subtract, Move}
 use Rattle.megaco.specs.declared.Values.{Values}
 use Rattle.megaco.specs.declared.View.{View}
-use Rattle.laws.specs.Bools.{clash}
+use Rattle.laws.specs.Bools.{clash, and-false}
 use Rattle.laws.specs.Frame.{Ours, AllOurs, nothing, also, Foot}
 use Rattle.laws.specs.Views.{known-above, held-known, Seat}
 
@@ -99,10 +97,10 @@ module _ (N K : ℕ → Type 0) where
     changes-all Add w given i vs v s m h k z p = joining-all w given v i _ s m k
     changes-all Modify w given i vs v s m h k z p = also (ours-prop i _ m) nothing
     changes-all Subtract w given i vs v s m h k z p =
-        let e : v .here ≡ numberOf w = eqb-true (v .here) (numberOf w) (not-false (eqb (v .here) (numberOf w)) (p .0)) in
+        let e : v .here ≡ numberOf w = eqb-true (v .here) (numberOf w) (not-false (eqb (v .here) (numberOf w)) (search)) in
         leaving-all v _ (h (rw e (z refl))) (placed-all i 0 _ m (λ y. absurd (omega arith)))
     changes-all Move w given i vs v s m h k z p =
-        leaving-all v _ (h (nonzero (v .here) (eqb-false (v .here) 0 (p .0)))) (joining-all w given v i _ s m k)
+        leaving-all v _ (h (nonzero (v .here) (eqb-false (v .here) 0 (search)))) (joining-all w given v i _ s m k)
 
     -- what an attempt writes, and where its action stands after it
     pub record Lies (e : Effect) : Type 0 where
@@ -145,7 +143,7 @@ module _ (N K : ℕ → Type 0) where
     unfolding startChecks startWrites numberOf
     writes-all Null ps alone t s p = nothing
     writes-all (Numbered c) ps alone t s p =
-        pick-all (anyGiven ps) _ [] (λ e. also (ours-rec c _ (s (held-known c t (rw e at (p .1 .0))))) nothing) nothing
+        pick-all (anyGiven ps) _ [] (λ e. also (ours-rec c _ (s (held-known c t (and-false (anyGiven ps) (eqb (seen c t .held) 0) e (search))))) nothing) nothing
     writes-all Choose ps alone t s p = absurd s
     writes-all All ps alone t s p = absurd s
 

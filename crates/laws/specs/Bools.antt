@@ -17,3 +17,7 @@ and-left false b e = absurd (clash (sym e))
 pub and-right : (a b : Bool) → a && b ≡ true → b ≡ true
 and-right true b e = e
 and-right false b e = absurd (clash (sym e))
+
+pub and-false : (a b : Bool) → a ≡ true → a && b ≡ false → b ≡ false
+and-false true b h e = e
+and-false false b h e = absurd (clash (sym h))

@@ -1,14 +1,14 @@
 -- Demand 3: two transactions that are apart end alike in both orders; and so does any mixture of their steps.
 use Prim.Native.Nat.{ℕ}
-use mathlib.Core.Path.{_≡_, refl, sym, ap, _∙_}
-use mathlib.Core.Bool.{Bool, true, false}
+use mathlib.Core.Path.{_≡_, sym, ap}
+use mathlib.Core.Bool.{true}
 use mathlib.Core.List.{List, [], _∷_}
 use Rattle.base.specs.Bytes.{_then_}
 use Rattle.megaco.specs.Tree.{Transaction, transaction, wellFormed}
 use Rattle.megaco.specs.Reading.{messageR}
 use Rattle.megaco.specs.Table.{sound}
 use Rattle.megaco.specs.Reply.{transactionText}
-use Rattle.megaco.specs.Running.{Progress, Ran, runTransaction, runTransactions, runMessage}
+use Rattle.megaco.specs.Running.{Progress, runTransaction, runTransactions, runMessage}
 use Rattle.laws.specs.Mix.{Both, Mixture, mixed}
 use Rattle.laws.specs.Apart.{WellFormed, ContextsPlain, NamesPlain, TerminationsApart, ContextsApart, Apart}
 use Rattle.laws.specs.Reaching.{stepsOf, outset, orders-alike, mixture-alike}

@@ -1,9 +1,9 @@
 -- Footprints. A footprint is a set N of terminations and a set K of contexts. The words of the footprint are those that a termination
 -- of N or a context of K owns; who stands in a context of K counts as part of it too.
-use Prim.Native.Nat.{ℕ, zero, suc, _+_, _-_, _≤_, _<_}
+use Prim.Native.Nat.{ℕ, _+_, _≤_, _<_}
 use mathlib.Core.Path.{_≡_, refl, sym, ap, _∙_, subst}
 use mathlib.Core.Logic.{_≢_}
-use mathlib.Core.Bool.{Bool, true, false}
+use mathlib.Core.Bool.{false}
 use mathlib.Core.List.{List, [], _∷_}
 use lib.ListN.{length, getD, set}
 use lib.Seq.{getD-set-same, getD-set-other}
@@ -11,7 +11,7 @@ use lib.Dec.{eqb}
 use borrow.Author.Tests.{ne-eqb}
 use native.Mathlib.Omega.{arith}
 use native.Mathlib.Decide.{ℕ-discrete}
-use Rattle.megaco.specs.Table.{terminations, contexts, words, Cell, prop, rec, offset, Slot, ctx, cell, address, get, Write, write, store, apply}
+use Rattle.megaco.specs.Table.{terminations, contexts, words, prop, rec, offset, Slot, ctx, cell, get, Write, write, store, apply}
 use Rattle.laws.specs.Slots.{Valid, length-store, get-other, store-comm}
 
 -- whose a word is

@@ -12,3 +12,6 @@ pub mod Apart
 pub mod ApartTest
 pub mod Reaching
 pub mod Demand
+pub mod Opened
+pub mod Witness
+pub mod Needed

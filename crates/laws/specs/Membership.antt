@@ -1,12 +1,13 @@
 -- What stands in a list, and the tests that tell it.
 use Prim.Native.Nat.{ℕ, zero, suc, _<_}
-use mathlib.Core.Path.{_≡_, refl, sym, ap, _∙_, subst}
-use mathlib.Core.Bool.{Bool, true, false, not, _&&_}
+use mathlib.Core.Path.{_≡_, refl, sym, ap, _∙_}
+use mathlib.Core.Bool.{Bool, true, false, not, _&&_, _||_}
 use mathlib.Core.List.{List, [], _∷_, List·Memᴰ, List·Memᴰ·head, List·Memᴰ·tail, List·Memᴰ·not-nil}
-use mathlib.Core.Logic.{_⊎_, inl, inr}
+use mathlib.Core.Logic.{_↔_, _⊎_, inl, inr}
 use mathlib.Core.Option.{Option, none, some}
 use lib.Dec.{eqb}
-use borrow.Author.Tests.{eqb-true, eqb-false, eq-eqb}
+use borrow.Author.Tests.{eqb-true, eq-eqb, ne-eqb, not-true}
+use native.Mathlib.Omega.{arith}
 use Rattle.base.specs.Pick.{pick}
 use Rattle.base.specs.Lists.{has}
 use Rattle.laws.specs.Bools.{clash, and-left, and-right, not-holds}
@@ -56,6 +57,37 @@ pub is-all : {A : Type 0} (p : A → Bool) (l : List A) → ((a : A) → a ∈ l
 unfolding all?
 is-all p [] h = refl
 is-all p (x ∷ xs) h = rw (h x (List·Memᴰ·head refl), is-all p xs (λ a m. h a (List·Memᴰ·tail m)))
+
+-- ---- two lists of numbers
+
+-- no number stands in both
+unfoldable pub noneShared? : List ℕ → List ℕ → Bool
+noneShared? xs ys = all? (λ c. not (has c ys)) xs
+
+-- no number but 0 stands in both
+unfoldable pub onlyZeroShared? : List ℕ → List ℕ → Bool
+onlyZeroShared? xs ys = all? (λ c. eqb c 0 || not (has c ys)) xs
+
+pub none-shared : (xs ys : List ℕ) → noneShared? xs ys ≡ true ↔ ((c : ℕ) → c ∈ xs → c ∈ ys → ⊥)
+unfolding noneShared?
+none-shared xs ys = (
+  λ e c m. not-has c ys (not-true (has c ys) (all-is (λ c. not (has c ys)) xs e c m)),
+  λ h. is-all (λ c. not (has c ys)) xs (λ c m. rw (has-not c ys (h c m))),
+)
+
+pub only-zero-shared : (xs ys : List ℕ) → onlyZeroShared? xs ys ≡ true ↔ ((c : ℕ) → 0 < c → c ∈ xs → c ∈ ys → ⊥)
+unfolding onlyZeroShared?
+only-zero-shared xs ys = (
+  λ e c h m. not-has c ys (above c h (all-is (λ c. eqb c 0 || not (has c ys)) xs e c m)),
+  λ h. is-all (λ c. eqb c 0 || not (has c ys)) xs (λ c m. any c (λ z. has-not c ys (h c z m))),
+)
+  where
+    above : (c : ℕ) → 0 < c → eqb c 0 || not (has c ys) ≡ true → has c ys ≡ false
+    above c h e = not-true (has c ys) (rw (ne-eqb c 0 (omega arith)) at e)
+
+    any : (c : ℕ) → (0 < c → has c ys ≡ false) → eqb c 0 || not (has c ys) ≡ true
+    any zero f = refl
+    any (suc c) f = rw (ne-eqb (suc c) 0 (omega arith), f (omega arith))
 
 -- ---- the numbers that the elements of a list give
 

@@ -1,11 +1,11 @@
 -- Two transactions step by step: where their footprints have nothing in common, any mixture of their steps ends like one after the other.
-use Prim.Native.Nat.{ℕ, _≤_, _<_}
+use Prim.Native.Nat.{ℕ}
 use mathlib.Core.Path.{_≡_, refl, sym, ap, _∙_, subst}
 use mathlib.Core.List.{List, [], _∷_}
 use Rattle.megaco.specs.Table.{apply}
 use Rattle.megaco.specs.Running.{Step, Progress, State, state, step, run}
-use Rattle.laws.specs.Frame.{AllOurs, Foot, Closed, Agree, agree-refl, closed-agree, closed-apply, Disjoint, apply-agree, apply-comm}
-use Rattle.laws.specs.Steps.{Change, enact, Named, Seats, Acts, acts}
+use Rattle.laws.specs.Frame.{Closed, Agree, agree-refl, closed-agree, closed-apply, Disjoint, apply-agree, apply-comm}
+use Rattle.laws.specs.Steps.{enact, Named, Seats, Acts, acts}
 
 -- the table, and how far each of the two has come
 pub record Both : Type 0 where

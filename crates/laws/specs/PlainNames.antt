@@ -1,7 +1,7 @@
 -- A name without `*` and `$` means a termination of the table, ROOT, or none.
-use Prim.Native.Nat.{ℕ, zero, suc, _+_, _*_, _-_, _≤_, _<_}
-use mathlib.Core.Path.{_≡_, refl, sym, ap, _∙_, subst}
-use mathlib.Core.Bool.{Bool, true, false, not, _&&_, _||_}
+use Prim.Native.Nat.{ℕ, _+_, _*_, _-_, _≤_, _<_}
+use mathlib.Core.Path.{_≡_, refl, sym, _∙_}
+use mathlib.Core.Bool.{Bool, true, false, _&&_}
 use mathlib.Core.List.{List, [], _∷_}
 use lib.Dec.{eqb, leb, ltb}
 use borrow.Author.Tests.{leb-true, ltb-true, ne-eqb}
@@ -9,10 +9,10 @@ use native.Mathlib.Omega.{arith}
 use Rattle.base.specs.Pick.{pick}
 use Rattle.base.specs.Lists.{has}
 use Rattle.megaco.specs.Bytes.{star, dollar, capital, capitals}
-use Rattle.megaco.specs.Table.{terminations, lines, channels, lineTerminations, ephemerals}
+use Rattle.megaco.specs.Table.{terminations, lines, channels, ephemerals}
 use Rattle.megaco.specs.Names.{within, lineName, ephemeralName, plainName, capitalName, nameOf}
 use Rattle.megaco.specs.declared.Name.{Name}
-use Rattle.megaco.specs.declared.Name.the-variants.{Termination, Root, Chosen, Unchosen, Wildcard, Unmatched, Unknown}
+use Rattle.megaco.specs.declared.Name.the-variants.{Termination, Root, Unknown}
 use Rattle.laws.specs.Bools.{clash, and-left, and-right}
 
 pub data Plain : Name → Type 0 where

@@ -1,26 +1,21 @@
 -- The footprint of a transaction from a sound table: the terminations that it names, and the contexts that it reaches.
-use Prim.Native.Nat.{ℕ, zero, suc, _+_, _≤_, _<_}
-use mathlib.Core.Path.{_≡_, refl, sym, ap, _∙_, subst}
-use mathlib.Core.Bool.{Bool, true, false, not, _&&_}
+use Prim.Native.Nat.{ℕ, zero, suc, _≤_, _<_}
+use mathlib.Core.Path.{_≡_, refl, sym, subst}
+use mathlib.Core.Bool.{Bool, true, false}
 use mathlib.Core.List.{List, [], _∷_, List·Memᴰ·head, List·Memᴰ·tail}
 use lib.ListN.{length, getD, take}
-use lib.Dec.{eqb, leb}
+use lib.Dec.{leb}
 use borrow.Author.Tests.{eqb-true, leb-true}
 use native.Mathlib.Omega.{arith}
 use Rattle.base.specs.Pick.{pick}
 use Rattle.base.specs.Lists.{every, has}
-use Rattle.base.specs.Bytes.{_then_}
 use Rattle.megaco.specs.Bytes.{star, dollar}
-use Rattle.megaco.specs.Tree.{Command, command, Action, action, Transaction, transaction, wellFormed}
-use Rattle.megaco.specs.Reading.{messageR}
-use Rattle.megaco.specs.Table.{terminations, contexts, words, ctx, get, contextWords, sound, known}
+use Rattle.megaco.specs.Tree.{Command, command, Action, action, Transaction, transaction}
+use Rattle.megaco.specs.Table.{terminations, contexts, words, ctx, get, contextWords, sound}
 use Rattle.megaco.specs.Names.{nameOf}
-use Rattle.megaco.specs.Reply.{transactionText}
-use Rattle.megaco.specs.Running.{Step, start, order, orders, noCommands, steps, fresh, run, Ran, runTransaction, runTransactions, runMessage}
+use Rattle.megaco.specs.Running.{Step, start, orders, steps, fresh}
 use Rattle.megaco.specs.declared.Context.{Context}
-use Rattle.megaco.specs.declared.Context.the-variants.{Null, Numbered}
 use Rattle.megaco.specs.declared.Name.{Name}
-use Rattle.megaco.specs.declared.Name.the-variants.{Termination, Root, Unknown}
 use Rattle.laws.specs.Bools.{clash, and-left, and-right}
 use Rattle.laws.specs.Frame.{Foot, Closed, Disjoint}
 use Rattle.laws.specs.Views.{known-above, known-below, Seat}
@@ -28,7 +23,7 @@ use Rattle.laws.specs.Steps.{Means, Named}
 use Rattle.laws.specs.Mix.{Both, run-one, run-two, Mixture, mixed, Each, Ready, exchange, one-after-other}
 use Rattle.laws.specs.Membership.{_∈_, has-not}
 use Rattle.laws.specs.PlainNames.{Plain, aTermination, root, unknown, plain-below, plain-name}
-use Rattle.laws.specs.Apart.{contextsIn, namesThen, namesIn, contextsOf, namesOf, WellFormed, ByNumberOrNull, by-number, null-one, ContextsPlain, NamesPlain, Names, Reaches, writes, stands, Apart}
+use Rattle.laws.specs.Apart.{contextsIn, namesThen, namesIn, namesOf, ByNumberOrNull, by-number, null-one, ContextsPlain, NamesPlain, Names, Reaches, writes, stands, Apart}
 
 -- ---- of a sound table: its length, and that nobody stands in a context past the last. No more of soundness is asked here
 

@@ -1,18 +1,17 @@
 -- A step acts in its footprint only, and by what it sees of its footprint only.
-use Prim.Native.Nat.{ℕ, zero, suc, _+_, _≤_, _<_}
-use mathlib.Core.Path.{_≡_, refl, sym, ap, _∙_, subst}
+use Prim.Native.Nat.{ℕ}
+use mathlib.Core.Path.{_≡_, refl, sym, ap, _∙_}
 use mathlib.Core.Bool.{Bool, true, false, not, _&&_, _||_}
 use mathlib.Core.List.{List, [], _∷_, _++_}
 use mathlib.Core.Option.{Option, none, some}
 use Rattle.base.specs.Pick.{pick}
-use Rattle.base.specs.Bytes.{text}
-use Rattle.megaco.specs.Table.{ctx, get, Write, write, apply, exists}
+use Rattle.megaco.specs.Table.{ctx, get, Write, apply, exists}
 use Rattle.megaco.specs.Tree.{Items, Command, command}
 use Rattle.megaco.specs.Names.{nameOf}
 use Rattle.megaco.specs.Items.{judgeItems, given?}
-use Rattle.megaco.specs.Reply.{Report, tried, failed, Acted}
-use Rattle.megaco.specs.Running.{seen, numberOf, look, Effect, effect, Outcome, outcome, tries, missed, actionError, Aim, misses, gateway, meets, aimRoot, aim, aimed, opOf, isModify, isSubtract, barred, lost}
-use Rattle.megaco.specs.Running.{named, tested, unlessOptional, ordered, runCommand, Start, started, Step, start, order, Progress, progress, State, state, begin, advance, proceed, step}
+use Rattle.megaco.specs.Reply.{Report, tried, Acted}
+use Rattle.megaco.specs.Running.{seen, numberOf, look, Effect, effect, Outcome, outcome, tries, missed, actionError, Aim, misses, gateway, meets, aimRoot, aim, aimed, opOf, isSubtract, barred, lost}
+use Rattle.megaco.specs.Running.{named, tested, unlessOptional, ordered, runCommand, started, Step, start, order, Progress, progress, State, state, begin, advance, proceed, step}
 use Rattle.megaco.specs.declared.Context.{Context}
 use Rattle.megaco.specs.declared.Op.{Op}
 use Rattle.megaco.specs.declared.Name.{Name}
@@ -20,11 +19,10 @@ use Rattle.megaco.specs.declared.Name.the-variants.{Termination, Root, Chosen, 
 use Rattle.megaco.specs.declared.Judged.{Judged}
 use Rattle.megaco.specs.declared.Judged.the-variants.{Wrong, Right}
 use Rattle.megaco.specs.declared.Values.{Values}
-use Rattle.megaco.specs.declared.View.{View}
 use Rattle.megaco.specs.declared.Seen.{Seen}
-use Rattle.laws.specs.Frame.{AllOurs, nothing, also, Foot, Closed, Agree}
+use Rattle.laws.specs.Frame.{AllOurs, nothing, Foot, Closed, Agree}
 use Rattle.laws.specs.Views.{Seat, seat-same, look-same}
-use Rattle.laws.specs.Attempts.{seat-home, seat-above, Lies, effect-lies, StartLies, started-lies}
+use Rattle.laws.specs.Attempts.{seat-home, seat-above, Lies, effect-lies, started-lies}
 
 -- what a step writes, and how its transaction then stands
 pub record Change : Type 0 where

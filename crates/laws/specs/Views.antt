@@ -1,18 +1,16 @@
 -- What an attempt sees depends on its footprint alone.
-use Prim.Native.Nat.{ℕ, zero, suc, _+_, _-_, _≤_, _<_}
-use mathlib.Core.Path.{_≡_, refl, sym, ap, _∙_, subst}
-use mathlib.Core.Bool.{Bool, true, false, not, _&&_, _||_}
-use mathlib.Core.List.{List, [], _∷_}
+use Prim.Native.Nat.{ℕ, _≤_, _<_}
+use mathlib.Core.Path.{_≡_, refl, sym, ap, _∙_}
+use mathlib.Core.Bool.{Bool, true, false}
+use mathlib.Core.List.{List}
 use lib.Dec.{eqb, leb, ltb}
-use borrow.Author.Tests.{leb-true, ltb-true, eqb-false}
+use borrow.Author.Tests.{leb-true, ltb-true}
 use Rattle.base.specs.Pick.{pick}
-use Rattle.base.specs.Lists.{count}
-use Rattle.megaco.specs.Table.{terminations, contexts, prop, rec, ctx, cell, get, known, members, contextWords, freeContext}
+use Rattle.megaco.specs.Table.{terminations, contexts, prop, rec, ctx, cell, get, known, members, contextWords}
 use Rattle.megaco.specs.Running.{unseen, seen, numberOf, freeAt, look}
 use Rattle.megaco.specs.declared.Context.{Context}
 use Rattle.megaco.specs.declared.Context.the-variants.{Null, Numbered, Choose, All}
 use Rattle.megaco.specs.declared.Seen.{Seen}
-use Rattle.megaco.specs.declared.View.{View}
 use Rattle.laws.specs.Bools.{clash, and-left, and-right}
 use Rattle.laws.specs.Counting.{count-agree}
 use Rattle.laws.specs.Frame.{Foot, Closed, Agree}
