@@ -156,3 +156,7 @@ module _ (N K M L : ℕ → Type 0) where
   unfolding apply
   apply-comm D _ ws t nothing b = refl
   apply-comm D _ ws t (also {s = s} {v = v} {ws = vs} o a) b = ap (apply vs) (store-apply D s v ws t o b) ∙ apply-comm D vs ws (store (write s v) t) a b
+
+pub disjoint-sym : (N K M L : ℕ → Type 0) → Disjoint N K M L → Disjoint M L N K
+disjoint-sym N K M L D =
+    record { one = D .two; two = D .one; apart-terminations = λ i b a. D .apart-terminations i a b; apart-contexts = λ c b a. D .apart-contexts c a b }

@@ -4,7 +4,7 @@ use mathlib.Core.Path.{_≡_, refl, sym, ap, _∙_, subst}
 use mathlib.Core.List.{List, [], _∷_}
 use Rattle.megaco.specs.Table.{apply}
 use Rattle.megaco.specs.Running.{Step, Progress, State, state, step, run}
-use Rattle.laws.specs.Frame.{Closed, Agree, agree-refl, closed-agree, closed-apply, Disjoint, apply-agree, apply-comm}
+use Rattle.laws.specs.Frame.{Closed, Agree, agree-refl, closed-agree, closed-apply, Disjoint, disjoint-sym, apply-agree, apply-comm}
 use Rattle.laws.specs.Steps.{enact, Named, Seats, Acts, acts}
 
 -- the table, and how far each of the two has come
@@ -70,14 +70,18 @@ module _ (N K M L : ℕ → Type 0) (D : Disjoint M L N K) (s : Step) (t : List 
   other-closed : Closed M L t → Closed M L (step s (state t p) .table)
   other-closed d = subst (λ (x : State). Closed M L (x .table)) (sym is) (closed-agree M L (D .one) t _ other-agrees d)
 
-module _ (N K M L : ℕ → Type 0) (D : Disjoint N K M L) (E : Disjoint M L N K) where
-  pub record Ready (b : Both) : Type 0 where
-    pub one-closed : Closed N K (b .table)
-    pub two-closed : Closed M L (b .table)
-    pub one-seats : Seats N K (b .one .acts)
-    pub two-seats : Seats M L (b .two .acts)
+-- each footprint is closed, and each transaction's action stands in its own
+pub record Ready (N K M L : ℕ → Type 0) (b : Both) : Type 0 where
+  pub one-closed : Closed N K (b .table)
+  pub two-closed : Closed M L (b .table)
+  pub one-seats : Seats N K (b .one .acts)
+  pub two-seats : Seats M L (b .two .acts)
 
-  ready-one : (s : Step) (b : Both) → Named N K s → Ready b → Ready (step-one s b)
+module _ (N K M L : ℕ → Type 0) (D : Disjoint N K M L) where
+  E : Disjoint M L N K
+  E = disjoint-sym N K M L D
+
+  ready-one : (s : Step) (b : Both) → Named N K s → Ready N K M L b → Ready N K M L (step-one s b)
   ready-one s b m r =
       record {
         one-closed = own-closed N K M L E s (b .table) (b .one) (r .one-closed) m (r .one-seats);
@@ -86,7 +90,7 @@ module _ (N K M L : ℕ → Type 0) (D : Disjoint N K M L) (E : Disjoint M L N K
         two-seats = r .two-seats;
       }
 
-  ready-two : (s : Step) (b : Both) → Named M L s → Ready b → Ready (step-two s b)
+  ready-two : (s : Step) (b : Both) → Named M L s → Ready N K M L b → Ready N K M L (step-two s b)
   ready-two s b m r =
       record {
         one-closed = other-closed M L N K D s (b .table) (b .two) (r .two-closed) m (r .two-seats) (r .one-closed);
@@ -96,7 +100,7 @@ module _ (N K M L : ℕ → Type 0) (D : Disjoint N K M L) (E : Disjoint M L N K
       }
 
   -- two steps, one of each, may change places
-  diamond : (s r : Step) (b : Both) → Named N K s → Named M L r → Ready b → step-one s (step-two r b) ≡ step-two r (step-one s b)
+  diamond : (s r : Step) (b : Both) → Named N K s → Named M L r → Ready N K M L b → step-one s (step-two r b) ≡ step-two r (step-one s b)
   diamond s r b m o h =
       let t = b .table in
       let p = act N K M L E s t (b .one) (h .one-closed) m (h .one-seats) in
@@ -110,18 +114,18 @@ module _ (N K M L : ℕ → Type 0) (D : Disjoint N K M L) (E : Disjoint M L N K
       let c : apply vs (apply ws t) ≡ apply ws (apply vs t) = apply-comm N K M L D vs ws t (p .all) (q .all) in
       rw (q₀, p₀) (rw (p₁, q₁) (ap (λ (x : List ℕ). record { table = x; one = p .change .next; two = q .change .next }) c))
 
-  past : (ss : List Step) (r : Step) (b : Both) → Each (Named N K) ss → Named M L r → Ready b → run-one ss (step-two r b) ≡ step-two r (run-one ss b)
+  past : (ss : List Step) (r : Step) (b : Both) → Each (Named N K) ss → Named M L r → Ready N K M L b → run-one ss (step-two r b) ≡ step-two r (run-one ss b)
   unfolding run
   past [] r b m o h = refl
   past (s ∷ ss) r b m o h = ap (run-one ss) (diamond s r b (m .0) o h) ∙ past ss r (step-one s b) (m .1) o (ready-one s b (m .0) h)
 
   -- all of the first and all of the second may change places
-  pub exchange : (ss rs : List Step) (b : Both) → Each (Named N K) ss → Each (Named M L) rs → Ready b → run-one ss (run-two rs b) ≡ run-two rs (run-one ss b)
+  pub exchange : (ss rs : List Step) (b : Both) → Each (Named N K) ss → Each (Named M L) rs → Ready N K M L b → run-one ss (run-two rs b) ≡ run-two rs (run-one ss b)
   unfolding run
   exchange ss [] b m o h = refl
   exchange ss (r ∷ rs) b m o h = exchange ss rs (step-two r b) m (o .1) (ready-two r b (o .0) h) ∙ ap (run-two rs) (past ss r b m (o .0) h)
 
-  pub one-after-other : {ss rs : List Step} (z : Mixture ss rs) (b : Both) → Each (Named N K) ss → Each (Named M L) rs → Ready b
+  pub one-after-other : {ss rs : List Step} (z : Mixture ss rs) (b : Both) → Each (Named N K) ss → Each (Named M L) rs → Ready N K M L b
       → mixed z b ≡ run-two rs (run-one ss b)
   unfolding mixed run
   one-after-other over b m o h = refl

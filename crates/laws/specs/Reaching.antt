@@ -118,24 +118,15 @@ module _ (t : List ℕ) (e : sound t ≡ true) (x y : Transaction) (A : Apart t 
         apart-contexts = λ c a b. A .contexts c (a .0) (a .2) (b .2);
       }
 
-  disjoint′ : Disjoint (Names y) (Reach t y) (Names x) (Reach t x)
-  disjoint′ =
-      record {
-        one = foot t y (A .names-two);
-        two = foot t x (A .names-one);
-        apart-terminations = λ i b a. A .terminations i a b;
-        apart-contexts = λ c b a. A .contexts c (a .0) (a .2) (b .2);
-      }
-
-  ready : Ready (Names x) (Reach t x) (Names y) (Reach t y) disjoint disjoint′ (outset t)
+  ready : Ready (Names x) (Reach t x) (Names y) (Reach t y) (outset t)
   ready = record { one-closed = closed t x e (A .names-one); two-closed = closed t y e (A .names-two); one-seats = tt; two-seats = tt }
 
   pub orders-alike : run-one (stepsOf x) (run-two (stepsOf y) (outset t)) ≡ run-two (stepsOf y) (run-one (stepsOf x) (outset t))
   orders-alike =
-      exchange (Names x) (Reach t x) (Names y) (Reach t y) disjoint disjoint′ (stepsOf x) (stepsOf y) (outset t)
+      exchange (Names x) (Reach t x) (Names y) (Reach t y) disjoint (stepsOf x) (stepsOf y) (outset t)
       (named t x (A .contexts-one) (A .names-one)) (named t y (A .contexts-two) (A .names-two)) ready
 
   pub mixture-alike : (z : Mixture (stepsOf x) (stepsOf y)) → mixed z (outset t) ≡ run-two (stepsOf y) (run-one (stepsOf x) (outset t))
   mixture-alike z =
-      one-after-other (Names x) (Reach t x) (Names y) (Reach t y) disjoint disjoint′ z (outset t)
+      one-after-other (Names x) (Reach t x) (Names y) (Reach t y) disjoint z (outset t)
       (named t x (A .contexts-one) (A .names-one)) (named t y (A .contexts-two) (A .names-two)) ready
