@@ -1,4 +1,5 @@
--- Every definition of reading and running, opened at once: `unfolding opened` lets a transaction be computed from its bytes.
+-- Every definition of crates `base` and `megaco` that stays shut, opened at once: `unfolding opened` lets a call be computed from its bytes.
+-- A new one is named here.
 use Rattle.base.specs.Bytes.{_then_, decimalF, decimal, put}
 use Rattle.base.specs.Lists.{every, has, count, same, before, behind, part, isAt, lowestAbsent}
 use Rattle.base.specs.Pick.{pick}

@@ -77,6 +77,11 @@ pub both-change : (same (runTransaction (read one) start .table) start ≡ false
 unfolding tests
 both-change = (refl, refl)
 
+pub replies : (runTransaction (read one) start .text ≡ text "P=7{C=1{S=L/1/1,A=L/8/31},C=-{MF=L/1/1}}")
+    × (runTransaction (read two) start .text ≡ text "P=8{C=2{A=R/9{ER=430{}},S=L/1/3},C=200{MV=ROOT{ER=411{}}},C=2{A=L/1/6{ER=411{}}}}")
+unfolding tests
+replies = (refl, refl)
+
 pub apart : Apart start (read one) (read two)
 apart = apart-is start (read one) (read two) .0 meets
 
