@@ -13,6 +13,5 @@ pub mod Apart
 pub mod ApartTest
 pub mod Reaching
 pub mod Demand
-pub mod Opened
 pub mod Witness
 pub mod Needed

@@ -17,7 +17,7 @@ use Rattle.laws.specs.Apart.{contextsIn, namesThen, namesIn, Apart}
 use Rattle.laws.specs.ApartTest.{byNumberOrNull?, contextsPlain?, namePlain?, namesPlain?, terminationOf, writtenNumber, named, numbered, standing, reached, terminationsApart?, contextsApart?, apart?, apart-is}
 use Rattle.laws.specs.Reaching.{stepsOf, outset}
 use Rattle.laws.specs.Demand.{EitherOrderOfMessages, demand-3-messages, AsOneAfterOther, any-mixture}
-use Rattle.laws.specs.Opened.{opened}
+use Rattle.megaco.proofs.Opened.{opened}
 
 -- a message with this inside, and the transaction that it reads as
 abbrev pub message : String → List ℕ
