@@ -8,12 +8,12 @@ use lib.Dec.{leb}
 use borrow.Author.Tests.{eqb-true, leb-true}
 use native.Mathlib.Omega.{arith}
 use Rattle.base.specs.Pick.{pick}
-use Rattle.base.specs.Lists.{every, has}
+use Rattle.base.specs.Lists.{every}
 use Rattle.megaco.specs.Bytes.{star, dollar}
 use Rattle.megaco.specs.Tree.{Command, command, Action, action, Transaction, transaction}
 use Rattle.megaco.specs.Table.{terminations, contexts, words, ctx, get, contextWords, sound}
 use Rattle.megaco.specs.Names.{nameOf}
-use Rattle.megaco.specs.Running.{Step, start, orders, steps, fresh}
+use Rattle.megaco.specs.Running.{Step, orders, steps, fresh}
 use Rattle.megaco.specs.declared.Context.{Context}
 use Rattle.megaco.specs.declared.Name.{Name}
 use Rattle.laws.specs.Bools.{clash, and-left, and-right}

@@ -1,7 +1,7 @@
 -- A step acts in its footprint only, and by what it sees of its footprint only.
 use Prim.Native.Nat.{ℕ}
 use mathlib.Core.Path.{_≡_, refl, sym, ap, _∙_}
-use mathlib.Core.Bool.{Bool, true, false, not, _&&_, _||_}
+use mathlib.Core.Bool.{Bool, true, false, _&&_, _||_}
 use mathlib.Core.List.{List, [], _∷_, _++_}
 use mathlib.Core.Option.{Option, none, some}
 use Rattle.base.specs.Pick.{pick}
@@ -9,7 +9,7 @@ use Rattle.megaco.specs.Table.{ctx, get, Write, apply, exists}
 use Rattle.megaco.specs.Tree.{Items, Command, command}
 use Rattle.megaco.specs.Names.{nameOf}
 use Rattle.megaco.specs.Items.{judgeItems, given?}
-use Rattle.megaco.specs.Reply.{Report, tried, Acted}
+use Rattle.megaco.specs.Reply.{Report, Acted}
 use Rattle.megaco.specs.Running.{seen, numberOf, look, Effect, effect, Outcome, outcome, tries, missed, actionError, Aim, misses, gateway, meets, aimRoot, aim, aimed, opOf, isSubtract, barred, lost}
 use Rattle.megaco.specs.Running.{named, tested, unlessOptional, ordered, runCommand, started, Step, start, order, Progress, progress, State, state, begin, advance, proceed, step}
 use Rattle.megaco.specs.declared.Context.{Context}

@@ -5,7 +5,7 @@ use mathlib.Core.Path.{_≡_, refl, sym, ap, _∙_}
 use mathlib.Core.Bool.{Bool, true, false, not, _&&_, _||_}
 use mathlib.Core.List.{List, [], _∷_}
 use lib.ListN.{length, replicate, set}
-use lib.Dec.{ltb, leb, eqb}
+use lib.Dec.{ltb, eqb}
 use borrow.Author.Tests.{le-ltb}
 use Rattle.base.specs.Pick.{pick}
 use Rattle.base.specs.Lists.{same}
@@ -15,8 +15,8 @@ use Rattle.megaco.specs.Reading.{messageR}
 use Rattle.megaco.specs.Table.{sound}
 use Rattle.megaco.specs.Reply.{headerText}
 use Rattle.megaco.specs.Running.{Ran, ran, runMessage}
-use Rattle.megaco.specs.Call.{Called, turnedDown, written, replied, taken, call}
-use Rattle.megaco.proofs.Tests.{and-true, or-false, same-is}
+use Rattle.megaco.specs.Call.{written, replied, taken, call}
+use Rattle.megaco.proofs.Tests.{and-true, same-is}
 use Rattle.megaco.proofs.Opened.{opened}
 
 -- a table, a message, the reply to it and the table after it
