@@ -1,3 +1,17 @@
 pub mod Slots
 pub mod Counting
 pub mod Bounds
+pub mod Bools
+pub mod Frame
+pub mod Views
+pub mod Attempts
+pub mod Steps
+pub mod Mix
+pub mod Membership
+pub mod PlainNames
+pub mod Apart
+pub mod ApartTest
+pub mod Reaching
+pub mod Demand
+pub mod Witness
+pub mod Needed

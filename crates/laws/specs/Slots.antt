@@ -1,16 +1,15 @@
 -- Slots of the table: an address tells its slot back, so different slots never meet.
-use Prim.Native.Nat.{ℕ, zero, suc, _+_, _*_, _-_, _≤_, _<_}
+use Prim.Native.Nat.{ℕ, _+_, _-_, _≤_, _<_}
 use mathlib.Core.Path.{_≡_, refl, sym, ap, _∙_}
 use mathlib.Core.Logic.{_≢_}
-use mathlib.Core.Bool.{Bool, true, false}
 use mathlib.Core.List.{List, [], _∷_}
-use lib.ListN.{length, getD, set, length-set}
+use lib.ListN.{length, length-set}
 use lib.Seq.{getD-set-same, getD-set-other, set-comm}
 use lib.Dec.{ltb}
 use borrow.Author.Tests.{lt-ltb, le-ltb}
 use native.Mathlib.Omega.{arith}
 use Rattle.base.specs.Pick.{pick}
-use Rattle.megaco.specs.Table.{terminations, contexts, words, Cell, prop, rec, Slot, ctx, cell, address, get, Write, write, store, apply}
+use Rattle.megaco.specs.Table.{terminations, contexts, words, prop, rec, Slot, ctx, cell, address, get, Write, write, store, apply}
 
 -- a slot of the table
 abbrev pub Valid : Slot → Type 0

@@ -5,7 +5,7 @@ use mathlib.Core.Path.{_≡_, refl, sym, ap, _∙_}
 use mathlib.Core.Bool.{Bool, true, false, not, _&&_, _||_}
 use mathlib.Core.List.{List, [], _∷_}
 use lib.ListN.{length, replicate, set}
-use lib.Dec.{ltb, leb, eqb}
+use lib.Dec.{ltb, eqb}
 use borrow.Author.Tests.{le-ltb}
 use Rattle.base.specs.Pick.{pick}
 use Rattle.base.specs.Lists.{same}
@@ -14,10 +14,10 @@ use Rattle.megaco.specs.Tokens.{isMid}
 use Rattle.megaco.specs.Reading.{messageR}
 use Rattle.megaco.specs.Table.{sound}
 use Rattle.megaco.specs.Reply.{headerText}
-use Rattle.megaco.specs.Running.{Ran, runMessage}
-use Rattle.megaco.specs.Call.{Called, turnedDown, written, replied, taken, call}
-use Rattle.megaco.proofs.Tests.{and-true, or-false, same-is}
-use Rattle.megaco.proofs.Opened.{computed}
+use Rattle.megaco.specs.Running.{Ran, ran, runMessage}
+use Rattle.megaco.specs.Call.{written, replied, taken, call}
+use Rattle.megaco.proofs.Tests.{and-true, same-is}
+use Rattle.megaco.proofs.Opened.{opened}
 
 -- a table, a message, the reply to it and the table after it
 pub data Row : Type 0 where
@@ -70,6 +70,10 @@ examples =
 
 -- ---- the test of a row, and what it tells
 
+-- the table and the reply of a message that is taken
+computed : List ℕ → List ℕ → List ℕ → Ran
+computed m t own = let x = runMessage (messageR m) t in ran (x .table) (headerText own then x .text)
+
 fits : Ran → List ℕ → List ℕ → Bool
 fits x a u = same (x .table) u && same (x .text) a
 
@@ -92,7 +96,7 @@ Hold [] = Unit {0}
 Hold (r ∷ rs) = Answers r × Hold rs
 
 own-is : isMid own ≡ true
-unfolding computed
+unfolding opened
 own-is = refl
 
 not-true : (b : Bool) → not b ≡ true → b ≡ false
@@ -129,7 +133,7 @@ rows-answer (r ∷ rs) e =
     (row-answers r (p .0), rows-answer rs (p .1))
 
 examples-compute : all-hold examples ≡ true
-unfolding examples all-hold holds admitted fits computed
+unfolding examples all-hold holds admitted fits computed opened
 examples-compute = refl
 
 -- the fourteen examples
