@@ -6,8 +6,9 @@ use table::EPHEMERALS;
 use table::LINE_TERMINATIONS;
 use table::LINES;
 ghost use mathlib.Core.Path.{_≡_};
-ghost use Prim.Native.Nat.{ℕ};
+ghost use Prim.Native.Nat.{ℕ, _-_, _≤_};
 ghost use lib.ListN.{length};
+ghost use lib.Dec.{eqb};
 ghost use Rattle.base.specs.Lists.{same, has, before, behind};
 ghost use Rattle.megaco.specs.Bytes.{slash, isDigit, capital, capitals};
 ghost use Rattle.megaco.specs.Names.{numeral, within, lineName, ephemeralName, plainName, lineRange, wildcardName, nameOf, inRange};
@@ -93,7 +94,7 @@ fn line_name(l: u32, s: u32) -> Name
     ensures { λ r. ⌜ r ≡ lineName l s ⌝ }
 {
     if within(l, LINES) & within(s, CHANNELS as u32) {
-        return Name::Termination(CHANNELS * (l as usize - 1) + (s as usize - 1));
+        return Name::Termination(CHANNELS * one_less(l) + one_less(s));
     }
     Name::Unknown
 }
@@ -103,7 +104,7 @@ fn ephemeral_name(n: u32) -> Name
     ensures { λ r. ⌜ r ≡ ephemeralName n ⌝ }
 {
     if within(n, EPHEMERALS) {
-        return Name::Termination(LINE_TERMINATIONS + (n as usize - 1));
+        return Name::Termination(LINE_TERMINATIONS + one_less(n));
     }
     Name::Unknown
 }
@@ -127,7 +128,7 @@ fn one_digit(a: u8) -> u32
     ensures { λ r. ⌜ r ≡ oneDigit a ⌝ }
 {
     if is_digit(a) {
-        return a as u32 - 48;
+        return digit(a);
     }
     0
 }
@@ -136,9 +137,15 @@ fn two_digits(a: u8, b: u8) -> u32
     ensures { λ r. ⌜ r ≡ twoDigits a b ⌝ }
 {
     if is_digit(a) & is_digit(b) & (a != 48) {
-        return 10 * (a as u32 - 48) + (b as u32 - 48);
+        return 10 * digit(a) + digit(b);
     }
     0
+}
+
+fn digit(b: u8) -> u32
+    ensures { λ r. ⌜ r ≡ b - 48 ⌝ }
+{
+    if b < 48 { 0 } else { b as u32 - 48 }
 }
 
 fn is_digit(b: u8) -> bool
@@ -151,6 +158,12 @@ fn within(x: u32, most: u32) -> bool
     ensures { λ r. ⌜ r ≡ within x most ⌝ }
 {
     (0 < x) & (x <= most)
+}
+
+fn one_less(x: u32) -> usize
+    ensures { λ r. ⌜ r ≡ x - 1 ⌝ }
+{
+    if x == 0 { 0 } else { x as usize - 1 }
 }
 
 // ---- bytes
@@ -173,7 +186,7 @@ fn behind_slash(n: &[u8]) -> &[u8]
 
 // The place of the first `/`, the end if there is none.
 fn slash_place(n: &[u8]) -> usize
-    ensures { λ r. ⌜ r ≡ length (before slash (now (n .entry))) ⌝ }
+    ensures { λ r. ⌜ (r ≡ length (before slash (now (n .entry)))) × (r ≤ length (now (n .entry))) ⌝ }
 {
     let mut i: usize = 0;
     while i < n.len() {
@@ -208,20 +221,30 @@ fn is_text(n: &[u8], text: &[u8]) -> bool
     }
     let mut i: usize = 0;
     while i < n.len() {
-        if capital(n[i]) != text[i] {
+        if is_byte(n[i], text[i]) {
+            i += 1;
+        } else {
             return false;
         }
-        i += 1;
     }
     true
+}
+
+// Whether a byte's capital is this byte.
+fn is_byte(x: u8, b: u8) -> bool
+    ensures { λ r. ⌜ r ≡ eqb (capital x) b ⌝ }
+{
+    capital(x) == b
 }
 
 // A small letter as its capital; any other byte as it is.
 fn capital(b: u8) -> u8
     ensures { λ r. ⌜ r ≡ capital b ⌝ }
 {
-    if (97 <= b) & (b <= 122) {
-        return b - 32;
+    if 97 <= b {
+        if b <= 122 {
+            return b - 32;
+        }
     }
     b
 }

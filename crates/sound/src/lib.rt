@@ -1,5 +1,6 @@
 // Whether a lent table is sound: one pass over the context words, one over the properties, one over the records.
 use table::CONTEXTS;
+use table::EPHEMERAL_PROPERTIES;
 use table::LINE_TERMINATIONS;
 use table::RECORDS;
 use table::TERMINATIONS;

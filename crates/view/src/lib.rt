@@ -12,7 +12,7 @@ ghost use Rattle.base.specs.Pick.{pick};
 ghost use Rattle.base.specs.Bytes.{put};
 ghost use Rattle.megaco.specs.Table.{words, exists};
 ghost use Rattle.megaco.specs.Names.{inRange};
-ghost use Rattle.megaco.specs.Running.{seen, numberOf, freeAt, look, wanted, matches};
+ghost use Rattle.megaco.specs.Running.{seen, numberOf, freeAt, look, wanted, matchesFrom, matches};
 ghost use Rattle.view.specs.Noted.{isMatch, Noted, Matched};
 
 // A context's number; null, `$` and `*` are 0.
@@ -110,17 +110,24 @@ fn note(out: &mut [u32], n: usize, i: u32, yes: bool) -> usize
     }
 }
 
+// Notes whom a wildcard matches in a row of context words.
+fn note_row(row: &[u32], op: Op, c: u32, r: Range, out: &mut [u32]) -> usize
+    requires { ⌜ length (now row) < 65536 ⌝ }
+    ensures { λ n. ⌜ Matched (matchesFrom op c r 0 (now (row .entry))) (now (out .entry)) (now (out .exit)) n ⌝ }
+{
+    let mut n: usize = 0;
+    let mut i: usize = 0;
+    while i < row.len() {
+        n = note(out, n, i as u32, is_match(op, c, r, i, row[i]));
+        i += 1;
+    }
+    n
+}
+
 // Notes whom a wildcard matches, in ascending number, before anything changes; gives how many.
 pub fn note_matches(table: &[u32], op: Op, at: Context, r: Range, out: &mut [u32]) -> usize
     requires { ⌜ length (now table) ≡ words ⌝ }
     ensures { λ n. ⌜ Matched (matches op at r (now (table .entry))) (now (out .entry)) (now (out .exit)) n ⌝ }
 {
-    let c = number_of(at);
-    let mut n: usize = 0;
-    let mut i: usize = 0;
-    while i < table::TERMINATIONS {
-        n = note(out, n, i as u32, is_match(op, c, r, i, table[i]));
-        i += 1;
-    }
-    n
+    note_row(&table[0..table::TERMINATIONS], op, number_of(at), r, out)
 }

@@ -1,21 +1,15 @@
 use borrow.Author.Needs.{needs}
-use native.Mathlib.Omega.{arith}
+use Rattle.base.specs.Pick.{picks}
+use Rattle.megaco.specs.Bytes.{capital}
+use Rattle.names.proofs.NameLaws.{capital-yes, capital-low, capital-high}
 use Rattle.names.proofs.capital.Statement.{statement}
 use Rattle.names.proofs.capital.Tie as tie
-use Rattle.names.proofs.capital.Reads as reads
-use Rattle.names.proofs.capital.Lts as lts
-
--- src/lib.rt:224:16
-sub-result : tie.Need-sub-result
-sub-result c = ?
-
--- src/lib.rt:224:9
-returns : tie.Need-returns
-returns c = ?
-
--- src/lib.rt:220:1
-returns-2 : tie.Need-returns-2
-returns-2 c = ?
 
 pub capital-spec : {M : Type 1} → statement M
-capital-spec = tie.close (tie.spec sub-result returns returns-2)
+capital-spec =
+    tie.close
+    (tie.spec
+    (λ c. search needs)
+    (λ c. search capital-yes)
+    (λ c. search capital-high)
+    (λ c. search capital-low))

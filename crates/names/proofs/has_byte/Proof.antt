@@ -1,43 +1,17 @@
 use borrow.Author.Needs.{needs}
-use native.Mathlib.Omega.{arith}
+use Prim.Native.Nat.{_-_}
+use mathlib.Core.Path.{_≡_, refl}
+use lib.ListN.{length, drop}
+use Rattle.base.specs.Lists.{has}
+use Rattle.names.proofs.NameLaws.{has-on, has-here, has-end}
 use Rattle.names.proofs.has_byte.Statement.{statement}
 use Rattle.names.proofs.has_byte.Tie as tie
-use Rattle.names.proofs.has_byte.Reads as reads
-use Rattle.names.proofs.has_byte.Lts as lts
 
 abbrev Inv-loop : tie.InvT-loop
-Inv-loop n b i₀ i = ?
+Inv-loop n b i₀ i = has b n ≡ has b (drop i n)
 
 abbrev μ-loop : tie.MeasureT-loop
-μ-loop n b i₀ i = ?
-
--- src/lib.rt:193:5
-loop-holds : tie.Need-loop-holds Inv-loop μ-loop
-loop-holds c = ?
-
--- src/lib.rt:194:12
-shared-slice-read-if1 : tie.Need-shared-slice-read-if1 Inv-loop μ-loop
-shared-slice-read-if1 c = ?
-
--- src/lib.rt:195:13
-returns : tie.Need-returns Inv-loop μ-loop
-returns c = ?
-
--- src/lib.rt:197:9
-add-i : tie.Need-add-i Inv-loop μ-loop
-add-i c = ?
-
--- src/lib.rt:193:5
-loop-less : tie.Need-loop-less Inv-loop μ-loop
-loop-less c = ?
-
--- src/lib.rt:193:5
-loop-again : tie.Need-loop-again Inv-loop μ-loop
-loop-again c = ?
-
--- src/lib.rt:189:1
-returns-2 : tie.Need-returns-2 Inv-loop μ-loop
-returns-2 c = ?
+μ-loop n b i₀ i = length n - i
 
 pub has-byte-spec : {M : Type 1} → statement M
 has-byte-spec =
@@ -45,10 +19,10 @@ has-byte-spec =
     (tie.spec
     Inv-loop
     μ-loop
-    loop-holds
-    shared-slice-read-if1
-    returns
-    add-i
-    loop-less
-    loop-again
-    returns-2)
+    (λ c. refl)
+    (λ c. search needs)
+    (λ c. search has-here)
+    (λ c. search needs)
+    (λ c. search needs)
+    (λ c. search has-on)
+    (λ c. search has-end))

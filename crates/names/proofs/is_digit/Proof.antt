@@ -1,13 +1,10 @@
-use borrow.Author.Needs.{needs}
-use native.Mathlib.Omega.{arith}
+use mathlib.Core.Path.{refl}
+use Rattle.megaco.specs.Bytes.{isDigit}
 use Rattle.names.proofs.is_digit.Statement.{statement}
 use Rattle.names.proofs.is_digit.Tie as tie
-use Rattle.names.proofs.is_digit.Reads as reads
-use Rattle.names.proofs.is_digit.Lts as lts
-
--- src/lib.rt:144:1
-returns : tie.Need-returns
-returns c = ?
 
 pub is-digit-spec : {M : Type 1} → statement M
-is-digit-spec = tie.close (tie.spec returns)
+is-digit-spec =
+    tie.close
+    (tie.spec
+    (λ c. unfold isDigit in refl))

@@ -1,43 +1,19 @@
 use borrow.Author.Needs.{needs}
 use native.Mathlib.Omega.{arith}
+use Prim.Native.Nat.{_+_, _-_, _≤_}
+use mathlib.Core.Path.{_≡_}
+use lib.ListN.{length, drop}
+use Rattle.base.specs.Lists.{before}
+use Rattle.megaco.specs.Bytes.{slash}
+use Rattle.names.proofs.NameLaws.{before-on, before-here, before-end}
 use Rattle.names.proofs.slash_place.Statement.{statement}
 use Rattle.names.proofs.slash_place.Tie as tie
-use Rattle.names.proofs.slash_place.Reads as reads
-use Rattle.names.proofs.slash_place.Lts as lts
 
 abbrev Inv-loop : tie.InvT-loop
-Inv-loop n i₀ i = ?
+Inv-loop n i₀ i = (i ≤ length n) × (length (before slash n) ≡ i + length (before slash (drop i n)))
 
 abbrev μ-loop : tie.MeasureT-loop
-μ-loop n i₀ i = ?
-
--- src/lib.rt:179:5
-loop-holds : tie.Need-loop-holds Inv-loop μ-loop
-loop-holds c = ?
-
--- src/lib.rt:180:12
-shared-slice-read-if1 : tie.Need-shared-slice-read-if1 Inv-loop μ-loop
-shared-slice-read-if1 c = ?
-
--- src/lib.rt:181:13
-returns : tie.Need-returns Inv-loop μ-loop
-returns c = ?
-
--- src/lib.rt:183:9
-add-i : tie.Need-add-i Inv-loop μ-loop
-add-i c = ?
-
--- src/lib.rt:179:5
-loop-less : tie.Need-loop-less Inv-loop μ-loop
-loop-less c = ?
-
--- src/lib.rt:179:5
-loop-again : tie.Need-loop-again Inv-loop μ-loop
-loop-again c = ?
-
--- src/lib.rt:175:1
-returns-2 : tie.Need-returns-2 Inv-loop μ-loop
-returns-2 c = ?
+μ-loop n i₀ i = length n - i
 
 pub slash-place-spec : {M : Type 1} → statement M
 slash-place-spec =
@@ -45,10 +21,10 @@ slash-place-spec =
     (tie.spec
     Inv-loop
     μ-loop
-    loop-holds
-    shared-slice-read-if1
-    returns
-    add-i
-    loop-less
-    loop-again
-    returns-2)
+    (λ c. (search needs, omega arith))
+    (λ c. search needs)
+    (λ c. (search before-here, search needs))
+    (λ c. search needs)
+    (λ c. search needs)
+    (λ c. (search needs, search before-on))
+    (λ c. (search before-end, search needs)))
