@@ -1,13 +1,14 @@
 // Leaf readers: bytes and their classes, white space, rows of bytes, given bytes, keywords.
 ghost use mathlib.Core.Path.{_≡_};
 ghost use Prim.Native.Nat.{_<_};
-ghost use lib.Dec.{eqb};
+ghost use lib.Dec.{eqb, ltb};
+ghost use Rattle.base.specs.Pick.{pick};
 ghost use Rattle.base.specs.Lists.{isAt, same};
-ghost use Rattle.megaco.specs.Bytes.{isLetter, isDigit, isLineEnd, inClass, capital, capitals};
+ghost use Rattle.megaco.specs.Bytes.{isLetter, isDigit, isWhite, isLineEnd, isComment, inClass, capital, capitals};
 ghost use Rattle.megaco.specs.White.{goesOn, insideAfter, stopAt, whiteAt, sepAt};
 ghost use Rattle.megaco.specs.Keywords.{forms, spelt, spells};
 ghost use Rattle.megaco.specs.Tokens.{markAt, signAt, letterAt, rowAt};
-ghost use Rattle.text.specs.Classes.{OfBit, bitOf, whiteBit};
+ghost use Rattle.text.specs.Classes.{lowOf, highOf, OfMaps};
 use megaco::Class;
 use megaco::Parsed;
 use megaco::Token;
@@ -55,300 +56,59 @@ pub fn capital(b: u8) -> u8
 
 // ---- classes of bytes
 
-// What each byte may stand in: 1 a word, 2 a name, 4 a plain value, 8 a quoted value, 16 a domain name, 32 white space, 64 a comment
-// with its line end.
-const CLASSES: [u8; 256] = [
-    0,
-    0,
-    0,
-    0,
-    0,
-    0,
-    0,
-    0,
-    0,
-    104,
-    96,
-    0,
-    0,
-    96,
-    0,
-    0,
-    0,
-    0,
-    0,
-    0,
-    0,
-    0,
-    0,
-    0,
-    0,
-    0,
-    0,
-    0,
-    0,
-    0,
-    0,
-    0,
-    104,
-    76,
-    64,
-    72,
-    78,
-    76,
-    76,
-    76,
-    76,
-    76,
-    78,
-    76,
-    72,
-    92,
-    92,
-    78,
-    95,
-    95,
-    95,
-    95,
-    95,
-    95,
-    95,
-    95,
-    95,
-    95,
-    72,
-    104,
-    72,
-    72,
-    72,
-    76,
-    76,
-    95,
-    95,
-    95,
-    95,
-    95,
-    95,
-    95,
-    95,
-    95,
-    95,
-    95,
-    95,
-    95,
-    95,
-    95,
-    95,
-    95,
-    95,
-    95,
-    95,
-    95,
-    95,
-    95,
-    95,
-    95,
-    95,
-    72,
-    76,
-    72,
-    76,
-    79,
-    76,
-    95,
-    95,
-    95,
-    95,
-    95,
-    95,
-    95,
-    95,
-    95,
-    95,
-    95,
-    95,
-    95,
-    95,
-    95,
-    95,
-    95,
-    95,
-    95,
-    95,
-    95,
-    95,
-    95,
-    95,
-    95,
-    95,
-    72,
-    76,
-    72,
-    76,
-    0,
-    0,
-    0,
-    0,
-    0,
-    0,
-    0,
-    0,
-    0,
-    0,
-    0,
-    0,
-    0,
-    0,
-    0,
-    0,
-    0,
-    0,
-    0,
-    0,
-    0,
-    0,
-    0,
-    0,
-    0,
-    0,
-    0,
-    0,
-    0,
-    0,
-    0,
-    0,
-    0,
-    0,
-    0,
-    0,
-    0,
-    0,
-    0,
-    0,
-    0,
-    0,
-    0,
-    0,
-    0,
-    0,
-    0,
-    0,
-    0,
-    0,
-    0,
-    0,
-    0,
-    0,
-    0,
-    0,
-    0,
-    0,
-    0,
-    0,
-    0,
-    0,
-    0,
-    0,
-    0,
-    0,
-    0,
-    0,
-    0,
-    0,
-    0,
-    0,
-    0,
-    0,
-    0,
-    0,
-    0,
-    0,
-    0,
-    0,
-    0,
-    0,
-    0,
-    0,
-    0,
-    0,
-    0,
-    0,
-    0,
-    0,
-    0,
-    0,
-    0,
-    0,
-    0,
-    0,
-    0,
-    0,
-    0,
-    0,
-    0,
-    0,
-    0,
-    0,
-    0,
-    0,
-    0,
-    0,
-    0,
-    0,
-    0,
-    0,
-    0,
-    0,
-    0,
-    0,
-    0,
-    0,
-    0,
-    0,
-    0,
-    0,
-    0,
-    0,
-    0,
-    0,
-    0,
-    0,
-    0,
-];
-
-// Whether a byte's entry has a bit.
-fn has_bit(b: u8, bit: u8) -> bool
-    ensures { λ r. ⌜ OfBit b bit r ⌝ }
-{
-    CLASSES[b as usize] & bit != 0
-}
-
-fn bit_of(k: Class) -> u8
-    ensures { λ r. ⌜ r ≡ bitOf k ⌝ }
+// A class as two maps: bit n of the low one for byte n, of the high one for byte 64 + n.
+fn low_of(k: Class) -> u64
+    ensures { λ r. ⌜ r ≡ lowOf k ⌝ }
 {
     match k {
-        Class::WordByte => 1,
-        Class::NameByte => 2,
-        Class::SafeByte => 4,
-        Class::QuotedByte => 8,
-        Class::DomainByte => 16,
+        Class::WordByte => 0x03ff_0000_0000_0000,
+        Class::NameByte => 0x03ff_8410_0000_0000,
+        Class::SafeByte => 0x83ff_eff2_0000_0000,
+        Class::QuotedByte => 0xffff_fffb_0000_0200,
+        Class::DomainByte => 0x03ff_6000_0000_0000,
     }
+}
+
+fn high_of(k: Class) -> u64
+    ensures { λ r. ⌜ r ≡ highOf k ⌝ }
+{
+    match k {
+        Class::WordByte => 0x07ff_fffe_87ff_fffe,
+        Class::NameByte => 0x07ff_fffe_87ff_fffe,
+        Class::SafeByte => 0x57ff_ffff_d7ff_ffff,
+        Class::QuotedByte => 0x7fff_ffff_ffff_ffff,
+        Class::DomainByte => 0x07ff_fffe_07ff_fffe,
+    }
+}
+
+fn half(b: u8, low: u64, high: u64) -> u64
+    ensures { λ r. ⌜ r ≡ pick (ltb b 64) low high ⌝ }
+{
+    if b < 64 { low } else { high }
+}
+
+// Whether a byte is in the class that has these maps.
+fn in_maps(b: u8, low: u64, high: u64) -> bool
+    ensures { λ r. ⌜ OfMaps b low high r ⌝ }
+{
+    (b < 128) & ((half(b, low, high) >> (b % 64)) & 1 == 1)
 }
 
 pub fn in_class(k: Class, b: u8) -> bool
     ensures { λ r. ⌜ r ≡ inClass k b ⌝ }
 {
-    has_bit(b, bit_of(k))
+    in_maps(b, low_of(k), high_of(k))
 }
 
 // The end of the bytes of a class that stand here.
 pub fn row(s: &[u8], at: usize, k: Class) -> usize
     ensures { λ r. ⌜ r ≡ rowAt k (now (s .entry)) at ⌝ }
 {
-    let bit = bit_of(k);
+    let low = low_of(k);
+    let high = high_of(k);
     let mut i = at;
     while i < s.len() {
-        if has_bit(s[i], bit) {
+        if in_maps(s[i], low, high) {
             i += 1;
         } else {
             return i;
@@ -359,24 +119,36 @@ pub fn row(s: &[u8], at: usize, k: Class) -> usize
 
 // ---- white space
 
-// The bit of the bytes that white space goes on with, inside a comment or outside one.
-fn white_bit(inside: bool) -> u8
-    ensures { λ r. ⌜ r ≡ whiteBit inside ⌝ }
+fn is_white(b: u8) -> bool
+    ensures { λ r. ⌜ r ≡ isWhite b ⌝ }
 {
-    if inside { 64 } else { 32 }
+    (b == 0x20) | (b == 0x09) | (b == 0x0d) | (b == 0x0a)
 }
 
+fn is_line_end(b: u8) -> bool
+    ensures { λ r. ⌜ r ≡ isLineEnd b ⌝ }
+{
+    (b == 0x0d) | (b == 0x0a)
+}
+
+fn is_comment(b: u8) -> bool
+    ensures { λ r. ⌜ r ≡ isComment b ⌝ }
+{
+    (b == 0x09) | (0x20 <= b) & (b <= 0x7e)
+}
+
+// A byte that white space goes on with, inside a comment or outside one.
 fn goes_on(inside: bool, b: u8) -> bool
     ensures { λ r. ⌜ r ≡ goesOn inside b ⌝ }
 {
-    has_bit(b, white_bit(inside))
+    inside & (is_comment(b) | is_line_end(b)) | !inside & (is_white(b) | (b == 0x3b))
 }
 
 // A comment begins with `;` and ends with its line end.
 fn inside_after(inside: bool, b: u8) -> bool
     ensures { λ r. ⌜ r ≡ insideAfter inside b ⌝ }
 {
-    inside & !((b == 0x0d) | (b == 0x0a)) | !inside & (b == 0x3b)
+    inside & !is_line_end(b) | !inside & (b == 0x3b)
 }
 
 fn stop_at(inside: bool, i: usize) -> Parsed
