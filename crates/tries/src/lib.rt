@@ -37,16 +37,16 @@ pub enum Target {
 pub fn put_received(out: &mut [u8], p: usize, first: bool, op: Op, name: &[u8], code: u32) -> usize
     ensures { λ r. ⌜ Appended (now (out .entry)) p (reportsText first (tried op (now (name .entry)) code ∷ [])) (now (out .exit)) r ⌝ }
 {
-    let q = reply::put_separator(out, p, first);
-    reply::put_tried(out, q, op, name, code)
+    let q = report::put_separator(out, p, first);
+    report::put_tried(out, q, op, name, code)
 }
 
 // A report under a termination's full name.
 fn put_full(out: &mut [u8], p: usize, first: bool, op: Op, i: usize, code: u32) -> usize
     ensures { λ r. ⌜ Appended (now (out .entry)) p (reportsText first (tried op (nameText i) code ∷ [])) (now (out .exit)) r ⌝ }
 {
-    let q = reply::put_separator(out, p, first);
-    reply::put_named(out, q, op, i, code)
+    let q = report::put_separator(out, p, first);
+    report::put_named(out, q, op, i, code)
 }
 
 // The report of an attempt that failed: a wildcard's bears the full name, another the bytes received.
