@@ -4,7 +4,7 @@ pub mod Bounds
 pub mod Bools
 pub mod Frame
 pub mod Views
-pub mod Attempts
+pub mod Written
 pub mod Steps
 pub mod Mix
 pub mod Membership
