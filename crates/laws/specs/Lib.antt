@@ -1,3 +1,4 @@
 pub mod Tests
 pub mod Slots
 pub mod Counting
+pub mod Sound

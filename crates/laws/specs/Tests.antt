@@ -22,6 +22,26 @@ pub or-neither : (a b : Bool) → a || b ≡ false → (a ≡ false) × (b ≡ f
 or-neither true b e = absurd (clash e)
 or-neither false b e = (refl, e)
 
+-- a test, and then another
+pub pick-both : (a b : Bool) → pick a b false ≡ true → (a ≡ true) × (b ≡ true)
+unfolding pick
+pick-both true b e = (refl, e)
+pick-both false b e = absurd (clash (sym e))
+
+pub both-pick : (a b : Bool) → a ≡ true → b ≡ true → pick a b false ≡ true
+unfolding pick
+both-pick a b p q = rw p q
+
+-- a test that must not hold, and then another
+pub pick-other : (a b : Bool) → pick a false b ≡ true → (a ≡ false) × (b ≡ true)
+unfolding pick
+pick-other true b e = absurd (clash (sym e))
+pick-other false b e = (refl, e)
+
+pub other-pick : (a b : Bool) → a ≡ false → b ≡ true → pick a false b ≡ true
+unfolding pick
+other-pick a b p q = rw p q
+
 -- what holds of both holds of the one picked
 pub pick-of {ℓ} : {A : Type ℓ} (P : A → Type 0) (b : Bool) {x y : A} → (b ≡ true → P x) → (b ≡ false → P y) → P (pick b x y)
 unfolding pick
