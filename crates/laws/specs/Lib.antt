@@ -2,3 +2,4 @@ pub mod Tests
 pub mod Slots
 pub mod Counting
 pub mod Sound
+pub mod Moved
