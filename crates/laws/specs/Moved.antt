@@ -6,7 +6,7 @@ use mathlib.Core.Bool.{Bool, true, false, _&&_, and-true, and-false}
 use mathlib.Core.List.{List, [], _∷_}
 use lib.ListN.{length}
 use lib.Dec.{leb, eqb}
-use borrow.Author.Tests.{eqb-true, eqb-false, leb-true, leb-false}
+use borrow.Author.Tests.{eqb-true, eq-eqb, leb-true, leb-false}
 use native.Mathlib.Omega.{arith}
 use Rattle.base.specs.Pick.{pick}
 use Rattle.megaco.specs.Table.{lineTerminations, terminations, contexts, words, most, prop, rec, ctx, cell, get, Write, write, apply, members}
@@ -85,6 +85,11 @@ pub record Goes (t : List ℕ) (new last : Bool) (g d i x y : ℕ) : Type 0 wher
   pub ends : last ≡ true → 0 < d
   pub judged : 0 < d → last ≡ leb (members d t) 1
 
+moved-within : (t : List ℕ) (new last : Bool) (g d i x y : ℕ) → Whole t → Goes t new last g d i x y → Within (moving new last g d i x y)
+moved-within t new last g d i x y W G =
+    let l : d ≤ contexts = rw (G .from) at (W .place i (G .small)) in
+    moving-within g d i x y new last (G .small) (λ e. (G .made e .0, G .low)) (λ e. (G .ends e, l))
+
 pub moved-sound : (t : List ℕ) (new last : Bool) (g d i x y : ℕ) → Whole t → Goes t new last g d i x y → Whole (apply (moving new last g d i x y) t)
 unfolding pick
 moved-sound t new last g d i x y W G =
@@ -97,11 +102,8 @@ moved-sound t new last g d i x y W G =
       held = held;
     })
   where
-    d128 : d ≤ contexts
-    d128 = rw (G .from) at (W .place i (G .small))
-
     within : Within (moving new last g d i x y)
-    within = moving-within g d i x y new last (G .small) (λ e. (G .made e .0, G .low)) (λ e. (G .ends e, d128))
+    within = moved-within t new last g d i x y W G
 
     absent : (j : ℕ) → lineTerminations ≤ j → j < terminations → holds (moving new last g d i x y) (ctx j) (get t (ctx j)) ≡ 0
         → holds (moving new last g d i x y) (cell (prop j)) (get t (cell (prop j))) ≡ 0
@@ -152,3 +154,60 @@ moved-sound t new last g d i x y W G =
             let s = W .held c p q in
             omega arith
         by a b false false _ _ e f k = let s = W .held c p q in omega arith
+
+-- the termination stands there then
+pub moved-here : (t : List ℕ) (new last : Bool) (g d i x y : ℕ) → Whole t → Goes t new last g d i x y → get (apply (moving new last g d i x y) t) (ctx i) ≡ x
+unfolding pick
+moved-here t new last g d i x y W G =
+    get-apply (moving new last g d i x y) (ctx i) t (moved-within t new last g d i x y W G) (G .small) (W .long)
+    ∙ moving-context g d i x y new last i (get t (ctx i)) ∙ rw (eq-eqb i i refl)
+
+-- ---- a word alone changes
+
+-- a property: no termination goes
+pub modified-place : (t : List ℕ) (i y : ℕ) → length t ≡ words → i < terminations → (j : ℕ) → j < terminations
+    → get (apply (write (cell (prop i)) y ∷ []) t) (ctx j) ≡ get t (ctx j)
+unfolding pick
+modified-place t i y l b j h = get-apply (write (cell (prop i)) y ∷ []) (ctx j) t (b, tt) h l
+
+pub modified-sound : (t : List ℕ) (i y : ℕ) → Whole t → i < terminations → SoundWord y → (lineTerminations ≤ i → get t (ctx i) ≡ 0 → y ≡ 0)
+    → Whole (apply (write (cell (prop i)) y ∷ []) t)
+unfolding pick
+modified-sound t i y W b s a =
+    landed ws t (W .long)
+    (record {
+      within = (b, tt);
+      place = W .place;
+      word = λ j h. pick-of SoundWord (eqb i j) (λ _. s) (λ _. W .word j h);
+      absent = λ j k h z. pick-of (λ (v : ℕ). v ≡ 0) (eqb i j) (λ e. let n : i ≡ j = eqb-true i j e in a (omega arith) (rw n z)) (λ _. W .absent j k h z);
+      held = λ c p q. rw (same c) (W .held c p q);
+    })
+  where
+    ws : List Write
+    ws = write (cell (prop i)) y ∷ []
+
+    same : (c : ℕ) → members c (apply ws t) ≡ members c t
+    same c = members-same c t (apply ws t) (length-apply ws t) (modified-place t i y (W .long) b)
+
+-- the record of a context that exists
+pub recorded-sound : (t : List ℕ) (c r : ℕ) → Whole t → 0 < c → c ≤ contexts → 0 < get t (cell (rec c)) → 0 < r → r ≤ 32
+    → Whole (apply (write (cell (rec c)) r ∷ []) t)
+unfolding pick
+recorded-sound t c r W p q h k l =
+    landed ws t (W .long)
+    (record {
+      within = ((p, q), tt);
+      place = W .place;
+      word = W .word;
+      absent = W .absent;
+      held = λ e u v. rw (same e) (pick-of (λ (z : ℕ). SoundRecord z (members e t)) (eqb c e) (λ n. by e (eqb-true c e n) (W .held e u v)) (λ _. W .held e u v));
+    })
+  where
+    ws : List Write
+    ws = write (cell (rec c)) r ∷ []
+
+    same : (e : ℕ) → members e (apply ws t) ≡ members e t
+    same e = members-same e t (apply ws t) (length-apply ws t) (λ j b. get-apply ws (ctx j) t ((p, q), tt) b (W .long))
+
+    by : (e : ℕ) → c ≡ e → SoundRecord (get t (cell (rec e))) (members e t) → SoundRecord r (members e t)
+    by e n s = let z : 0 < get t (cell (rec e)) = subst (λ (j : ℕ). 0 < get t (cell (rec j))) n h in omega arith

@@ -122,23 +122,23 @@ at-records cs c (r ∷ rs) f =
 -- ---- the parts of a table
 
 module _ (t : List ℕ) (l : length t ≡ words) where
-  context-words : length (contextWords t) ≡ terminations
+  pub context-words : length (contextWords t) ≡ terminations
   unfolding contextWords
   context-words = simp length-take (omega arith)
 
-  property-words : length (propertyWords t) ≡ terminations
+  pub property-words : length (propertyWords t) ≡ terminations
   unfolding propertyWords
   property-words = simp (length-take, length-drop) (omega arith)
 
-  record-words : length (recordWords t) ≡ contexts
+  pub record-words : length (recordWords t) ≡ contexts
   unfolding recordWords
   record-words = simp (length-take, length-drop) (omega arith)
 
-  ephemeral-contexts : length (ephemeralContexts t) ≡ ephemerals
+  pub ephemeral-contexts : length (ephemeralContexts t) ≡ ephemerals
   unfolding ephemeralContexts
   ephemeral-contexts = simp length-drop (omega (arith, context-words))
 
-  ephemeral-properties : length (ephemeralProperties t) ≡ ephemerals
+  pub ephemeral-properties : length (ephemeralProperties t) ≡ ephemerals
   unfolding ephemeralProperties
   ephemeral-properties = simp length-drop (omega (arith, property-words))
 

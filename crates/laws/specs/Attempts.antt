@@ -1,0 +1,297 @@
+-- An attempt leaves a sound table sound, in a numbered context, in null and in `$`.
+use Prim.Native.Nat.{ℕ, zero, suc, _+_, _*_, _-_, _/_, _%_, _≤_, _<_, min}
+use mathlib.Core.Path.{_≡_, refl, sym, ap, _∙_, subst}
+use mathlib.Core.Logic.{_≢_}
+use mathlib.Core.Bool.{Bool, true, false, not, _&&_, _||_}
+use mathlib.Core.List.{List, [], _∷_}
+use mathlib.Core.Option.{Option, none, some}
+use lib.ListN.{length, getD}
+use lib.Dec.{ltb, leb, eqb}
+use borrow.Author.Tests.{eqb-true, eqb-false, eq-eqb, ltb-true, ltb-false, lt-ltb, leb-true, leb-false, le-leb, not-false}
+use native.Mathlib.Omega.{arith}
+use Rattle.base.specs.Pick.{pick}
+use Rattle.base.specs.Lists.{lowestAbsent}
+use Rattle.megaco.specs.declared.Context.{Context}
+use Rattle.megaco.specs.declared.Context.the-variants.{Null, Numbered, Choose, All}
+use Rattle.megaco.specs.declared.Op.{Op}
+use Rattle.megaco.specs.declared.Op.the-variants.{Add, Modify, Subtract, Move}
+use Rattle.megaco.specs.declared.Values.{Values}
+use Rattle.megaco.specs.declared.Seen.{Seen}
+use Rattle.megaco.specs.declared.View.{View}
+use Rattle.megaco.specs.Table.{lineTerminations, terminations, contexts, words, most, prop, rec, ctx, cell, get, Write, write, apply, recordWords, isEphemeral, exists, known, members, freeContext, modeOf, stateOf, sound}
+use Rattle.megaco.specs.Items.{update}
+use Rattle.megaco.specs.Running.{Check, check, Result, refused, done, unseen, seen, numberOf, freeAt, look, isChoose, target, roomChecks, checks, joining, leaving, placed, added, subtracted, changes, attempt, settled, Effect, concluded, effect, Outcome, outcome, tries, isModify}
+use Rattle.laws.specs.Tests.{clash, and-both, both-and, or-neither, pick-of, Passed, judged}
+use Rattle.laws.specs.Counting.{member, Absent, lowest}
+use Rattle.laws.specs.Sound.{SoundWord, SoundRecord, Whole, record-words, record-at}
+use Rattle.laws.specs.Values.{Fair, update-sound}
+use Rattle.laws.specs.Aims.{Meant, Each, none, more, each-on}
+use Rattle.laws.specs.Moved.{moving, Goes, moved-sound, moved-here, modified-place, modified-sound}
+
+-- ---- what an attempt sees
+
+known-both : (c : ℕ) → known c ≡ true → (0 < c) × (c ≤ contexts)
+unfolding known
+known-both c e = let b = and-both (ltb 0 c) (leb c contexts) e in (ltb-true 0 c (b .0), leb-true c contexts (b .1))
+
+both-known : (c : ℕ) → 0 < c → c ≤ contexts → known c ≡ true
+unfolding known
+both-known c p q = both-and (ltb 0 c) (leb c contexts) (lt-ltb 0 c p) (le-leb c contexts q)
+
+seen-members : (c : ℕ) (t : List ℕ) → 0 < c → c ≤ contexts → seen c t .members ≡ members c t
+unfolding seen pick
+seen-members c t p q = rw (both-known c p q, seen)
+
+seen-held : (c : ℕ) (t : List ℕ) → 0 < c → c ≤ contexts → seen c t .held ≡ get t (cell (rec c))
+unfolding seen pick
+seen-held c t p q = rw (both-known c p q, seen)
+
+-- a record seen that is not 0 is that of a context
+pub seen-there : (c : ℕ) (t : List ℕ) → 0 < seen c t .held → (0 < c) × (c ≤ contexts) × (0 < get t (cell (rec c)))
+unfolding seen pick
+seen-there c t h = by (known c) refl h
+  where
+    here : Seen
+    here = record { held = get t (cell (rec c)); members = members c t }
+
+    by : (b : Bool) → known c ≡ b → 0 < (pick b here unseen) .held → (0 < c) × (c ≤ contexts) × (0 < get t (cell (rec c)))
+    by true e h = let k = known-both c e in (k .0, k .1, h)
+    by false e h = absurd (omega arith)
+
+-- ---- what the tests of an attempt tell: the laws below know no places among them
+
+may-join : (at : Context) (v : View) → Passed (roomChecks at v) → (isChoose at ≡ true → 0 < v .free) × (v .there .members < most)
+unfolding roomChecks
+may-join at v p =
+    (λ e. let z : eqb (v .free) 0 ≡ false = rw e at (p .0) in omega (arith, eqb-false (v .free) 0 z), leb-false most (v .there .members) (p .1 .0))
+
+may-add : (at : Context) (v : View) → Passed (checks Add at v) → (v .here ≡ 0) × Passed (roomChecks at v)
+unfolding checks
+may-add at v p = (eqb-true (v .here) 0 (not-false (eqb (v .here) 0) (p .0)), p .1)
+
+may-modify : (at : Context) (v : View) → Passed (checks Modify at v) → v .here ≡ numberOf at
+unfolding checks
+may-modify at v p = eqb-true (v .here) (numberOf at) (not-false (eqb (v .here) (numberOf at)) (p .0))
+
+may-subtract : (at : Context) (v : View) → Passed (checks Subtract at v) → v .here ≡ numberOf at
+unfolding checks
+may-subtract at v p = eqb-true (v .here) (numberOf at) (not-false (eqb (v .here) (numberOf at)) (p .0))
+
+may-move : (at : Context) (v : View) → Passed (checks Move at v) → (0 < v .here) × (v .here ≢ numberOf at) × Passed (roomChecks at v)
+unfolding checks
+may-move at v p = (omega (arith, eqb-false (v .here) 0 (p .0)), eqb-false (v .here) (numberOf at) (p .1 .0), p .1 .1)
+
+-- ---- what an attempt relies on, beside a sound table
+
+-- a context that a termination may join: it exists, or it will be made
+pub data Joins : Context → List ℕ → Type 0 where
+  anew : {t : List ℕ} → Joins Choose t
+  there : {c : ℕ} {t : List ℕ} → 0 < c → c ≤ contexts → 0 < get t (cell (rec c)) → Joins (Numbered c) t
+
+-- a context that a termination may leave
+pub data Stands : Context → Type 0 where
+  stands : {c : ℕ} → 0 < c → Stands (Numbered c)
+
+abbrev pub Ready : Op → Context → List ℕ → Type 0
+Ready Add at t = Joins at t
+Ready Modify at t = Unit {0}
+Ready Subtract at t = Stands at
+Ready Move at t = Joins at t
+
+-- a record that a context may have
+pub record Present (g : ℕ) : Type 0 where
+  pub some : 0 < g
+  pub low : g ≤ 32
+
+-- ---- the context that an attempt joins
+
+record Target (at : Context) (t : List ℕ) (x : ℕ) : Type 0 where
+  some : 0 < x
+  low : x ≤ contexts
+  room : members x t < most
+  fresh : isChoose at ≡ true → get t (cell (rec x)) ≡ 0
+  there : isChoose at ≡ false → 0 < get t (cell (rec x))
+  named : isChoose at ≡ false → x ≡ numberOf at
+
+-- the lowest number absent has no record and no members
+free-target : (t : List ℕ) → Whole t → 0 < freeContext t → Target Choose t (freeContext t)
+unfolding freeContext isChoose
+free-target t W h =
+    let a = lowest 1 (recordWords t) h in
+    let b : a .place < contexts = omega (arith, record-words t (W .long)) in
+    let z : get t (cell (rec (freeContext t))) ≡ 0 = rw (a .number) (sym (record-at t (a .place) b) ∙ a .zero?) in
+    let l : freeContext t ≤ contexts = omega arith in
+    let s = W .held (freeContext t) h l in
+    record { some = h; low = l; room = omega arith; fresh = λ _. z; there = λ e. absurd (clash e); named = λ e. absurd (clash e) }
+
+targeted : (at : Context) (i : ℕ) (t : List ℕ) → Whole t → Joins at t → Passed (roomChecks at (look at i t)) → Target at t (target at (look at i t))
+unfolding look target isChoose numberOf freeAt pick
+targeted Choose i t W anew p = free-target t W (may-join Choose (look Choose i t) p .0 refl)
+targeted (Numbered c) i t W (there q l h) p =
+    record {
+      some = q;
+      low = l;
+      room = rw (seen-members c t q l) at (may-join (Numbered c) (look (Numbered c) i t) p .1);
+      fresh = λ e. absurd (clash (sym e));
+      there = λ _. h;
+      named = λ _. refl;
+    }
+
+-- ---- an attempt that passes its tests
+
+-- what an attempt leaves: a sound table, on which the command may go on
+pub record Leaves (op : Op) (at : Context) (t u : List ℕ) : Type 0 where
+  pub whole : Whole u
+  pub ready : Ready op at u
+  pub meant : (j : ℕ) → Meant op t j → Meant op u j
+
+join-moves : (at : Context) (given i y : ℕ) (v : View) → joining at given v (placed i (target at v) y) ≡ moving (isChoose at) false given 0 i (target at v) y
+unfolding joining target isChoose moving pick
+join-moves Null given i y v = refl
+join-moves (Numbered c) given i y v = refl
+join-moves Choose given i y v = refl
+join-moves All given i y v = refl
+
+leave-moves : (at : Context) (given i y : ℕ) (v : View)
+    → leaving v (joining at given v (placed i (target at v) y)) ≡ moving (isChoose at) (leb (v .from .members) 1) given (v .here) i (target at v) y
+unfolding leaving joining target isChoose moving pick
+leave-moves Null given i y v = refl
+leave-moves (Numbered c) given i y v = refl
+leave-moves Choose given i y v = refl
+leave-moves All given i y v = refl
+
+subtract-moves : (given i y : ℕ) (v : View) → leaving v (placed i 0 y) ≡ moving false (leb (v .from .members) 1) given (v .here) i 0 y
+unfolding leaving moving pick
+subtract-moves given i y v = refl
+
+-- a context that is joined
+joined : (at : Context) (g d i x y : ℕ) (t : List ℕ) (last : Bool) → Target at t x → Present g → i < terminations → get t (ctx i) ≡ d → x ≢ d → SoundWord y
+    → (last ≡ true → 0 < d) → (0 < d → last ≡ leb (members d t) 1) → Goes t (isChoose at) last g d i x y
+joined at g d i x y t last T G h e n s ends judged =
+    record {
+      small = h;
+      from = e;
+      away = n;
+      low = T .low;
+      word = s;
+      absent = λ _ z. absurd (omega (arith, T .some));
+      room = λ _. T .room;
+      made = λ _. (T .some, G .some, G .low);
+      there = λ e _. T .there e;
+      ends = ends;
+      judged = judged;
+    }
+
+-- it exists then
+joined-there : (at : Context) (i : ℕ) (v : View) (t u : List ℕ) → Joins at t → Target at t (target at v) → i < terminations → Whole u → get u (ctx i) ≡ target at v
+    → Joins (settled at v) u
+unfolding settled target isChoose numberOf pick
+joined-there at i v t u j T h W e = by at j T e
+  where
+    held : (x : ℕ) → 0 < x → x ≤ contexts → get u (ctx i) ≡ x → 0 < get u (cell (rec x))
+    held x p q e = let m : 0 < members x u = rw e at (member i u h (W .long)) in let s = W .held x p q in omega arith
+
+    by : (at : Context) → Joins at t → Target at t (target at v) → get u (ctx i) ≡ target at v → Joins (settled at v) u
+    by Choose anew T e = there (T .some) (T .low) (held (v .free) (T .some) (T .low) e)
+    by (Numbered c) (there p q _) T e = there p q (held c p q e)
+
+-- the context that it stands in
+here-low : (i : ℕ) (t : List ℕ) → Whole t → i < terminations → 0 < get t (ctx i) → seen (get t (ctx i)) t .members ≡ members (get t (ctx i)) t
+here-low i t W h p = seen-members (get t (ctx i)) t p (W .place i h)
+
+added-sound : (i w : ℕ) → SoundWord w → SoundWord (added i w)
+unfolding added
+added-sound i w s = pick-of SoundWord (isEphemeral i) (λ _. omega arith) (λ _. s)
+
+subtracted-sound : (i w : ℕ) → SoundWord w → SoundWord (subtracted i w)
+unfolding subtracted
+subtracted-sound i w s = pick-of SoundWord (isEphemeral i) (λ _. omega arith) (λ _. omega arith)
+
+subtracted-zero : (i w : ℕ) → lineTerminations ≤ i → subtracted i w ≡ 0
+unfolding subtracted isEphemeral pick
+subtracted-zero i w h = rw (le-leb lineTerminations i h)
+
+-- an absent ephemeral does not exist
+absent-gone : (i word : ℕ) → lineTerminations ≤ i → word ≡ 0 → exists i word ≡ true → ⊥
+unfolding exists isEphemeral
+absent-gone i word h z e = clash (sym (rw (le-leb lineTerminations i h, eq-eqb word 0 z) at e))
+
+-- a Move goes elsewhere: a new context has no record, and that of the termination has one
+moved-away : (at : Context) (i x : ℕ) (t : List ℕ) → Whole t → Target at t x → i < terminations → 0 < get t (ctx i) → get t (ctx i) ≢ numberOf at → x ≢ get t (ctx i)
+moved-away at i x t W T h p n e = by (isChoose at) refl
+  where
+    by : (b : Bool) → isChoose at ≡ b → ⊥
+    by true c = let s = W .held x (T .some) (T .low) in let m : 0 < members x t = rw e (member i t h (W .long)) in omega (arith, T .fresh c)
+    by false c = n (sym e ∙ T .named c)
+
+-- a termination that joins
+arrives : (op : Op) (at : Context) (given d i y : ℕ) (t : List ℕ) (last : Bool) → isModify op ≡ false → ((c : Context) (u : List ℕ) → Joins c u → Ready op c u)
+    → Whole t → Joins at t → Target at t (target at (look at i t)) → Goes t (isChoose at) last given d i (target at (look at i t)) y
+    → Leaves op (settled at (look at i t)) t (apply (moving (isChoose at) last given d i (target at (look at i t)) y) t)
+arrives op at given d i y t last n r W j T g =
+    let x : ℕ = target at (look at i t) in
+    let S = moved-sound t (isChoose at) last given d i x y W g in
+    record {
+      whole = S;
+      ready = r _ _ (joined-there at i (look at i t) t _ j T (g .small) S (moved-here t (isChoose at) last given d i x y W g));
+      meant = λ k m. record { small = m .small; there = λ e. absurd (clash (sym e ∙ n)) };
+    }
+
+-- a termination that goes to null
+departs : (c given i : ℕ) (t : List ℕ) → Whole t → 0 < c → i < terminations → get t (ctx i) ≡ numberOf (Numbered c)
+    → Leaves Subtract (settled (Numbered c) (look (Numbered c) i t)) t (apply (leaving (look (Numbered c) i t) (placed i 0 (subtracted i (get t (cell (prop i)))))) t)
+unfolding look numberOf settled isChoose isModify pick
+departs c given i t W h k e =
+    let w : ℕ = get t (cell (prop i)) in
+    let d : ℕ = get t (ctx i) in
+    let b : 0 < d = rw e h in
+    rw (subtract-moves given i (subtracted i w) (look (Numbered c) i t))
+    (record {
+      whole = moved-sound t false (leb (seen d t .members) 1) given d i 0 (subtracted i w) W
+      (record {
+        small = k;
+        from = refl;
+        away = λ z. omega arith;
+        low = omega arith;
+        word = subtracted-sound i w (W .word i k);
+        absent = λ z _. subtracted-zero i w z;
+        room = λ z. absurd (omega arith);
+        made = λ z. absurd (clash (sym z));
+        there = λ _ z. absurd (omega arith);
+        ends = λ _. b;
+        judged = λ z. ap (λ (m : ℕ). leb m 1) (here-low i t W k z);
+      });
+      ready = stands h;
+      meant = λ j m. record { small = m .small; there = λ z. absurd (clash (sym z)) };
+    })
+
+pub attempt-sound : (op : Op) (at : Context) (given i : ℕ) (vs : Values) (t : List ℕ) → Whole t → Ready op at t → Meant op t i → Present given → Fair vs
+    → Passed (checks op at (look at i t)) → Leaves op (settled at (look at i t)) t (apply (changes op at given i vs (look at i t)) t)
+unfolding changes look isModify
+attempt-sound Add at given i vs t W j M G F p =
+    let v : View = look at i t in
+    let w : ℕ = added i (get t (cell (prop i))) in
+    let q = may-add at v p in
+    let T = targeted at i t W j (q .1) in
+    rw (join-moves at given i (update vs w) v)
+    (arrives Add at given 0 i (update vs w) t false refl (λ c u k. k) W j T
+    (joined at given 0 i (target at v) (update vs w) t false T G (M .small) (q .0) (λ z. omega (arith, T .some))
+    (update-sound vs w F (added-sound i (get t (cell (prop i))) (W .word i (M .small)))) (λ e. absurd (clash (sym e))) (λ z. absurd (omega arith))))
+attempt-sound Modify at given i vs t W j M G F p =
+    let w : ℕ = get t (cell (prop i)) in
+    record {
+      whole = modified-sound t i (update vs w) W (M .small) (update-sound vs w F (W .word i (M .small))) (λ k z. absurd (absent-gone i (get t (ctx i)) k z (M .there refl)));
+      ready = tt;
+      meant = λ k m. record { small = m .small; there = λ e. rw (modified-place t i (update vs w) (W .long) (M .small) k (m .small)) (m .there e) };
+    }
+attempt-sound Subtract (Numbered c) given i vs t W (stands h) M G F p = departs c given i t W h (M .small) (may-subtract (Numbered c) (look (Numbered c) i t) p)
+attempt-sound Move at given i vs t W j M G F p =
+    let v : View = look at i t in
+    let w : ℕ = get t (cell (prop i)) in
+    let d : ℕ = get t (ctx i) in
+    let q = may-move at v p in
+    let T = targeted at i t W j (q .2) in
+    rw (leave-moves at given i (update vs w) v)
+    (arrives Move at given d i (update vs w) t (leb (seen d t .members) 1) refl (λ c u k. k) W j T
+    (joined at given d i (target at v) (update vs w) t (leb (seen d t .members) 1) T G (M .small) refl (moved-away at i (target at v) t W T (M .small) (q .0) (q .1))
+    (update-sound vs w F (W .word i (M .small))) (λ _. q .0) (λ z. ap (λ (m : ℕ). leb m 1) (here-low i t W (M .small) z))))
