@@ -61,11 +61,11 @@ pub record Meant (op : Op) (t : List ℕ) (i : ℕ) : Type 0 where
   pub there : isModify op ≡ true → exists i (get t (ctx i)) ≡ true
 
 pub data Each (P : ℕ → Type 0) : List ℕ → Type 0 where
-  none : Each P []
+  no-more : Each P []
   more : {i : ℕ} {is : List ℕ} → P i → Each P is → Each P (i ∷ is)
 
 pub each-on : (P Q : ℕ → Type 0) (is : List ℕ) → ((i : ℕ) → P i → Q i) → Each P is → Each Q is
-each-on P Q [] f none = none
+each-on P Q [] f no-more = no-more
 each-on P Q (i ∷ is) f (more h r) = more (f i h) (each-on P Q is f r)
 
 pub data Aims (op : Op) (t : List ℕ) : Aim → Type 0 where
@@ -77,7 +77,7 @@ pub data Aims (op : Op) (t : List ℕ) : Aim → Type 0 where
 matches-meant : (op : Op) (c : ℕ) (r : Range) (t : List ℕ) (i : ℕ) (xs : List ℕ) → i + length xs ≤ terminations
     → ((k : ℕ) → k < length xs → getD xs k 0 ≡ get t (ctx (i + k))) → Each (Meant op t) (matchesFrom op c r i xs)
 unfolding matchesFrom
-matches-meant op c r t i [] h f = none
+matches-meant op c r t i [] h f = no-more
 matches-meant op c r t i (x ∷ xs) h f =
     let rest = matches-meant op c r t (i + 1) xs (omega arith) (λ k b. let n : i + 1 + k ≡ i + suc k = omega arith in rw n (f (suc k) (omega arith))) in
     let here : x ≡ get t (ctx i) = rw add-zero at (f 0 (omega arith)) in
@@ -103,7 +103,7 @@ free-meant op t l a =
     let n : ℕ = lowestAbsent 1 (ephemeralContexts t) in
     pick-of (Aims op t) (eqb n 0) (λ _. nobody)
     (λ e. let s = lowest 1 (ephemeralContexts t) (omega (arith, eqb-false n 0 e)) in
-    those (more (record { small = omega (arith, ephemeral-contexts t l); there = λ h. absurd (add-only op a h) }) none))
+    those (more (record { small = omega (arith, ephemeral-contexts t l); there = λ h. absurd (add-only op a h) }) no-more))
 
 wild-meant : (op : Op) (t is : List ℕ) → Each (Meant op t) is → Aims op t (aimMatches is)
 unfolding aimMatches
@@ -118,5 +118,5 @@ aim-meant op at items Unchosen t l h = pick-of (Aims op t) _ (λ _. nobody) (λ 
 aim-meant op at items (Wildcard r) t l h =
     wild-meant op t _ (matches-meant op _ r t 0 (contextWords t) (omega (arith, context-words t l)) (λ k b. rw zero-add (context-at t k (omega (arith, context-words t l)))))
 aim-meant op at items Unmatched t l h = nobody
-aim-meant op at items (Termination i) t l (low h) = pick-of (Aims op t) _ (λ e. those (more (record { small = h; there = λ _. e }) none)) (λ _. nobody)
+aim-meant op at items (Termination i) t l (low h) = pick-of (Aims op t) _ (λ e. those (more (record { small = h; there = λ _. e }) no-more)) (λ _. nobody)
 aim-meant op at items Unknown t l h = nobody

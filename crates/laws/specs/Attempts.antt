@@ -25,24 +25,24 @@ use Rattle.laws.specs.Tests.{clash, and-both, both-and, or-neither, pick
 use Rattle.laws.specs.Counting.{member, Absent, lowest}
 use Rattle.laws.specs.Sound.{SoundWord, SoundRecord, Whole, record-words, record-at}
 use Rattle.laws.specs.Values.{Fair, update-sound}
-use Rattle.laws.specs.Aims.{Meant, Each, none, more, each-on}
+use Rattle.laws.specs.Aims.{Meant}
 use Rattle.laws.specs.Moved.{moving, Goes, moved-sound, moved-here, modified-place, modified-sound}
 
 -- ---- what an attempt sees
 
-known-both : (c : ℕ) → known c ≡ true → (0 < c) × (c ≤ contexts)
+pub known-both : (c : ℕ) → known c ≡ true → (0 < c) × (c ≤ contexts)
 unfolding known
 known-both c e = let b = and-both (ltb 0 c) (leb c contexts) e in (ltb-true 0 c (b .0), leb-true c contexts (b .1))
 
-both-known : (c : ℕ) → 0 < c → c ≤ contexts → known c ≡ true
+pub both-known : (c : ℕ) → 0 < c → c ≤ contexts → known c ≡ true
 unfolding known
 both-known c p q = both-and (ltb 0 c) (leb c contexts) (lt-ltb 0 c p) (le-leb c contexts q)
 
-seen-members : (c : ℕ) (t : List ℕ) → 0 < c → c ≤ contexts → seen c t .members ≡ members c t
+pub seen-members : (c : ℕ) (t : List ℕ) → 0 < c → c ≤ contexts → seen c t .members ≡ members c t
 unfolding seen pick
 seen-members c t p q = rw (both-known c p q, seen)
 
-seen-held : (c : ℕ) (t : List ℕ) → 0 < c → c ≤ contexts → seen c t .held ≡ get t (cell (rec c))
+pub seen-held : (c : ℕ) (t : List ℕ) → 0 < c → c ≤ contexts → seen c t .held ≡ get t (cell (rec c))
 unfolding seen pick
 seen-held c t p q = rw (both-known c p q, seen)
 
@@ -248,19 +248,19 @@ departs c given i t W h k e =
     rw (subtract-moves given i (subtracted i w) (look (Numbered c) i t))
     (record {
       whole = moved-sound t false (leb (seen d t .members) 1) given d i 0 (subtracted i w) W
-      (record {
-        small = k;
-        from = refl;
-        away = λ z. omega arith;
-        low = omega arith;
-        word = subtracted-sound i w (W .word i k);
-        absent = λ z _. subtracted-zero i w z;
-        room = λ z. absurd (omega arith);
-        made = λ z. absurd (clash (sym z));
-        there = λ _ z. absurd (omega arith);
-        ends = λ _. b;
-        judged = λ z. ap (λ (m : ℕ). leb m 1) (here-low i t W k z);
-      });
+          (record {
+            small = k;
+            from = refl;
+            away = λ z. omega arith;
+            low = omega arith;
+            word = subtracted-sound i w (W .word i k);
+            absent = λ z _. subtracted-zero i w z;
+            room = λ z. absurd (omega arith);
+            made = λ z. absurd (clash (sym z));
+            there = λ _ z. absurd (omega arith);
+            ends = λ _. b;
+            judged = λ z. ap (λ (m : ℕ). leb m 1) (here-low i t W k z);
+          });
       ready = stands h;
       meant = λ j m. record { small = m .small; there = λ z. absurd (clash (sym z)) };
     })

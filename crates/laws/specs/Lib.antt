@@ -6,3 +6,4 @@ pub mod Moved
 pub mod Values
 pub mod Aims
 pub mod Attempts
+pub mod Kept
