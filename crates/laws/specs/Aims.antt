@@ -1,14 +1,13 @@
 -- Whom a command's name means: terminations of the table, that exist where the command is a Modify.
-use Prim.Native.Nat.{ℕ, zero, suc, _+_, _*_, _-_, _/_, _≤_, _<_}
-use mathlib.Core.Path.{_≡_, refl, sym, ap, _∙_}
+use Prim.Native.Nat.{ℕ, suc, _+_, _≤_, _<_}
+use mathlib.Core.Path.{_≡_, sym}
 use mathlib.Core.Bool.{Bool, true, false, not, _&&_}
 use mathlib.Core.List.{List, [], _∷_}
-use lib.ListN.{length, getD, length-take}
+use lib.ListN.{length, getD}
 use lib.Dec.{ltb, leb, eqb}
-use borrow.Author.Tests.{eqb-false, ltb-true, leb-true, not-false}
+use borrow.Author.Tests.{eqb-false, ltb-true, leb-true}
 use native.Mathlib.Nat.{add-zero, zero-add}
 use native.Mathlib.Omega.{arith}
-use Rattle.base.specs.Pick.{pick}
 use Rattle.base.specs.Lists.{lowestAbsent}
 use Rattle.megaco.specs.declared.Context.{Context}
 use Rattle.megaco.specs.declared.Op.{Op}
@@ -16,11 +15,11 @@ use Rattle.megaco.specs.declared.Op.the-variants.{Add, Modify, Subtract, Move}
 use Rattle.megaco.specs.declared.Range.{Range}
 use Rattle.megaco.specs.declared.Name.{Name}
 use Rattle.megaco.specs.declared.Name.the-variants.{Termination, Root, Chosen, Unchosen, Wildcard, Unmatched, Unknown}
-use Rattle.megaco.specs.Table.{lines, channels, lineTerminations, ephemerals, terminations, words, ctx, get, contextWords, ephemeralContexts, exists, freeEphemeral}
+use Rattle.megaco.specs.Table.{lines, channels, ephemerals, terminations, words, ctx, get, contextWords, ephemeralContexts, exists, freeEphemeral}
 use Rattle.megaco.specs.Names.{within, lineName, ephemeralName, plainName, lineRange, wildcardName, capitalName, nameOf, inRange}
 use Rattle.megaco.specs.Running.{wanted, matchesFrom, matches, Aim, misses, gateway, meets, isAdd, isModify, aimRoot, aimFree, aimMatches, aim}
 use Rattle.laws.specs.Tests.{clash, and-both, pick-of}
-use Rattle.laws.specs.Counting.{Absent, lowest}
+use Rattle.laws.specs.Counting.{lowest}
 use Rattle.laws.specs.Sound.{context-words, context-at, ephemeral-contexts}
 
 -- ---- names

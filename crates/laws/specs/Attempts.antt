@@ -1,16 +1,13 @@
 -- An attempt leaves a sound table sound, in a numbered context, in null and in `$`.
-use Prim.Native.Nat.{ℕ, zero, suc, _+_, _*_, _-_, _/_, _%_, _≤_, _<_, min}
-use mathlib.Core.Path.{_≡_, refl, sym, ap, _∙_, subst}
+use Prim.Native.Nat.{ℕ, _≤_, _<_}
+use mathlib.Core.Path.{_≡_, refl, sym, ap, _∙_}
 use mathlib.Core.Logic.{_≢_}
-use mathlib.Core.Bool.{Bool, true, false, not, _&&_, _||_}
-use mathlib.Core.List.{List, [], _∷_}
-use mathlib.Core.Option.{Option, none, some}
-use lib.ListN.{length, getD}
+use mathlib.Core.Bool.{Bool, true, false, and-true, and-false}
+use mathlib.Core.List.{List, _∷_}
 use lib.Dec.{ltb, leb, eqb}
-use borrow.Author.Tests.{eqb-true, eqb-false, eq-eqb, ltb-true, ltb-false, lt-ltb, leb-true, leb-false, le-leb, not-false}
+use borrow.Author.Tests.{eqb-true, eqb-false, eq-eqb, ltb-true, lt-ltb, leb-true, leb-false, le-leb, not-false}
 use native.Mathlib.Omega.{arith}
 use Rattle.base.specs.Pick.{pick}
-use Rattle.base.specs.Lists.{lowestAbsent}
 use Rattle.megaco.specs.declared.Context.{Context}
 use Rattle.megaco.specs.declared.Context.the-variants.{Null, Numbered, Choose, All}
 use Rattle.megaco.specs.declared.Op.{Op}
@@ -18,15 +15,15 @@ use Rattle.megaco.specs.declared.Op.the-variants.{Add, Modify, Subtract, Move}
 use Rattle.megaco.specs.declared.Values.{Values}
 use Rattle.megaco.specs.declared.Seen.{Seen}
 use Rattle.megaco.specs.declared.View.{View}
-use Rattle.megaco.specs.Table.{lineTerminations, terminations, contexts, words, most, prop, rec, ctx, cell, get, Write, write, apply, recordWords, isEphemeral, exists, known, members, freeContext, modeOf, stateOf, sound}
+use Rattle.megaco.specs.Table.{lineTerminations, terminations, contexts, most, prop, rec, ctx, cell, get, Write, write, apply, recordWords, isEphemeral, exists, known, members, freeContext}
 use Rattle.megaco.specs.Items.{update}
-use Rattle.megaco.specs.Running.{Check, check, Result, refused, done, unseen, seen, numberOf, freeAt, look, isChoose, target, roomChecks, checks, joining, leaving, placed, added, subtracted, changes, attempt, settled, Effect, concluded, effect, Outcome, outcome, tries, isModify}
-use Rattle.laws.specs.Tests.{clash, and-both, both-and, or-neither, pick-of, Passed, judged}
-use Rattle.laws.specs.Counting.{member, Absent, lowest}
-use Rattle.laws.specs.Sound.{SoundWord, SoundRecord, Whole, record-words, record-at}
+use Rattle.megaco.specs.Running.{unseen, seen, numberOf, freeAt, look, isChoose, target, roomChecks, checks, joining, leaving, placed, added, subtracted, changes, settled, isModify}
+use Rattle.laws.specs.Tests.{clash, and-both, both-and, pick-of, Passed, judged}
+use Rattle.laws.specs.Counting.{member, lowest}
+use Rattle.laws.specs.Sound.{SoundWord, Whole, alive, record-words, record-at}
 use Rattle.laws.specs.Values.{Fair, update-sound}
 use Rattle.laws.specs.Aims.{Meant}
-use Rattle.laws.specs.Moved.{moving, Goes, moved-sound, moved-here, modified-place, modified-sound}
+use Rattle.laws.specs.Moved.{Moves, Goes, moved-sound, moved-here, modified-place, modified-sound}
 
 -- ---- what an attempt sees
 
@@ -68,10 +65,6 @@ may-join at v p =
 may-add : (at : Context) (v : View) → Passed (checks Add at v) → (v .here ≡ 0) × Passed (roomChecks at v)
 unfolding checks
 may-add at v p = (eqb-true (v .here) 0 (not-false (eqb (v .here) 0) (p .0)), p .1)
-
-may-modify : (at : Context) (v : View) → Passed (checks Modify at v) → v .here ≡ numberOf at
-unfolding checks
-may-modify at v p = eqb-true (v .here) (numberOf at) (not-false (eqb (v .here) (numberOf at)) (p .0))
 
 may-subtract : (at : Context) (v : View) → Passed (checks Subtract at v) → v .here ≡ numberOf at
 unfolding checks
@@ -119,7 +112,7 @@ unfolding freeContext isChoose
 free-target t W h =
     let a = lowest 1 (recordWords t) h in
     let b : a .place < contexts = omega (arith, record-words t (W .long)) in
-    let z : get t (cell (rec (freeContext t))) ≡ 0 = rw (a .number) (sym (record-at t (a .place) b) ∙ a .zero?) in
+    let z : get t (cell (rec (freeContext t))) ≡ 0 = rw (a .number) (sym (record-at t (a .place) b) ∙ a .empty) in
     let l : freeContext t ≤ contexts = omega arith in
     let s = W .held (freeContext t) h l in
     record { some = h; low = l; room = omega arith; fresh = λ _. z; there = λ e. absurd (clash e); named = λ e. absurd (clash e) }
@@ -145,29 +138,50 @@ pub record Leaves (op : Op) (at : Context) (t u : List ℕ) : Type 0 where
   pub ready : Ready op at u
   pub meant : (j : ℕ) → Meant op t j → Meant op u j
 
-join-moves : (at : Context) (given i y : ℕ) (v : View) → joining at given v (placed i (target at v) y) ≡ moving (isChoose at) false given 0 i (target at v) y
-unfolding joining target isChoose moving pick
-join-moves Null given i y v = refl
-join-moves (Numbered c) given i y v = refl
-join-moves Choose given i y v = refl
-join-moves All given i y v = refl
+-- the writes of an attempt: each of these laws knows one of the definitions
+placed-moves : (g d i x y : ℕ) → i < terminations → Moves false false g d i x y (placed i x y)
+unfolding placed pick
+placed-moves g d i x y h =
+    record {
+      within = (h, (h, tt));
+      context = λ j v. refl;
+      property = λ j v. refl;
+      record′ = λ c v. rw (and-false (eqb x c), and-false (eqb d c));
+    }
 
-leave-moves : (at : Context) (given i y : ℕ) (v : View)
-    → leaving v (joining at given v (placed i (target at v) y)) ≡ moving (isChoose at) (leb (v .from .members) 1) given (v .here) i (target at v) y
-unfolding leaving joining target isChoose moving pick
-leave-moves Null given i y v = refl
-leave-moves (Numbered c) given i y v = refl
-leave-moves Choose given i y v = refl
-leave-moves All given i y v = refl
+joining-moves : (at : Context) (g d i y : ℕ) (v : View) (t : List ℕ) → Target at t (target at v) → i < terminations
+    → Moves (isChoose at) false g d i (target at v) y (joining at g v (placed i (target at v) y))
+unfolding joining target isChoose placed pick
+joining-moves Null g d i y v t T h = placed-moves g d i (target Null v) y h
+joining-moves (Numbered c) g d i y v t T h = placed-moves g d i (target (Numbered c) v) y h
+joining-moves Choose g d i y v t T h =
+    record {
+      within = ((T .some, T .low), (h, (h, tt)));
+      context = λ j v. refl;
+      property = λ j v. refl;
+      record′ = λ c w. rw (and-true (eqb (v .free) c), and-false (eqb d c));
+    }
+joining-moves All g d i y v t T h = placed-moves g d i (target All v) y h
 
-subtract-moves : (given i y : ℕ) (v : View) → leaving v (placed i 0 y) ≡ moving false (leb (v .from .members) 1) given (v .here) i 0 y
-unfolding leaving moving pick
-subtract-moves given i y v = refl
+leaving-moves : (new : Bool) (g i x y : ℕ) (v : View) (ws : List Write) → 0 < v .here → v .here ≤ contexts → Moves new false g (v .here) i x y ws
+    → Moves new (leb (v .from .members) 1) g (v .here) i x y (leaving v ws)
+unfolding leaving pick
+leaving-moves new g i x y v ws p q M = by (leb (v .from .members) 1)
+  where
+    by : (b : Bool) → Moves new b g (v .here) i x y (pick b (write (cell (rec (v .here))) 0 ∷ ws) ws)
+    by true =
+        record {
+          within = ((p, q), M .within);
+          context = M .context;
+          property = M .property;
+          record′ = λ c w. M .record′ c (pick (eqb (v .here) c) 0 w) ∙ rw (and-true (eqb (v .here) c), and-false (eqb (v .here) c));
+        }
+    by false = M
 
 -- a context that is joined
 joined : (at : Context) (g d i x y : ℕ) (t : List ℕ) (last : Bool) → Target at t x → Present g → i < terminations → get t (ctx i) ≡ d → x ≢ d → SoundWord y
-    → (last ≡ true → 0 < d) → (0 < d → last ≡ leb (members d t) 1) → Goes t (isChoose at) last g d i x y
-joined at g d i x y t last T G h e n s ends judged =
+    → (0 < d → last ≡ leb (members d t) 1) → Goes t (isChoose at) last g d i x y
+joined at g d i x y t last T G h e n s ends =
     record {
       small = h;
       from = e;
@@ -176,10 +190,9 @@ joined at g d i x y t last T G h e n s ends judged =
       word = s;
       absent = λ _ z. absurd (omega (arith, T .some));
       room = λ _. T .room;
-      made = λ _. (T .some, G .some, G .low);
+      made = λ _. (G .some, G .low);
       there = λ e _. T .there e;
       ends = ends;
-      judged = judged;
     }
 
 -- it exists then
@@ -189,7 +202,7 @@ unfolding settled target isChoose numberOf pick
 joined-there at i v t u j T h W e = by at j T e
   where
     held : (x : ℕ) → 0 < x → x ≤ contexts → get u (ctx i) ≡ x → 0 < get u (cell (rec x))
-    held x p q e = let m : 0 < members x u = rw e at (member i u h (W .long)) in let s = W .held x p q in omega arith
+    held x p q e = alive u W x p q (rw e at (member i u h (W .long)))
 
     by : (at : Context) → Joins at t → Target at t (target at v) → get u (ctx i) ≡ target at v → Joins (settled at v) u
     by Choose anew T e = there (T .some) (T .low) (held (v .free) (T .some) (T .low) e)
@@ -221,20 +234,21 @@ moved-away : (at : Context) (i x : ℕ) (t : List ℕ) → Whole t → Target at
 moved-away at i x t W T h p n e = by (isChoose at) refl
   where
     by : (b : Bool) → isChoose at ≡ b → ⊥
-    by true c = let s = W .held x (T .some) (T .low) in let m : 0 < members x t = rw e (member i t h (W .long)) in omega (arith, T .fresh c)
+    by true c = omega (arith, alive t W x (T .some) (T .low) (rw e (member i t h (W .long))), T .fresh c)
     by false c = n (sym e ∙ T .named c)
 
 -- a termination that joins
-arrives : (op : Op) (at : Context) (given d i y : ℕ) (t : List ℕ) (last : Bool) → isModify op ≡ false → ((c : Context) (u : List ℕ) → Joins c u → Ready op c u)
-    → Whole t → Joins at t → Target at t (target at (look at i t)) → Goes t (isChoose at) last given d i (target at (look at i t)) y
-    → Leaves op (settled at (look at i t)) t (apply (moving (isChoose at) last given d i (target at (look at i t)) y) t)
-arrives op at given d i y t last n r W j T g =
+arrives : (op : Op) (at : Context) (given d i y : ℕ) (t : List ℕ) (last : Bool) (ws : List Write) → isModify op ≡ false
+    → ((c : Context) (u : List ℕ) → Joins c u → Ready op c u) → Whole t → Joins at t → Target at t (target at (look at i t))
+    → Moves (isChoose at) last given d i (target at (look at i t)) y ws → Goes t (isChoose at) last given d i (target at (look at i t)) y
+    → Leaves op (settled at (look at i t)) t (apply ws t)
+arrives op at given d i y t last ws n r W j T m g =
     let x : ℕ = target at (look at i t) in
-    let S = moved-sound t (isChoose at) last given d i x y W g in
+    let S = moved-sound t (isChoose at) last given d i x y ws W m g in
     record {
       whole = S;
-      ready = r _ _ (joined-there at i (look at i t) t _ j T (g .small) S (moved-here t (isChoose at) last given d i x y W g));
-      meant = λ k m. record { small = m .small; there = λ e. absurd (clash (sym e ∙ n)) };
+      ready = r _ _ (joined-there at i (look at i t) t (apply ws t) j T (g .small) S (moved-here t (isChoose at) last given d i x y ws W m g));
+      meant = λ k u. record { small = u .small; there = λ e. absurd (clash (sym e ∙ n)) };
     }
 
 -- a termination that goes to null
@@ -245,9 +259,9 @@ departs c given i t W h k e =
     let w : ℕ = get t (cell (prop i)) in
     let d : ℕ = get t (ctx i) in
     let b : 0 < d = rw e h in
-    rw (subtract-moves given i (subtracted i w) (look (Numbered c) i t))
-    (record {
-      whole = moved-sound t false (leb (seen d t .members) 1) given d i 0 (subtracted i w) W
+    record {
+      whole = moved-sound t false (leb (seen d t .members) 1) given d i 0 (subtracted i w) _ W
+          (leaving-moves false given i 0 (subtracted i w) (look (Numbered c) i t) _ b (W .place i k) (placed-moves given d i 0 (subtracted i w) k))
           (record {
             small = k;
             from = refl;
@@ -258,12 +272,11 @@ departs c given i t W h k e =
             room = λ z. absurd (omega arith);
             made = λ z. absurd (clash (sym z));
             there = λ _ z. absurd (omega arith);
-            ends = λ _. b;
-            judged = λ z. ap (λ (m : ℕ). leb m 1) (here-low i t W k z);
+            ends = λ z. ap (λ (m : ℕ). leb m 1) (here-low i t W k z);
           });
       ready = stands h;
       meant = λ j m. record { small = m .small; there = λ z. absurd (clash (sym z)) };
-    })
+    }
 
 pub attempt-sound : (op : Op) (at : Context) (given i : ℕ) (vs : Values) (t : List ℕ) → Whole t → Ready op at t → Meant op t i → Present given → Fair vs
     → Passed (checks op at (look at i t)) → Leaves op (settled at (look at i t)) t (apply (changes op at given i vs (look at i t)) t)
@@ -273,10 +286,9 @@ attempt-sound Add at given i vs t W j M G F p =
     let w : ℕ = added i (get t (cell (prop i))) in
     let q = may-add at v p in
     let T = targeted at i t W j (q .1) in
-    rw (join-moves at given i (update vs w) v)
-    (arrives Add at given 0 i (update vs w) t false refl (λ c u k. k) W j T
+    arrives Add at given 0 i (update vs w) t false _ refl (λ c u k. k) W j T (joining-moves at given 0 i (update vs w) v t T (M .small))
     (joined at given 0 i (target at v) (update vs w) t false T G (M .small) (q .0) (λ z. omega (arith, T .some))
-    (update-sound vs w F (added-sound i (get t (cell (prop i))) (W .word i (M .small)))) (λ e. absurd (clash (sym e))) (λ z. absurd (omega arith))))
+    (update-sound vs w F (added-sound i (get t (cell (prop i))) (W .word i (M .small)))) (λ z. absurd (omega arith)))
 attempt-sound Modify at given i vs t W j M G F p =
     let w : ℕ = get t (cell (prop i)) in
     record {
@@ -291,7 +303,7 @@ attempt-sound Move at given i vs t W j M G F p =
     let d : ℕ = get t (ctx i) in
     let q = may-move at v p in
     let T = targeted at i t W j (q .2) in
-    rw (leave-moves at given i (update vs w) v)
-    (arrives Move at given d i (update vs w) t (leb (seen d t .members) 1) refl (λ c u k. k) W j T
+    arrives Move at given d i (update vs w) t (leb (seen d t .members) 1) _ refl (λ c u k. k) W j T
+    (leaving-moves (isChoose at) given i (target at v) (update vs w) v _ (q .0) (W .place i (M .small)) (joining-moves at given d i (update vs w) v t T (M .small)))
     (joined at given d i (target at v) (update vs w) t (leb (seen d t .members) 1) T G (M .small) refl (moved-away at i (target at v) t W T (M .small) (q .0) (q .1))
-    (update-sound vs w F (W .word i (M .small))) (λ _. q .0) (λ z. ap (λ (m : ℕ). leb m 1) (here-low i t W (M .small) z))))
+    (update-sound vs w F (W .word i (M .small))) (λ z. ap (λ (m : ℕ). leb m 1) (here-low i t W (M .small) z)))

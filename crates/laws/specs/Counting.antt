@@ -1,5 +1,5 @@
 -- How many stand in a context, and the lowest absent number.
-use Prim.Native.Nat.{ℕ, zero, suc, _+_, _-_, _≤_, _<_}
+use Prim.Native.Nat.{ℕ, zero, suc, _+_, _<_}
 use mathlib.Core.Path.{_≡_, refl, sym, ap, _∙_}
 use mathlib.Core.Bool.{Bool, true, false}
 use mathlib.Core.List.{List, [], _∷_}
@@ -87,7 +87,7 @@ pub record Absent (l : List ℕ) (n m : ℕ) : Type 0 where
   pub place : ℕ
   pub within : place < length l
   pub number : m ≡ n + place
-  pub zero? : getD l place 0 ≡ 0
+  pub empty : getD l place 0 ≡ 0
 
 pub lowest : (n : ℕ) (l : List ℕ) → 0 < lowestAbsent n l → Absent l n (lowestAbsent n l)
 unfolding lowestAbsent pick
@@ -96,7 +96,7 @@ lowest n (x ∷ xs) h = by (eqb x 0) refl (lowest (n + 1) xs) h
   where
     by : (b : Bool) → eqb x 0 ≡ b → (0 < lowestAbsent (n + 1) xs → Absent xs (n + 1) (lowestAbsent (n + 1) xs)) → 0 < pick b n (lowestAbsent (n + 1) xs)
         → Absent (x ∷ xs) n (pick b n (lowestAbsent (n + 1) xs))
-    by true e r h = record { place = 0; within = omega arith; number = omega arith; zero? = eqb-true x 0 e }
+    by true e r h = record { place = 0; within = omega arith; number = omega arith; empty = eqb-true x 0 e }
     by false e r h =
         let a = r h in
-        record { place = suc (a .place); within = omega arith; number = omega arith; zero? = a .zero? }
+        record { place = suc (a .place); within = omega arith; number = omega arith; empty = a .empty }

@@ -1,15 +1,14 @@
 -- Soundness is kept: from a sound table every attempt, command, step, transaction, message and call ends in a sound table, wildcards and `$`
 -- included. The length of any table is kept.
-use Prim.Native.Nat.{ℕ, zero, suc, _+_, _*_, _-_, _/_, _%_, _≤_, _<_}
-use mathlib.Core.Path.{_≡_, refl, sym, ap, _∙_}
-use mathlib.Core.Bool.{Bool, true, false, not, _&&_, _||_}
+use Prim.Native.Nat.{ℕ, _+_, _*_, _≤_, _<_}
+use mathlib.Core.Path.{_≡_, refl, _∙_}
+use mathlib.Core.Bool.{Bool, true, false}
 use mathlib.Core.List.{List, [], _∷_}
 use mathlib.Core.Option.{Option, none, some}
 use lib.ListN.{length}
-use lib.Dec.{ltb, leb, eqb}
+use lib.Dec.{ltb, eqb}
 use borrow.Author.Tests.{eqb-false, ltb-false}
 use native.Mathlib.Omega.{arith}
-use Rattle.base.specs.Pick.{pick}
 use Rattle.megaco.specs.declared.Context.{Context}
 use Rattle.megaco.specs.declared.Context.the-variants.{Null, Numbered, Choose, All}
 use Rattle.megaco.specs.declared.Op.{Op}
@@ -19,21 +18,20 @@ use Rattle.megaco.specs.declared.Property.the-variants.{Priority, Emergency}
 use Rattle.megaco.specs.declared.Judged.{Judged}
 use Rattle.megaco.specs.declared.Judged.the-variants.{Wrong, Right}
 use Rattle.megaco.specs.declared.Values.{Values}
-use Rattle.megaco.specs.Tree.{Items, Command, command, Action, action, Transaction, transaction, Message, wellFormed, fault400, fault403, fault406}
-use Rattle.megaco.specs.Table.{contexts, words, rec, cell, get, Write, write, apply, priorityOf, emergencyOf, sound}
+use Rattle.megaco.specs.Tree.{Items, Command, command, Transaction, transaction, Message, wellFormed, fault400, fault403, fault406}
+use Rattle.megaco.specs.Table.{contexts, rec, cell, get, Write, write, apply, priorityOf, emergencyOf, sound}
 use Rattle.megaco.specs.Names.{nameOf}
-use Rattle.megaco.specs.Items.{judgeItems, given?}
+use Rattle.megaco.specs.Items.{given?}
 use Rattle.megaco.specs.Reply.{Acted}
-use Rattle.megaco.specs.Running.{Check, check, Result, refused, done, judge, seen, numberOf, look, checks, changes, attempt, Effect, concluded, effect, Outcome, outcome, tries, missed, actionError, Aim, misses, gateway, meets, isSubtract, isNull, isModify, aim, aimed, opOf, barred, lost, named, tested, unlessOptional, ordered, runCommand}
-use Rattle.megaco.specs.Running.{over15, anyGiven, startChecks, newRecord, setProperties, startWrites, Start, startedBy, started, Step, start, order, steps, Progress, progress, State, state, begin, advance, proceed, step, run, fresh, Ran, runTransaction, runTransactions, runMessage}
+use Rattle.megaco.specs.Running.{Result, seen, numberOf, look, checks, changes, attempt, Effect, concluded, effect, Outcome, tries, missed, actionError, Aim, misses, gateway, meets, isSubtract, isNull, isModify, aim, aimed, opOf, barred, lost, named, tested, unlessOptional, ordered, runCommand}
+use Rattle.megaco.specs.Running.{over15, anyGiven, startChecks, newRecord, setProperties, startWrites, startedBy, started, Step, start, order, steps, progress, State, state, begin, advance, proceed, step, run, fresh, runTransaction, runTransactions, runMessage}
 use Rattle.megaco.specs.Reading.{messageR}
-use Rattle.megaco.specs.Tokens.{isMid}
-use Rattle.megaco.specs.Call.{Called, turnedDown, written, replied, taken, call}
+use Rattle.megaco.specs.Call.{Called, written, replied, taken, call}
 use Rattle.laws.specs.Tests.{clash, or-neither, pick-of, Passed, judged}
 use Rattle.laws.specs.Slots.{length-apply}
 use Rattle.laws.specs.Sound.{Whole, sound-whole, whole-sound}
 use Rattle.laws.specs.Values.{Fair, FairItems, right, items-fair}
-use Rattle.laws.specs.Aims.{name-low, Meant, Each, no-more, more, each-on, Aims, those, aim-meant}
+use Rattle.laws.specs.Aims.{name-low, Meant, Each, more, each-on, Aims, those, aim-meant}
 use Rattle.laws.specs.Moved.{recorded-sound}
 use Rattle.laws.specs.Attempts.{seen-held, seen-there, Joins, anew, there, Stands, stands, Ready, Present, Leaves, attempt-sound}
 
@@ -228,6 +226,12 @@ run-length ss x = run-keeps (λ t. length t ≡ length (x .table)) (λ _. Unit {
     any : (acts : List Acted) → Running (λ _. Unit {0}) acts
     any [] = tt
     any (a ∷ acts) = tt
+
+pub message-length : (m : Message) (t : List ℕ) → length (runMessage m t .table) ≡ length t
+message-length m t = message-keeps (λ u. length u ≡ length t) (λ _. Unit {0}) (length-kept (length t)) m t refl
+
+pub call-length : (m t own o : List ℕ) → length (call m t own o .table) ≡ length t
+call-length m t own o = call-keeps (λ u. length u ≡ length t) (λ _. Unit {0}) (length-kept (length t)) m t own o refl
 
 -- ---- soundness
 

@@ -1,6 +1,6 @@
 -- A sound table after writes. One law serves Add, Subtract and Move: a termination goes from where it stands to a context, null being 0.
-use Prim.Native.Nat.{ℕ, _+_, _≤_, _<_, min}
-use mathlib.Core.Path.{_≡_, refl, sym, ap, _∙_, subst}
+use Prim.Native.Nat.{ℕ, _+_, _≤_, _<_}
+use mathlib.Core.Path.{_≡_, refl, sym, _∙_, subst}
 use mathlib.Core.Logic.{_≢_}
 use mathlib.Core.Bool.{Bool, true, false, _&&_, and-true, and-false}
 use mathlib.Core.List.{List, [], _∷_}
@@ -13,7 +13,7 @@ use Rattle.megaco.specs.Table.{lineTerminations, terminations, contexts, words,
 use Rattle.megaco.specs.Running.{placed}
 use Rattle.laws.specs.Tests.{pick-of}
 use Rattle.laws.specs.Slots.{length-apply, holds, Within, get-apply}
-use Rattle.laws.specs.Counting.{one, members-same, members-moved, member}
+use Rattle.laws.specs.Counting.{one, members-same, members-moved}
 use Rattle.laws.specs.Sound.{SoundWord, SoundRecord, Whole}
 
 -- the facts of a sound table, of what the words hold after writes
@@ -36,40 +36,12 @@ landed ws t l a =
 
 -- ---- a termination goes from d to x, with a property word y
 
--- where x is new its record is made, g; where it was the last in d, the record of d ends
-unfoldable pub moving : (new last : Bool) (g d i x y : ℕ) → List Write
-moving new last g d i x y =
-    pick last (write (cell (rec d)) 0 ∷ pick new (write (cell (rec x)) g ∷ placed i x y) (placed i x y)) (pick new (write (cell (rec x)) g ∷ placed i x y) (placed i x y))
-
-module _ (g d i x y : ℕ) where
-  moving-within : (new last : Bool) → i < terminations → (new ≡ true → (0 < x) × (x ≤ contexts)) → (last ≡ true → (0 < d) × (d ≤ contexts))
-      → Within (moving new last g d i x y)
-  unfolding moving pick placed
-  moving-within true true h m e = (e refl, (m refl, (h, (h, tt))))
-  moving-within true false h m e = (m refl, (h, (h, tt)))
-  moving-within false true h m e = (e refl, (h, (h, tt)))
-  moving-within false false h m e = (h, (h, tt))
-
-  moving-context : (new last : Bool) (j v : ℕ) → holds (moving new last g d i x y) (ctx j) v ≡ pick (eqb i j) x v
-  unfolding moving pick placed
-  moving-context true true j v = refl
-  moving-context true false j v = refl
-  moving-context false true j v = refl
-  moving-context false false j v = refl
-
-  moving-property : (new last : Bool) (j v : ℕ) → holds (moving new last g d i x y) (cell (prop j)) v ≡ pick (eqb i j) y v
-  unfolding moving pick placed
-  moving-property true true j v = refl
-  moving-property true false j v = refl
-  moving-property false true j v = refl
-  moving-property false false j v = refl
-
-  moving-record : (new last : Bool) (c v : ℕ) → holds (moving new last g d i x y) (cell (rec c)) v ≡ pick (eqb x c && new) g (pick (eqb d c && last) 0 v)
-  unfolding moving pick placed
-  moving-record true true c v = rw (and-true (eqb x c), and-true (eqb d c))
-  moving-record true false c v = rw (and-true (eqb x c), and-false (eqb d c))
-  moving-record false true c v = rw (and-false (eqb x c), and-true (eqb d c))
-  moving-record false false c v = rw (and-false (eqb x c), and-false (eqb d c))
+-- what the writes leave: where x is new its record is made, g; where the termination was the last in d, the record of d ends
+pub record Moves (new last : Bool) (g d i x y : ℕ) (ws : List Write) : Type 0 where
+  pub within : Within ws
+  pub context : (j v : ℕ) → holds ws (ctx j) v ≡ pick (eqb i j) x v
+  pub property : (j v : ℕ) → holds ws (cell (prop j)) v ≡ pick (eqb i j) y v
+  pub record′ : (c v : ℕ) → holds ws (cell (rec c)) v ≡ pick (eqb x c && new) g (pick (eqb d c && last) 0 v)
 
 -- when a termination may go
 pub record Goes (t : List ℕ) (new last : Bool) (g d i x y : ℕ) : Type 0 where
@@ -80,87 +52,67 @@ pub record Goes (t : List ℕ) (new last : Bool) (g d i x y : ℕ) : Type 0 wher
   pub word : SoundWord y
   pub absent : lineTerminations ≤ i → x ≡ 0 → y ≡ 0
   pub room : 0 < x → members x t < most
-  pub made : new ≡ true → (0 < x) × (0 < g) × (g ≤ 32)
+  pub made : new ≡ true → (0 < g) × (g ≤ 32)
   pub there : new ≡ false → 0 < x → 0 < get t (cell (rec x))
-  pub ends : last ≡ true → 0 < d
-  pub judged : 0 < d → last ≡ leb (members d t) 1
+  pub ends : 0 < d → last ≡ leb (members d t) 1
 
-moved-within : (t : List ℕ) (new last : Bool) (g d i x y : ℕ) → Whole t → Goes t new last g d i x y → Within (moving new last g d i x y)
-moved-within t new last g d i x y W G =
-    let l : d ≤ contexts = rw (G .from) at (W .place i (G .small)) in
-    moving-within g d i x y new last (G .small) (λ e. (G .made e .0, G .low)) (λ e. (G .ends e, l))
+module _ (t : List ℕ) (new last : Bool) (g d i x y : ℕ) (ws : List Write) (W : Whole t) (M : Moves new last g d i x y ws) (G : Goes t new last g d i x y) where
+  -- the termination stands there then, and the others where they stood
+  moved-place : (j : ℕ) → j < terminations → get (apply ws t) (ctx j) ≡ pick (eqb i j) x (get t (ctx j))
+  moved-place j h = get-apply ws (ctx j) t (M .within) h (W .long) ∙ M .context j (get t (ctx j))
 
-pub moved-sound : (t : List ℕ) (new last : Bool) (g d i x y : ℕ) → Whole t → Goes t new last g d i x y → Whole (apply (moving new last g d i x y) t)
-unfolding pick
-moved-sound t new last g d i x y W G =
-    landed (moving new last g d i x y) t (W .long)
-    (record {
-      within = within;
-      place = λ j h. rw (moving-context g d i x y new last j (get t (ctx j))) (pick-of (λ (z : ℕ). z ≤ contexts) (eqb i j) (λ _. G .low) (λ _. W .place j h));
-      word = λ j h. rw (moving-property g d i x y new last j (get t (cell (prop j)))) (pick-of SoundWord (eqb i j) (λ _. G .word) (λ _. W .word j h));
-      absent = absent;
-      held = held;
-    })
-  where
-    within : Within (moving new last g d i x y)
-    within = moved-within t new last g d i x y W G
+  pub moved-here : get (apply ws t) (ctx i) ≡ x
+  unfolding pick
+  moved-here = moved-place i (G .small) ∙ rw (eq-eqb i i refl)
 
-    absent : (j : ℕ) → lineTerminations ≤ j → j < terminations → holds (moving new last g d i x y) (ctx j) (get t (ctx j)) ≡ 0
-        → holds (moving new last g d i x y) (cell (prop j)) (get t (cell (prop j))) ≡ 0
-    absent j k h = rw (moving-context g d i x y new last j (get t (ctx j)), moving-property g d i x y new last j (get t (cell (prop j)))) (by (eqb i j) refl)
-      where
-        by : (b : Bool) → eqb i j ≡ b → pick b x (get t (ctx j)) ≡ 0 → pick b y (get t (cell (prop j))) ≡ 0
-        by true e = G .absent (omega (arith, eqb-true i j e))
-        by false e = W .absent j k h
+  moved-absent : (j : ℕ) → lineTerminations ≤ j → j < terminations → (b : Bool) → eqb i j ≡ b
+      → pick b x (get t (ctx j)) ≡ 0 → pick b y (get t (cell (prop j))) ≡ 0
+  unfolding pick
+  moved-absent j k h true e = G .absent (omega (arith, eqb-true i j e))
+  moved-absent j k h false e = W .absent j k h
 
-    held : (c : ℕ) → 0 < c → c ≤ contexts → SoundRecord (holds (moving new last g d i x y) (cell (rec c)) (get t (cell (rec c)))) (members c (apply (moving new last g d i x y) t))
-    held c p q = rw (moving-record g d i x y new last c (get t (cell (rec c)))) (by new last (eqb x c) (eqb d c) refl refl refl refl counts)
-      where
-        r : ℕ
-        r = get t (cell (rec c))
+  moved-members : (c : ℕ) → members c (apply ws t) + one (eqb d c) ≡ members c t + one (eqb x c)
+  moved-members c =
+      subst (λ (z : ℕ). members c (apply ws t) + one (eqb z c) ≡ members c t + one (eqb x c)) (G .from)
+      (members-moved c i x t (apply ws t) (G .small) (W .long) (length-apply ws t) moved-place)
 
-        m : ℕ
-        m = members c t
+  moved-record : (c n : ℕ) → 0 < c → c ≤ contexts → (a b e f : Bool) → new ≡ a → last ≡ b → eqb x c ≡ e → eqb d c ≡ f → n + one f ≡ members c t + one e
+      → SoundRecord (pick (e && a) g (pick (f && b) 0 (get t (cell (rec c))))) n
+  unfolding pick
+  moved-record c n p q a b true true _ _ e f k = absurd (G .away (eqb-true x c e ∙ sym (eqb-true d c f)))
+  moved-record c n p q true b true false u _ e f k =
+      let z : x ≡ c = eqb-true x c e in
+      let o : members c t < most = subst (λ (j : ℕ). members j t < most) z (G .room (omega arith)) in
+      let s = G .made u in
+      omega arith
+  moved-record c n p q false b true false u _ e f k =
+      let z : x ≡ c = eqb-true x c e in
+      let o : members c t < most = subst (λ (j : ℕ). members j t < most) z (G .room (omega arith)) in
+      let v : 0 < get t (cell (rec c)) = subst (λ (j : ℕ). 0 < get t (cell (rec j))) z (G .there u (omega arith)) in
+      let s = W .held c p q in
+      omega arith
+  moved-record c n p q a true false true _ u e f k =
+      let z : d ≡ c = eqb-true d c f in
+      let o : members c t ≤ 1 = subst (λ (j : ℕ). members j t ≤ 1) z (leb-true (members d t) 1 (sym (G .ends (omega arith)) ∙ u)) in
+      omega arith
+  moved-record c n p q a false false true _ u e f k =
+      let z : d ≡ c = eqb-true d c f in
+      let o : 1 < members c t = subst (λ (j : ℕ). 1 < members j t) z (leb-false (members d t) 1 (sym (G .ends (omega arith)) ∙ u)) in
+      let s = W .held c p q in
+      omega arith
+  moved-record c n p q a b false false _ _ e f k = let s = W .held c p q in omega arith
 
-        n : ℕ
-        n = members c (apply (moving new last g d i x y) t)
-
-        counts : n + one (eqb d c) ≡ m + one (eqb x c)
-        counts =
-            subst (λ (z : ℕ). n + one (eqb z c) ≡ m + one (eqb x c)) (G .from)
-            (members-moved c i x t (apply (moving new last g d i x y) t) (G .small) (W .long) (length-apply (moving new last g d i x y) t)
-            (λ j h. get-apply (moving new last g d i x y) (ctx j) t within h (W .long) ∙ moving-context g d i x y new last j (get t (ctx j))))
-
-        by : (a b e f : Bool) → new ≡ a → last ≡ b → eqb x c ≡ e → eqb d c ≡ f → n + one f ≡ m + one e → SoundRecord (pick (e && a) g (pick (f && b) 0 r)) n
-        by a b true true _ _ e f k = absurd (G .away (eqb-true x c e ∙ sym (eqb-true d c f)))
-        by true b true false u _ e f k =
-            let z : x ≡ c = eqb-true x c e in
-            let o : members c t < most = subst (λ (j : ℕ). members j t < most) z (G .room (omega arith)) in
-            let s = G .made u in
-            omega arith
-        by false b true false u _ e f k =
-            let z : x ≡ c = eqb-true x c e in
-            let o : members c t < most = subst (λ (j : ℕ). members j t < most) z (G .room (omega arith)) in
-            let v : 0 < get t (cell (rec c)) = subst (λ (j : ℕ). 0 < get t (cell (rec j))) z (G .there u (omega arith)) in
-            let s = W .held c p q in
-            omega arith
-        by a true false true _ u e f k =
-            let z : d ≡ c = eqb-true d c f in
-            let o : members c t ≤ 1 = subst (λ (j : ℕ). members j t ≤ 1) z (leb-true (members d t) 1 (sym (G .judged (omega arith)) ∙ u)) in
-            omega arith
-        by a false false true _ u e f k =
-            let z : d ≡ c = eqb-true d c f in
-            let o : 1 < members c t = subst (λ (j : ℕ). 1 < members j t) z (leb-false (members d t) 1 (sym (G .judged (omega arith)) ∙ u)) in
-            let s = W .held c p q in
-            omega arith
-        by a b false false _ _ e f k = let s = W .held c p q in omega arith
-
--- the termination stands there then
-pub moved-here : (t : List ℕ) (new last : Bool) (g d i x y : ℕ) → Whole t → Goes t new last g d i x y → get (apply (moving new last g d i x y) t) (ctx i) ≡ x
-unfolding pick
-moved-here t new last g d i x y W G =
-    get-apply (moving new last g d i x y) (ctx i) t (moved-within t new last g d i x y W G) (G .small) (W .long)
-    ∙ moving-context g d i x y new last i (get t (ctx i)) ∙ rw (eq-eqb i i refl)
+  pub moved-sound : Whole (apply ws t)
+  moved-sound =
+      landed ws t (W .long)
+      (record {
+        within = M .within;
+        place = λ j h. rw (M .context j (get t (ctx j))) (pick-of (λ (z : ℕ). z ≤ contexts) (eqb i j) (λ _. G .low) (λ _. W .place j h));
+        word = λ j h. rw (M .property j (get t (cell (prop j)))) (pick-of SoundWord (eqb i j) (λ _. G .word) (λ _. W .word j h));
+        absent = λ j k h. rw (M .context j (get t (ctx j)), M .property j (get t (cell (prop j)))) (moved-absent j k h (eqb i j) refl);
+        held = λ c p q. rw (M .record′ c (get t (cell (rec c))))
+            (moved-record c (members c (apply ws t)) p q new last (eqb x c) (eqb d c) refl refl refl refl (moved-members c));
+      })
 
 -- ---- a word alone changes
 

@@ -1,16 +1,16 @@
 -- Slots of the table: an address tells its slot back, so different slots never meet.
-use Prim.Native.Nat.{ℕ, zero, suc, _+_, _*_, _-_, _≤_, _<_}
+use Prim.Native.Nat.{ℕ, zero, suc, _+_, _-_, _≤_, _<_}
 use mathlib.Core.Path.{_≡_, refl, sym, ap, ap₂, _∙_}
 use mathlib.Core.Logic.{_≢_}
 use mathlib.Core.Bool.{Bool, true, false, _&&_}
 use mathlib.Core.List.{List, [], _∷_}
-use lib.ListN.{length, getD, set, length-set}
+use lib.ListN.{length, length-set}
 use lib.Seq.{getD-set-same, getD-set-other, set-comm}
 use lib.Dec.{ltb, eqb}
 use borrow.Author.Tests.{lt-ltb, le-ltb, eqb-true, eq-eqb}
 use native.Mathlib.Omega.{arith}
 use Rattle.base.specs.Pick.{pick}
-use Rattle.megaco.specs.Table.{terminations, contexts, words, Cell, prop, rec, Slot, ctx, cell, address, get, Write, write, store, apply}
+use Rattle.megaco.specs.Table.{terminations, contexts, words, prop, rec, Slot, ctx, cell, address, get, Write, write, store, apply}
 use Rattle.laws.specs.Tests.{clash, and-both}
 
 -- a slot of the table

@@ -1,18 +1,18 @@
 -- A sound table (document 01, 'The lent table') as facts by the number of a termination and of a context, and both ways to the test `sound`.
-use Prim.Native.Nat.{ℕ, zero, suc, _+_, _*_, _-_, _/_, _%_, _≤_, _<_, min}
+use Prim.Native.Nat.{ℕ, zero, suc, _+_, _-_, _≤_, _<_, min}
 use mathlib.Core.Path.{_≡_, refl, sym, ap, _∙_}
 use mathlib.Core.Bool.{Bool, true, false, not, _&&_}
 use mathlib.Core.List.{List, [], _∷_}
-use lib.ListN.{length, getD, take, drop, length-take, length-drop}
+use lib.ListN.{length, replicate, getD, drop, length-take, length-drop}
 use lib.Seq.{getD-take, getD-drop}
-use lib.Dec.{ltb, leb, eqb}
-use borrow.Author.Tests.{eqb-true, eqb-false, eq-eqb, ne-eqb, leb-true, leb-false, le-leb, lt-leb, not-true, not-false}
+use lib.Dec.{leb, eqb}
+use borrow.Author.Tests.{eqb-true, eqb-false, eq-eqb, ne-eqb, leb-true, le-leb, not-true, not-false}
 use native.Mathlib.Nat.{add-zero}
 use native.Mathlib.Omega.{arith}
 use Rattle.base.specs.Pick.{pick}
 use Rattle.base.specs.Lists.{every, count}
 use Rattle.megaco.specs.Table.{lineTerminations, ephemerals, terminations, contexts, words, most, prop, rec, ctx, cell, get, contextWords, propertyWords, recordWords, ephemeralContexts, ephemeralProperties, members, modeOf, stateOf, isPropertyWord, absentAreZero, recordIsSound, recordsAreSound, sound}
-use Rattle.laws.specs.Tests.{clash, and-both, both-and, pick-both, both-pick, pick-other, other-pick}
+use Rattle.laws.specs.Tests.{and-both, both-and, pick-both, both-pick, pick-other, other-pick}
 
 -- ---- facts
 
@@ -35,6 +35,13 @@ pub record Whole (t : List ℕ) : Type 0 where
   -- "an absent ephemeral's property 0"
   pub absent : (i : ℕ) → lineTerminations ≤ i → i < terminations → get t (ctx i) ≡ 0 → get t (cell (prop i)) ≡ 0
   pub held : (c : ℕ) → 0 < c → c ≤ contexts → SoundRecord (get t (cell (rec c))) (members c t)
+
+-- a context has a record exactly when some termination stands in it
+pub alive : (t : List ℕ) → Whole t → (c : ℕ) → 0 < c → c ≤ contexts → 0 < members c t → 0 < get t (cell (rec c))
+alive t w c p q h = let s = w .held c p q in omega arith
+
+pub peopled : (t : List ℕ) → Whole t → (c : ℕ) → 0 < c → c ≤ contexts → 0 < get t (cell (rec c)) → 0 < members c t
+peopled t w c p q h = let s = w .held c p q in omega arith
 
 -- ---- the tests of one word, and of one record
 
@@ -251,3 +258,8 @@ whole-sound t w =
     held i h =
         let b : i < contexts = omega (arith, record-words t (w .long)) in
         rw (record-at t i b) (w .held (1 + i) (omega arith) (omega arith))
+
+-- "All zero is the fresh table"
+pub fresh-sound : sound (replicate words 0) ≡ true
+unfolding sound contextWords propertyWords recordWords ephemeralContexts ephemeralProperties every isPropertyWord absentAreZero recordIsSound recordsAreSound count pick
+fresh-sound = refl

@@ -1,11 +1,9 @@
 -- The values that a command's items give are values that there are, and a property word stays one with them.
-use Prim.Native.Nat.{ℕ, _+_, _*_, _/_, _%_, _≤_}
-use mathlib.Core.Path.{_≡_, refl}
+use Prim.Native.Nat.{ℕ, _+_, _*_, _≤_}
 use mathlib.Core.Bool.{Bool, true, false}
 use mathlib.Core.List.{List, [], _∷_}
 use mathlib.Core.Option.{Option, none, some}
 use native.Mathlib.Omega.{arith}
-use Rattle.base.specs.Pick.{pick}
 use Rattle.megaco.specs.declared.Given.{Given}
 use Rattle.megaco.specs.declared.Given.the-variants.{Keep, To}
 use Rattle.megaco.specs.declared.Judged.{Judged}
@@ -41,31 +39,31 @@ update-sound vs w f s = by (vs .mode) (vs .state) (f .mode) (f .state)
 
 -- ---- what items give
 
-abbrev Low : ℕ → Given → Type 0
-Low n g = change g 0 ≤ n
+abbrev UpTo : ℕ → Given → Type 0
+UpTo n g = change g 0 ≤ n
 
 abbrev limit : Kind → ℕ
 limit InControl = 4
 limit InState = 2
 
-mode-low : (w : List ℕ) → Low 4 (modeGiven w)
+mode-low : (w : List ℕ) → UpTo 4 (modeGiven w)
 unfolding modeGiven
 mode-low w =
-    pick-of (Low 4) _ (λ _. omega arith) (λ _. pick-of (Low 4) _ (λ _. omega arith) (λ _. pick-of (Low 4) _ (λ _. omega arith)
-    (λ _. pick-of (Low 4) _ (λ _. omega arith) (λ _. pick-of (Low 4) _ (λ _. omega arith) (λ _. omega arith)))))
+    pick-of (UpTo 4) _ (λ _. omega arith) (λ _. pick-of (UpTo 4) _ (λ _. omega arith) (λ _. pick-of (UpTo 4) _ (λ _. omega arith)
+    (λ _. pick-of (UpTo 4) _ (λ _. omega arith) (λ _. pick-of (UpTo 4) _ (λ _. omega arith) (λ _. omega arith)))))
 
-state-low : (w : List ℕ) → Low 2 (stateGiven w)
+state-low : (w : List ℕ) → UpTo 2 (stateGiven w)
 unfolding stateGiven
-state-low w = pick-of (Low 2) _ (λ _. omega arith) (λ _. pick-of (Low 2) _ (λ _. omega arith) (λ _. pick-of (Low 2) _ (λ _. omega arith) (λ _. omega arith)))
+state-low w = pick-of (UpTo 2) _ (λ _. omega arith) (λ _. pick-of (UpTo 2) _ (λ _. omega arith) (λ _. pick-of (UpTo 2) _ (λ _. omega arith) (λ _. omega arith)))
 
-value-low : (k : Kind) (v : Option Value) → Low (limit k) (valueGiven k v)
+value-low : (k : Kind) (v : Option Value) → UpTo (limit k) (valueGiven k v)
 unfolding valueGiven
 value-low k none = omega arith
 value-low k (some (quoted w)) = omega arith
 value-low InControl (some (plain w)) = mode-low w
 value-low InState (some (plain w)) = state-low w
 
-set-fair : (k : Kind) (g : Given) (vs : Values) → Low (limit k) g → Fair vs → FairItems (setValue k g vs)
+set-fair : (k : Kind) (g : Given) (vs : Values) → UpTo (limit k) g → Fair vs → FairItems (setValue k g vs)
 unfolding setValue
 set-fair k Keep vs l f = wrong
 set-fair InControl (To x) vs l f = right (record { mode = l; state = f .state })
