@@ -2,23 +2,23 @@
 use Prim.Native.Nat.{ℕ, _≤_, _<_}
 use mathlib.Core.Path.{_≡_, refl, sym, ap, _∙_}
 use mathlib.Core.Logic.{_≢_}
-use mathlib.Core.Bool.{Bool, true, false, and-true, and-false}
-use mathlib.Core.List.{List, _∷_}
+use mathlib.Core.Bool.{Bool, true, false, _&&_, and-true, and-false}
+use mathlib.Core.List.{List}
 use lib.Dec.{ltb, leb, eqb}
 use borrow.Author.Tests.{eqb-true, eqb-false, eq-eqb, ltb-true, lt-ltb, leb-true, leb-false, le-leb, not-false}
 use native.Mathlib.Omega.{arith}
 use Rattle.base.specs.Pick.{pick}
 use Rattle.megaco.specs.declared.Context.{Context}
-use Rattle.megaco.specs.declared.Context.the-variants.{Null, Numbered, Choose, All}
+use Rattle.megaco.specs.declared.Context.the-variants.{Numbered, Choose}
 use Rattle.megaco.specs.declared.Op.{Op}
 use Rattle.megaco.specs.declared.Op.the-variants.{Add, Modify, Subtract, Move}
 use Rattle.megaco.specs.declared.Values.{Values}
 use Rattle.megaco.specs.declared.Seen.{Seen}
 use Rattle.megaco.specs.declared.View.{View}
-use Rattle.megaco.specs.Table.{lineTerminations, terminations, contexts, most, prop, rec, ctx, cell, get, Write, write, apply, recordWords, isEphemeral, exists, known, members, freeContext}
+use Rattle.megaco.specs.Table.{lineTerminations, terminations, contexts, most, prop, rec, ctx, cell, get, Write, apply, recordWords, isEphemeral, exists, known, members, freeContext}
 use Rattle.megaco.specs.Items.{update}
 use Rattle.megaco.specs.Running.{unseen, seen, numberOf, freeAt, look, isChoose, target, roomChecks, checks, joining, leaving, placed, added, subtracted, changes, settled, isModify}
-use Rattle.laws.specs.Tests.{clash, and-both, both-and, pick-of, Passed, judged}
+use Rattle.laws.specs.Tests.{clash, and-both, both-and, pick-of, Passed}
 use Rattle.laws.specs.Counting.{member, lowest}
 use Rattle.laws.specs.Sound.{SoundWord, Whole, alive, record-words, record-at}
 use Rattle.laws.specs.Values.{Fair, update-sound}
@@ -55,24 +55,23 @@ seen-there c t h = by (known c) refl h
     by true e h = let k = known-both c e in (k .0, k .1, h)
     by false e h = absurd (omega arith)
 
--- ---- what the tests of an attempt tell: the laws below know no places among them
+-- ---- what the tests of an attempt tell: `search` finds each among those passed, wherever it stands
 
-may-join : (at : Context) (v : View) → Passed (roomChecks at v) → (isChoose at ≡ true → 0 < v .free) × (v .there .members < most)
+may-join : (at : Context) (v : View) → Passed (roomChecks at v) → (isChoose at && eqb (v .free) 0 ≡ false) × (v .there .members < most)
 unfolding roomChecks
-may-join at v p =
-    (λ e. let z : eqb (v .free) 0 ≡ false = rw e at (p .0) in omega (arith, eqb-false (v .free) 0 z), leb-false most (v .there .members) (p .1 .0))
+may-join at v p = (search p, search leb-false)
 
 may-add : (at : Context) (v : View) → Passed (checks Add at v) → (v .here ≡ 0) × Passed (roomChecks at v)
 unfolding checks
-may-add at v p = (eqb-true (v .here) 0 (not-false (eqb (v .here) 0) (p .0)), p .1)
+may-add at v p = (search (eqb-true, not-false), search p)
 
 may-subtract : (at : Context) (v : View) → Passed (checks Subtract at v) → v .here ≡ numberOf at
 unfolding checks
-may-subtract at v p = eqb-true (v .here) (numberOf at) (not-false (eqb (v .here) (numberOf at)) (p .0))
+may-subtract at v p = search (eqb-true, not-false)
 
-may-move : (at : Context) (v : View) → Passed (checks Move at v) → (0 < v .here) × (v .here ≢ numberOf at) × Passed (roomChecks at v)
+may-move : (at : Context) (v : View) → Passed (checks Move at v) → (v .here ≢ 0) × (v .here ≢ numberOf at) × Passed (roomChecks at v)
 unfolding checks
-may-move at v p = (omega (arith, eqb-false (v .here) 0 (p .0)), eqb-false (v .here) (numberOf at) (p .1 .0), p .1 .1)
+may-move at v p = (search eqb-false, search eqb-false, search p)
 
 -- ---- what an attempt relies on, beside a sound table
 
@@ -119,7 +118,7 @@ free-target t W h =
 
 targeted : (at : Context) (i : ℕ) (t : List ℕ) → Whole t → Joins at t → Passed (roomChecks at (look at i t)) → Target at t (target at (look at i t))
 unfolding look target isChoose numberOf freeAt pick
-targeted Choose i t W anew p = free-target t W (may-join Choose (look Choose i t) p .0 refl)
+targeted Choose i t W anew p = free-target t W (omega (arith, eqb-false (freeContext t) 0 (may-join Choose (look Choose i t) p .0)))
 targeted (Numbered c) i t W (there q l h) p =
     record {
       some = q;
@@ -143,7 +142,7 @@ placed-moves : (g d i x y : ℕ) → i < terminations → Moves false false g d 
 unfolding placed pick
 placed-moves g d i x y h =
     record {
-      within = (h, (h, tt));
+      within = omega arith;
       context = λ j v. refl;
       property = λ j v. refl;
       record′ = λ c v. rw (and-false (eqb x c), and-false (eqb d c));
@@ -151,32 +150,41 @@ placed-moves g d i x y h =
 
 joining-moves : (at : Context) (g d i y : ℕ) (v : View) (t : List ℕ) → Target at t (target at v) → i < terminations
     → Moves (isChoose at) false g d i (target at v) y (joining at g v (placed i (target at v) y))
-unfolding joining target isChoose placed pick
-joining-moves Null g d i y v t T h = placed-moves g d i (target Null v) y h
-joining-moves (Numbered c) g d i y v t T h = placed-moves g d i (target (Numbered c) v) y h
-joining-moves Choose g d i y v t T h =
+unfolding joining target placed pick
+joining-moves at g d i y v t T h =
+    pick-of (Moves (isChoose at) false g d i (target at v) y) (isChoose at)
+    (λ e. let n : target at v ≡ v .free = rw e in
     record {
-      within = ((T .some, T .low), (h, (h, tt)));
-      context = λ j v. refl;
-      property = λ j v. refl;
-      record′ = λ c w. rw (and-true (eqb (v .free) c), and-false (eqb d c));
-    }
-joining-moves All g d i y v t T h = placed-moves g d i (target All v) y h
+      within = omega arith;
+      context = λ j w. refl;
+      property = λ j w. refl;
+      record′ = λ c w. rw (e, and-true (eqb (v .free) c), and-false (eqb d c));
+    })
+    (λ e. let n : target at v ≡ numberOf at = rw e in
+    record {
+      within = omega arith;
+      context = λ j w. refl;
+      property = λ j w. refl;
+      record′ = λ c w. rw (e, and-false (eqb (numberOf at) c), and-false (eqb d c));
+    })
 
 leaving-moves : (new : Bool) (g i x y : ℕ) (v : View) (ws : List Write) → 0 < v .here → v .here ≤ contexts → Moves new false g (v .here) i x y ws
     → Moves new (leb (v .from .members) 1) g (v .here) i x y (leaving v ws)
 unfolding leaving pick
-leaving-moves new g i x y v ws p q M = by (leb (v .from .members) 1)
-  where
-    by : (b : Bool) → Moves new b g (v .here) i x y (pick b (write (cell (rec (v .here))) 0 ∷ ws) ws)
-    by true =
-        record {
-          within = ((p, q), M .within);
-          context = M .context;
-          property = M .property;
-          record′ = λ c w. M .record′ c (pick (eqb (v .here) c) 0 w) ∙ rw (and-true (eqb (v .here) c), and-false (eqb (v .here) c));
-        }
-    by false = M
+leaving-moves new g i x y v ws p q M =
+    pick-of (Moves new (leb (v .from .members) 1) g (v .here) i x y) (leb (v .from .members) 1)
+    (λ e. record {
+      within = search M;
+      context = M .context;
+      property = M .property;
+      record′ = λ c w. M .record′ c (pick (eqb (v .here) c) 0 w) ∙ rw (e, and-true (eqb (v .here) c), and-false (eqb (v .here) c));
+    })
+    (λ e. record {
+      within = search M;
+      context = M .context;
+      property = M .property;
+      record′ = λ c w. rw e (M .record′ c w);
+    })
 
 -- a context that is joined
 joined : (at : Context) (g d i x y : ℕ) (t : List ℕ) (last : Bool) → Target at t x → Present g → i < terminations → get t (ctx i) ≡ d → x ≢ d → SoundWord y
@@ -302,8 +310,9 @@ attempt-sound Move at given i vs t W j M G F p =
     let w : ℕ = get t (cell (prop i)) in
     let d : ℕ = get t (ctx i) in
     let q = may-move at v p in
+    let b : 0 < d = omega (arith, q .0) in
     let T = targeted at i t W j (q .2) in
     arrives Move at given d i (update vs w) t (leb (seen d t .members) 1) _ refl (λ c u k. k) W j T
-    (leaving-moves (isChoose at) given i (target at v) (update vs w) v _ (q .0) (W .place i (M .small)) (joining-moves at given d i (update vs w) v t T (M .small)))
-    (joined at given d i (target at v) (update vs w) t (leb (seen d t .members) 1) T G (M .small) refl (moved-away at i (target at v) t W T (M .small) (q .0) (q .1))
+    (leaving-moves (isChoose at) given i (target at v) (update vs w) v _ b (W .place i (M .small)) (joining-moves at given d i (update vs w) v t T (M .small)))
+    (joined at given d i (target at v) (update vs w) t (leb (seen d t .members) 1) T G (M .small) refl (moved-away at i (target at v) t W T (M .small) b (q .1))
     (update-sound vs w F (W .word i (M .small))) (λ z. ap (λ (m : ℕ). leb m 1) (here-low i t W (M .small) z)))

@@ -2,7 +2,7 @@
 use Prim.Native.Nat.{ℕ, _+_, _≤_, _<_}
 use mathlib.Core.Path.{_≡_, refl, sym, _∙_, subst}
 use mathlib.Core.Logic.{_≢_}
-use mathlib.Core.Bool.{Bool, true, false, _&&_, and-true, and-false}
+use mathlib.Core.Bool.{Bool, true, false, _&&_}
 use mathlib.Core.List.{List, [], _∷_}
 use lib.ListN.{length}
 use lib.Dec.{leb, eqb}
@@ -10,7 +10,6 @@ use borrow.Author.Tests.{eqb-true, eq-eqb, leb-true, leb-false}
 use native.Mathlib.Omega.{arith}
 use Rattle.base.specs.Pick.{pick}
 use Rattle.megaco.specs.Table.{lineTerminations, terminations, contexts, words, most, prop, rec, ctx, cell, get, Write, write, apply, members}
-use Rattle.megaco.specs.Running.{placed}
 use Rattle.laws.specs.Tests.{pick-of}
 use Rattle.laws.specs.Slots.{length-apply, holds, Within, get-apply}
 use Rattle.laws.specs.Counting.{one, members-same, members-moved}
