@@ -1,9 +1,9 @@
--- An attempt leaves a sound table sound, in a numbered context, in null and in `$`.
+-- Attempts leave a sound table sound, in a numbered context, in null and in `$`, a wildcard's too.
 use Prim.Native.Nat.{ℕ, _≤_, _<_}
 use mathlib.Core.Path.{_≡_, refl, sym, ap, _∙_}
 use mathlib.Core.Logic.{_≢_}
 use mathlib.Core.Bool.{Bool, true, false, _&&_, and-true, and-false}
-use mathlib.Core.List.{List}
+use mathlib.Core.List.{List, [], _∷_}
 use lib.Dec.{ltb, leb, eqb}
 use borrow.Author.Tests.{eqb-true, eqb-false, eq-eqb, ltb-true, lt-ltb, leb-true, leb-false, le-leb, not-false}
 use native.Mathlib.Omega.{arith}
@@ -17,12 +17,12 @@ use Rattle.megaco.specs.declared.Seen.{Seen}
 use Rattle.megaco.specs.declared.View.{View}
 use Rattle.megaco.specs.Table.{lineTerminations, terminations, contexts, most, prop, rec, ctx, cell, get, Write, apply, recordWords, isEphemeral, exists, known, members, freeContext}
 use Rattle.megaco.specs.Items.{update}
-use Rattle.megaco.specs.Running.{unseen, seen, numberOf, freeAt, look, isChoose, target, roomChecks, checks, joining, leaving, placed, added, subtracted, changes, settled, isModify}
-use Rattle.laws.specs.Tests.{clash, and-both, both-and, pick-of, Passed}
+use Rattle.megaco.specs.Running.{unseen, seen, numberOf, freeAt, look, isChoose, target, roomChecks, checks, joining, leaving, placed, added, subtracted, changes, settled, isModify, Result, attempt, Effect, concluded, effect, tries}
+use Rattle.laws.specs.Tests.{clash, and-both, both-and, pick-of, Passed, judged}
 use Rattle.laws.specs.Counting.{member, lowest}
 use Rattle.laws.specs.Sound.{SoundWord, Whole, alive, record-words, record-at}
 use Rattle.laws.specs.Values.{Fair, update-sound}
-use Rattle.laws.specs.Aims.{Meant}
+use Rattle.laws.specs.Aims.{Meant, Each, more, each-on}
 use Rattle.laws.specs.Moved.{Moves, Goes, moved-sound, moved-here, modified-place, modified-sound}
 
 -- ---- what an attempt sees
@@ -316,3 +316,23 @@ attempt-sound Move at given i vs t W j M G F p =
     (leaving-moves (isChoose at) given i (target at v) (update vs w) v _ b (W .place i (M .small)) (joining-moves at given d i (update vs w) v t T (M .small)))
     (joined at given d i (target at v) (update vs w) t (leb (seen d t .members) 1) T G (M .small) refl (moved-away at i (target at v) t W T (M .small) b (q .1))
     (update-sound vs w F (W .word i (M .small))) (λ z. ap (λ (m : ℕ). leb m 1) (here-low i t W (M .small) z)))
+
+-- ---- the attempts of a command
+
+pub effect-sound : (op : Op) (wild : Bool) (name : List ℕ) (given : ℕ) (vs : Values) (i : ℕ) (at : Context) (t : List ℕ)
+    → Whole t → Ready op at t → Meant op t i → Present given → Fair vs
+    → Leaves op (effect op wild name given vs i at (look at i t) .at) t (apply (effect op wild name given vs i at (look at i t) .writes) t)
+unfolding effect attempt concluded apply
+effect-sound op wild name given vs i at t W r m G F =
+    judged (λ (x : Result). Leaves op (concluded op wild name i at (look at i t) x .at) t (apply (concluded op wild name i at (look at i t) x .writes) t))
+    (checks op at (look at i t)) (changes op at given i vs (look at i t)) (λ code. record { whole = W; ready = r; meant = λ j k. k })
+    (λ p. attempt-sound op at given i vs t W r m G F p)
+
+pub tries-sound : (op : Op) (wild : Bool) (name : List ℕ) (given : ℕ) (vs : Values) (is : List ℕ) (at : Context) (t : List ℕ)
+    → Whole t → Ready op at t → Each (Meant op t) is → Present given → Fair vs → Whole (tries op wild name given vs is at t .table)
+unfolding tries
+tries-sound op wild name given vs [] at t W r m G F = W
+tries-sound op wild name given vs (i ∷ is) at t W r (more m ms) G F =
+    let e : Effect = effect op wild name given vs i at (look at i t) in
+    let l = effect-sound op wild name given vs i at t W r m G F in
+    tries-sound op wild name given vs is (e .at) (apply (e .writes) t) (l .whole) (l .ready) (each-on (Meant op t) (Meant op (apply (e .writes) t)) is (l .meant) ms) G F

@@ -6,4 +6,6 @@ pub mod Moved
 pub mod Values
 pub mod Aims
 pub mod Attempts
+pub mod Starts
+pub mod Runs
 pub mod Kept

@@ -174,14 +174,14 @@ ephemeral-property-at t k h = getD-drop lineTerminations (propertyWords t) k 0 �
 -- ---- the test of a table
 
 -- the five tests of `sound`, one by one
-record Tests (t : List ℕ) : Type 0 where
+record FiveTests (t : List ℕ) : Type 0 where
   long : eqb (length t) words ≡ true
   places : every (λ w. leb w contexts) (contextWords t) ≡ true
   properties : every isPropertyWord (propertyWords t) ≡ true
   absents : absentAreZero (ephemeralContexts t) (ephemeralProperties t) ≡ true
   records : recordsAreSound (contextWords t) 1 (recordWords t) ≡ true
 
-sound-tests : (t : List ℕ) → sound t ≡ true → Tests t
+sound-tests : (t : List ℕ) → sound t ≡ true → FiveTests t
 unfolding sound
 sound-tests t e =
     let b₁ = and-both _ _ e in
@@ -190,7 +190,7 @@ sound-tests t e =
     let b₄ = and-both _ _ (b₃ .0) in
     record { long = b₄ .0; places = b₄ .1; properties = b₃ .1; absents = b₂ .1; records = b₁ .1 }
 
-tests-sound : (t : List ℕ) → Tests t → sound t ≡ true
+tests-sound : (t : List ℕ) → FiveTests t → sound t ≡ true
 unfolding sound
 tests-sound t s = rw (s .long, s .places, s .properties, s .absents, s .records)
 
@@ -198,7 +198,7 @@ pub sound-whole : (t : List ℕ) → sound t ≡ true → Whole t
 unfolding members
 sound-whole t e = record { long = long; place = place; word = word; absent = absent; held = held }
   where
-    s : Tests t
+    s : FiveTests t
     s = sound-tests t e
 
     long : length t ≡ words
