@@ -1,3 +1,4 @@
+pub mod Tests
 pub mod Slots
 pub mod Counting
 pub mod Bounds
@@ -15,3 +16,11 @@ pub mod Reaching
 pub mod Demand
 pub mod Witness
 pub mod Needed
+pub mod Sound
+pub mod Moved
+pub mod Values
+pub mod Aims
+pub mod Attempts
+pub mod Starts
+pub mod Runs
+pub mod Kept
