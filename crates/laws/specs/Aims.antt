@@ -18,7 +18,7 @@ use Rattle.megaco.specs.declared.Name.the-variants.{Termination, Root, Chosen, 
 use Rattle.megaco.specs.Table.{lines, channels, ephemerals, terminations, words, ctx, get, contextWords, ephemeralContexts, exists, freeEphemeral}
 use Rattle.megaco.specs.Names.{within, lineName, ephemeralName, plainName, lineRange, wildcardName, capitalName, nameOf, inRange}
 use Rattle.megaco.specs.Running.{wanted, matchesFrom, matches, Aim, misses, gateway, meets, isAdd, isModify, aimRoot, aimFree, aimMatches, aim}
-use Rattle.laws.specs.Tests.{clash, and-both, pick-of}
+use Rattle.base.proofs.TestLaws.{clash, and-both, pick-of}
 use Rattle.laws.specs.Counting.{lowest}
 use Rattle.laws.specs.Sound.{context-words, context-at, ephemeral-contexts}
 

@@ -18,7 +18,8 @@ use Rattle.megaco.specs.declared.View.{View}
 use Rattle.megaco.specs.Table.{lineTerminations, terminations, contexts, most, prop, rec, ctx, cell, get, Write, apply, recordWords, isEphemeral, exists, known, members, freeContext}
 use Rattle.megaco.specs.Items.{update}
 use Rattle.megaco.specs.Running.{unseen, seen, numberOf, freeAt, look, isChoose, target, roomChecks, checks, joining, leaving, placed, added, subtracted, changes, settled, isModify, Result, attempt, Effect, concluded, effect, tries}
-use Rattle.laws.specs.Tests.{clash, and-both, both-and, pick-of, Passed, judged}
+use Rattle.base.proofs.TestLaws.{clash, and-both, both-and, pick-of}
+use Rattle.laws.specs.Passed.{Passed, judged}
 use Rattle.laws.specs.Counting.{member, lowest}
 use Rattle.laws.specs.Sound.{SoundWord, Whole, alive, record-words, record-at}
 use Rattle.laws.specs.Values.{Fair, update-sound}

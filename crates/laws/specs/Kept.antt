@@ -17,7 +17,7 @@ use Rattle.megaco.specs.Table.{contexts, rec, cell, get, sound}
 use Rattle.megaco.specs.Names.{nameOf}
 use Rattle.megaco.specs.Running.{Step, State, step, seen, numberOf, missed, Aim, misses, gateway, meets, isSubtract, isNull, isModify, aimed, barred, lost, runCommand, runTransaction, runTransactions, runMessage}
 use Rattle.megaco.specs.Call.{call}
-use Rattle.laws.specs.Tests.{clash}
+use Rattle.base.proofs.TestLaws.{clash}
 use Rattle.laws.specs.Sound.{Whole, sound-whole, whole-sound}
 use Rattle.laws.specs.Values.{Fair}
 use Rattle.laws.specs.Aims.{name-low, Aims, those, aim-meant}

@@ -1,8 +1,7 @@
-pub mod Tests
+pub mod Passed
 pub mod Slots
 pub mod Counting
 pub mod Bounds
-pub mod Bools
 pub mod Frame
 pub mod Views
 pub mod Written

@@ -10,7 +10,7 @@ use borrow.Author.Tests.{eqb-true, eq-eqb, leb-true, leb-false}
 use native.Mathlib.Omega.{arith}
 use Rattle.base.specs.Pick.{pick}
 use Rattle.megaco.specs.Table.{lineTerminations, terminations, contexts, words, most, prop, rec, ctx, cell, get, Write, write, apply, members}
-use Rattle.laws.specs.Tests.{pick-of}
+use Rattle.base.proofs.TestLaws.{pick-of}
 use Rattle.laws.specs.Slots.{length-apply, holds, Within, get-apply}
 use Rattle.laws.specs.Counting.{one, members-same, members-moved}
 use Rattle.laws.specs.Sound.{SoundWord, SoundRecord, Whole}

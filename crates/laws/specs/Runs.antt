@@ -19,7 +19,7 @@ use Rattle.megaco.specs.Reply.{Acted}
 use Rattle.megaco.specs.Running.{seen, numberOf, look, Effect, effect, Outcome, tries, missed, actionError, Aim, misses, gateway, meets, isSubtract, aim, aimed, opOf, barred, lost, named, tested, unlessOptional, ordered, runCommand, started, Step, start, order, steps, progress, State, state, begin, advance, proceed, step, run, fresh, runTransaction, runTransactions, runMessage}
 use Rattle.megaco.specs.Reading.{messageR}
 use Rattle.megaco.specs.Call.{Called, written, replied, taken, call}
-use Rattle.laws.specs.Tests.{pick-of}
+use Rattle.base.proofs.TestLaws.{pick-of}
 use Rattle.laws.specs.Slots.{length-apply}
 use Rattle.laws.specs.Values.{Fair, FairItems, right, items-fair}
 

@@ -11,7 +11,7 @@ use borrow.Author.Tests.{lt-ltb, le-ltb, eqb-true, eq-eqb}
 use native.Mathlib.Omega.{arith}
 use Rattle.base.specs.Pick.{pick}
 use Rattle.megaco.specs.Table.{terminations, contexts, words, prop, rec, Slot, ctx, cell, address, get, Write, write, store, apply}
-use Rattle.laws.specs.Tests.{clash, and-both}
+use Rattle.base.proofs.TestLaws.{clash, and-both}
 
 -- a slot of the table
 abbrev pub Valid : Slot → Type 0

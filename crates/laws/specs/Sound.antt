@@ -12,7 +12,7 @@ use native.Mathlib.Omega.{arith}
 use Rattle.base.specs.Pick.{pick}
 use Rattle.base.specs.Lists.{every, count}
 use Rattle.megaco.specs.Table.{lineTerminations, ephemerals, terminations, contexts, words, most, prop, rec, ctx, cell, get, contextWords, propertyWords, recordWords, ephemeralContexts, ephemeralProperties, members, modeOf, stateOf, isPropertyWord, absentAreZero, recordIsSound, recordsAreSound, sound}
-use Rattle.laws.specs.Tests.{and-both, both-and, pick-both, both-pick, pick-other, other-pick}
+use Rattle.base.proofs.TestLaws.{and-both, both-and, pick-both, both-pick, pick-other, other-pick}
 
 -- ---- facts
 

@@ -12,7 +12,8 @@ use Rattle.megaco.specs.declared.Property.{Property}
 use Rattle.megaco.specs.declared.Property.the-variants.{Priority, Emergency}
 use Rattle.megaco.specs.Table.{rec, cell, Write, write, apply, priorityOf, emergencyOf}
 use Rattle.megaco.specs.Running.{Result, seen, numberOf, over15, anyGiven, startChecks, newRecord, setProperties, startWrites, startedBy, started}
-use Rattle.laws.specs.Tests.{clash, or-neither, pick-of, Passed, judged}
+use Rattle.base.proofs.TestLaws.{clash, or-neither, pick-of}
+use Rattle.laws.specs.Passed.{Passed, judged}
 use Rattle.laws.specs.Sound.{Whole}
 use Rattle.laws.specs.Moved.{recorded-sound}
 use Rattle.laws.specs.Attempts.{seen-held, seen-there, Present}

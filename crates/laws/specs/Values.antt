@@ -14,7 +14,7 @@ use Rattle.megaco.specs.declared.Values.{Values}
 use Rattle.megaco.specs.Tree.{Value, plain, quoted, ItemOf, item, Items}
 use Rattle.megaco.specs.Table.{modeOf, stateOf}
 use Rattle.megaco.specs.Items.{change, update, onward, modeGiven, stateGiven, valueGiven, setValue, propertyItems, itemsIn, mediaItems, topItems, unchanged, judgeItems}
-use Rattle.laws.specs.Tests.{pick-of}
+use Rattle.base.proofs.TestLaws.{pick-of}
 use Rattle.laws.specs.Sound.{SoundWord}
 
 -- modes 0..4, states 0..2

@@ -17,7 +17,7 @@ use Rattle.megaco.specs.declared.Op.{Op}
 use Rattle.megaco.specs.declared.Op.the-variants.{Add, Modify, Subtract, Move}
 use Rattle.megaco.specs.declared.Values.{Values}
 use Rattle.megaco.specs.declared.View.{View}
-use Rattle.laws.specs.Bools.{clash, and-false}
+use Rattle.base.proofs.TestLaws.{clash, and-false}
 use Rattle.laws.specs.Frame.{Ours, AllOurs, nothing, also, Foot}
 use Rattle.laws.specs.Views.{known-above, held-known, Seat}
 

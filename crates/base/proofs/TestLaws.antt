@@ -1,12 +1,12 @@
--- What tests tell: a choice by a test, tests joined, and the tests of an attempt that it passed.
+-- What tests tell: a choice by a test, tests joined, lists found the same.
 use Prim.Native.Nat.{ℕ}
 use mathlib.Core.Path.{_≡_, refl, sym}
 use mathlib.Core.Bool.{Bool, true, false, _&&_, _||_}
 use mathlib.Core.List.{List, [], _∷_}
-use borrow.Author.Tests.{eqb-false}
+use lib.Dec.{eqb}
+use borrow.Author.Tests.{eqb-true, eqb-false}
 use Rattle.base.specs.Pick.{pick}
-use Rattle.megaco.specs.Table.{Write}
-use Rattle.megaco.specs.Running.{Check, check, Result, refused, done, judge}
+use Rattle.base.specs.Lists.{same}
 
 pub clash : true ≡ false → ⊥
 clash e = eqb-false 0 0 e refl
@@ -48,14 +48,30 @@ unfolding pick
 pick-of P true h k = h refl
 pick-of P false h k = k refl
 
--- every test is passed
-abbrev pub Passed : List Check → Type 0
-Passed [] = Unit {0}
-Passed (check b code ∷ cs) = (b ≡ false) × Passed cs
+pub not-holds : (b : Bool) → (b ≡ true → ⊥) → b ≡ false
+not-holds true h = absurd (h refl)
+not-holds false h = refl
 
--- what holds of a refusal, and of the writes where every test is passed, holds of the judgement
-pub judged : (P : Result → Type 0) (cs : List Check) (ws : List Write) → ((code : ℕ) → P (refused code)) → (Passed cs → P (done ws)) → P (judge cs ws)
-unfolding judge pick
-judged P [] ws f g = g tt
-judged P (check true code ∷ cs) ws f g = f code
-judged P (check false code ∷ cs) ws f g = judged P cs ws f (λ p. g (refl, p))
+pub and-left : (a b : Bool) → a && b ≡ true → a ≡ true
+and-left true b e = refl
+and-left false b e = absurd (clash (sym e))
+
+pub and-right : (a b : Bool) → a && b ≡ true → b ≡ true
+and-right true b e = e
+and-right false b e = absurd (clash (sym e))
+
+pub and-false : (a b : Bool) → a ≡ true → a && b ≡ false → b ≡ false
+and-false true b h e = e
+and-false false b h e = absurd (clash (sym h))
+
+-- lists that are found the same are equal
+pub same-is : (a b : List ℕ) → same a b ≡ true → a ≡ b
+unfolding same
+same-is [] [] e = refl
+same-is [] (y ∷ ys) e = absurd (clash (sym e))
+same-is (x ∷ xs) [] e = absurd (clash (sym e))
+same-is (x ∷ xs) (y ∷ ys) e =
+    let p : (eqb x y ≡ true) × (same xs ys ≡ true) = pick-both (eqb x y) (same xs ys) e in
+    let q : x ≡ y = eqb-true x y (p .0) in
+    let r : xs ≡ ys = same-is xs ys (p .1) in
+    λ i. q i ∷ r i
