@@ -15,7 +15,7 @@ use Rattle.megaco.specs.declared.Context.{Context}
 use Rattle.megaco.specs.declared.Context.the-variants.{Null, Numbered, Choose, All}
 use Rattle.megaco.specs.declared.Name.{Name}
 use Rattle.megaco.specs.declared.Name.the-variants.{Termination, Root, Chosen, Unchosen, Wildcard, Unmatched, Unknown}
-use Rattle.laws.specs.Bools.{clash, and-left, and-right}
+use Rattle.base.proofs.TestLaws.{clash, and-left, and-right}
 use Rattle.laws.specs.Membership.{_∈_, has-not, not-has, all?, all-is, is-all, noneShared?, onlyZeroShared?, none-shared, only-zero-shared, collect, in-collect, collect-in}
 use Rattle.laws.specs.Apart.{contextsOf, namesOf, ByNumberOrNull, by-number, null-one, ContextsPlain, NamesPlain, Names, Reaches, writes, stands, TerminationsApart, ContextsApart, Apart}
 

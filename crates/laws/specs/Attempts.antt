@@ -1,152 +1,339 @@
--- What an attempt, or an action's start, writes lies in its footprint.
-use Prim.Native.Nat.{ℕ, _<_}
-use mathlib.Core.Path.{_≡_, refl}
-use mathlib.Core.Bool.{Bool, true, false}
+-- Attempts leave a sound table sound, in a numbered context, in null and in `$`, a wildcard's too.
+use Prim.Native.Nat.{ℕ, _≤_, _<_}
+use mathlib.Core.Path.{_≡_, refl, sym, ap, _∙_}
+use mathlib.Core.Logic.{_≢_}
+use mathlib.Core.Bool.{Bool, true, false, _&&_, and-true, and-false}
 use mathlib.Core.List.{List, [], _∷_}
-use lib.Dec.{eqb, leb}
-use borrow.Author.Tests.{eqb-true, eqb-false, not-false}
+use lib.Dec.{ltb, leb, eqb}
+use borrow.Author.Tests.{eqb-true, eqb-false, eq-eqb, ltb-true, lt-ltb, leb-true, leb-false, le-leb, not-false}
 use native.Mathlib.Omega.{arith}
 use Rattle.base.specs.Pick.{pick}
-use Rattle.megaco.specs.Table.{prop, rec, ctx, cell, Write}
-use Rattle.megaco.specs.Running.{Check, check, Result, refused, done, judge, seen, numberOf, isChoose, target, checks, joining, leaving, placed, changes, attempt, settled, Effect, concluded, effect}
-use Rattle.megaco.specs.Running.{isNull, isModify, barred, lost, anyGiven, startChecks, startWrites, Start, startedBy, started}
 use Rattle.megaco.specs.declared.Context.{Context}
-use Rattle.megaco.specs.declared.Context.the-variants.{Null, Numbered, Choose, All}
-use Rattle.megaco.specs.declared.Property.{Property}
+use Rattle.megaco.specs.declared.Context.the-variants.{Numbered, Choose}
 use Rattle.megaco.specs.declared.Op.{Op}
 use Rattle.megaco.specs.declared.Op.the-variants.{Add, Modify, Subtract, Move}
 use Rattle.megaco.specs.declared.Values.{Values}
+use Rattle.megaco.specs.declared.Seen.{Seen}
 use Rattle.megaco.specs.declared.View.{View}
-use Rattle.laws.specs.Bools.{clash, and-false}
-use Rattle.laws.specs.Frame.{Ours, AllOurs, nothing, also, Foot}
-use Rattle.laws.specs.Views.{known-above, held-known, Seat}
+use Rattle.megaco.specs.Table.{lineTerminations, terminations, contexts, most, prop, rec, ctx, cell, get, Write, apply, recordWords, isEphemeral, exists, known, members, freeContext}
+use Rattle.megaco.specs.Items.{update}
+use Rattle.megaco.specs.Running.{unseen, seen, numberOf, freeAt, look, isChoose, target, roomChecks, checks, joining, leaving, placed, added, subtracted, changes, settled, isModify, Result, attempt, Effect, concluded, effect, tries}
+use Rattle.base.proofs.TestLaws.{clash, and-both, both-and, pick-of}
+use Rattle.laws.specs.Passed.{Passed, judged}
+use Rattle.laws.specs.Counting.{member, lowest}
+use Rattle.laws.specs.Sound.{SoundWord, Whole, alive, record-words, record-at}
+use Rattle.laws.specs.Values.{Fair, update-sound}
+use Rattle.laws.specs.Aims.{Meant, Each, more, each-on}
+use Rattle.laws.specs.Moved.{Moves, Goes, moved-sound, moved-here, modified-place, modified-sound}
 
--- every test is passed
-abbrev pub Passed : List Check → Type 0
-Passed [] = Unit {0}
-Passed (check b code ∷ cs) = (b ≡ false) × Passed cs
+-- ---- what an attempt sees
 
-nonzero : (x : ℕ) → (x ≡ 0 → ⊥) → 0 < x
-nonzero x h = omega arith
+pub known-both : (c : ℕ) → known c ≡ true → (0 < c) × (c ≤ contexts)
+unfolding known
+known-both c e = let b = and-both (ltb 0 c) (leb c contexts) e in (ltb-true 0 c (b .0), leb-true c contexts (b .1))
 
-module _ (N K : ℕ → Type 0) where
-  pub data Good : Result → Type 0 where
-    fails : {code : ℕ} → Good (refused code)
-    does : {ws : List Write} → AllOurs N K ws → Good (done ws)
+pub both-known : (c : ℕ) → 0 < c → c ≤ contexts → known c ≡ true
+unfolding known
+both-known c p q = both-and (ltb 0 c) (leb c contexts) (lt-ltb 0 c p) (le-leb c contexts q)
 
-  judge-good : (cs : List Check) (ws : List Write) → (Passed cs → AllOurs N K ws) → Good (judge cs ws)
-  unfolding judge pick
-  judge-good [] ws h = does (h tt)
-  judge-good (check true code ∷ cs) ws h = fails
-  judge-good (check false code ∷ cs) ws h = judge-good cs ws (λ p. h (refl, p))
+pub seen-members : (c : ℕ) (t : List ℕ) → 0 < c → c ≤ contexts → seen c t .members ≡ members c t
+unfolding seen pick
+seen-members c t p q = rw (both-known c p q, seen)
 
-  pick-all : (b : Bool) (vs ws : List Write) → (b ≡ true → AllOurs N K vs) → AllOurs N K ws → AllOurs N K (pick b vs ws)
-  unfolding pick
-  pick-all true vs ws p q = p refl
-  pick-all false vs ws p q = q
+pub seen-held : (c : ℕ) (t : List ℕ) → 0 < c → c ≤ contexts → seen c t .held ≡ get t (cell (rec c))
+unfolding seen pick
+seen-held c t p q = rw (both-known c p q, seen)
 
-  -- a context that exists now: null, or one of the footprint
-  pub seat-home : (op : Op) (w : Context) (t : List ℕ) → Seat N K w → lost op w (seen (numberOf w) t .held) ≡ false → 0 < numberOf w → K (numberOf w)
-  unfolding lost numberOf
-  seat-home op Null t s e h = absurd (omega arith)
-  seat-home op (Numbered c) t s e h = s (held-known c t e)
-  seat-home op Choose t s e h = absurd s
-  seat-home op All t s e h = absurd s
+-- a record seen that is not 0 is that of a context
+pub seen-there : (c : ℕ) (t : List ℕ) → 0 < seen c t .held → (0 < c) × (c ≤ contexts) × (0 < get t (cell (rec c)))
+unfolding seen pick
+seen-there c t h = by (known c) refl h
+  where
+    here : Seen
+    here = record { held = get t (cell (rec c)); members = members c t }
 
-  -- a numbered one, but for a Modify
-  pub seat-above : (op : Op) (w : Context) (t : List ℕ) → Seat N K w → isModify op ≡ false → barred op w ≡ false → lost op w (seen (numberOf w) t .held) ≡ false
-      → 0 < numberOf w
-  unfolding lost numberOf barred isNull
-  seat-above op Null t s x b e = absurd (clash (rw x at b))
-  seat-above op (Numbered c) t s x b e = known-above c (held-known c t e)
-  seat-above op Choose t s x b e = absurd s
-  seat-above op All t s x b e = absurd s
+    by : (b : Bool) → known c ≡ b → 0 < (pick b here unseen) .held → (0 < c) × (c ≤ contexts) × (0 < get t (cell (rec c)))
+    by true e h = let k = known-both c e in (k .0, k .1, h)
+    by false e h = absurd (omega arith)
 
-  module _ (F : Foot N K) where
-    -- one law for each kind of slot
-    ours-ctx : (i v : ℕ) → N i → (0 < v → K v) → Ours N K (ctx i) v
-    ours-ctx i v m k = record { valid = F .small i m; mine = m; fits = k }
+-- ---- what the tests of an attempt tell: `search` finds each among those passed, wherever it stands
 
-    ours-prop : (i v : ℕ) → N i → Ours N K (cell (prop i)) v
-    ours-prop i v m = record { valid = F .small i m; mine = m; fits = tt }
+may-join : (at : Context) (v : View) → Passed (roomChecks at v) → (isChoose at && eqb (v .free) 0 ≡ false) × (v .there .members < most)
+unfolding roomChecks
+may-join at v p = (search p, search leb-false)
 
-    ours-rec : (c v : ℕ) → K c → Ours N K (cell (rec c)) v
-    ours-rec c v k = record { valid = (F .above c k, F .below c k); mine = k; fits = tt }
+may-add : (at : Context) (v : View) → Passed (checks Add at v) → (v .here ≡ 0) × Passed (roomChecks at v)
+unfolding checks
+may-add at v p = (search (eqb-true, not-false), search p)
 
-    placed-all : (i c word : ℕ) → N i → (0 < c → K c) → AllOurs N K (placed i c word)
-    unfolding placed
-    placed-all i c word m k = also (ours-ctx i c m k) (also (ours-prop i word m) nothing)
+may-subtract : (at : Context) (v : View) → Passed (checks Subtract at v) → v .here ≡ numberOf at
+unfolding checks
+may-subtract at v p = search (eqb-true, not-false)
 
-    -- no context is made where none is chosen
-    joining-all : (w : Context) (given : ℕ) (v : View) (i word : ℕ) → Seat N K w → N i → (0 < numberOf w → K (numberOf w))
-        → AllOurs N K (joining w given v (placed i (target w v) word))
-    unfolding joining target isChoose pick
-    joining-all Null given v i word s m k = placed-all i _ word m k
-    joining-all (Numbered c) given v i word s m k = placed-all i _ word m k
-    joining-all Choose given v i word s m k = absurd s
-    joining-all All given v i word s m k = absurd s
+may-move : (at : Context) (v : View) → Passed (checks Move at v) → (v .here ≢ 0) × (v .here ≢ numberOf at) × Passed (roomChecks at v)
+unfolding checks
+may-move at v p = (search eqb-false, search eqb-false, search p)
 
-    leaving-all : (v : View) (ws : List Write) → K (v .here) → AllOurs N K ws → AllOurs N K (leaving v ws)
-    unfolding leaving
-    leaving-all v ws k a = pick-all (leb (v .from .members) 1) _ ws (λ e. also (ours-rec (v .here) 0 k) a) a
+-- ---- what an attempt relies on, beside a sound table
 
-    -- an attempt that passes its tests, in a context that exists
-    changes-all : (op : Op) (w : Context) (given i : ℕ) (vs : Values) (v : View) → Seat N K w → N i → (0 < v .here → K (v .here))
-        → (0 < numberOf w → K (numberOf w)) → (isModify op ≡ false → 0 < numberOf w) → Passed (checks op w v) → AllOurs N K (changes op w given i vs v)
-    unfolding checks changes isModify
-    changes-all Add w given i vs v s m h k z p = joining-all w given v i _ s m k
-    changes-all Modify w given i vs v s m h k z p = also (ours-prop i _ m) nothing
-    changes-all Subtract w given i vs v s m h k z p =
-        let e : v .here ≡ numberOf w = eqb-true (v .here) (numberOf w) (not-false (eqb (v .here) (numberOf w)) (search)) in
-        leaving-all v _ (h (rw e (z refl))) (placed-all i 0 _ m (λ y. absurd (omega arith)))
-    changes-all Move w given i vs v s m h k z p =
-        leaving-all v _ (h (nonzero (v .here) (eqb-false (v .here) 0 (search)))) (joining-all w given v i _ s m k)
+-- a context that a termination may join: it exists, or it will be made
+pub data Joins : Context → List ℕ → Type 0 where
+  anew : {t : List ℕ} → Joins Choose t
+  there : {c : ℕ} {t : List ℕ} → 0 < c → c ≤ contexts → 0 < get t (cell (rec c)) → Joins (Numbered c) t
 
-    -- what an attempt writes, and where its action stands after it
-    pub record Lies (e : Effect) : Type 0 where
-      pub all : AllOurs N K (e .writes)
-      pub seat : Seat N K (e .at)
+-- a context that a termination may leave
+pub data Stands : Context → Type 0 where
+  stands : {c : ℕ} → 0 < c → Stands (Numbered c)
 
-    seat-settled : (w : Context) (v : View) → Seat N K w → Seat N K (settled w v)
-    unfolding settled isChoose pick
-    seat-settled Null v s = s
-    seat-settled (Numbered c) v s = s
-    seat-settled Choose v s = absurd s
-    seat-settled All v s = absurd s
+abbrev pub Ready : Op → Context → List ℕ → Type 0
+Ready Add at t = Joins at t
+Ready Modify at t = Unit {0}
+Ready Subtract at t = Stands at
+Ready Move at t = Joins at t
 
-    concluded-lies : (op : Op) (wild : Bool) (name : List ℕ) (i : ℕ) (w : Context) (v : View) (r : Result) → Seat N K w → Good r → Lies (concluded op wild name i w v r)
-    unfolding concluded
-    concluded-lies op wild name i w v (refused code) s fails = record { all = nothing; seat = s }
-    concluded-lies op wild name i w v (done ws) s (does g) = record { all = g; seat = seat-settled w v s }
+-- a record that a context may have
+pub record Present (g : ℕ) : Type 0 where
+  pub some : 0 < g
+  pub low : g ≤ 32
 
-    pub effect-lies : (op : Op) (wild : Bool) (name : List ℕ) (given : ℕ) (vs : Values) (i : ℕ) (w : Context) (v : View) → Seat N K w → N i
-        → (0 < v .here → K (v .here)) → (0 < numberOf w → K (numberOf w)) → (isModify op ≡ false → 0 < numberOf w)
-        → Lies (effect op wild name given vs i w v)
-    unfolding effect attempt
-    effect-lies op wild name given vs i w v s m h k z =
-        concluded-lies op wild name i w v _ s (judge-good (checks op w v) (changes op w given i vs v) (changes-all op w given i vs v s m h k z))
+-- ---- the context that an attempt joins
 
-    -- ---- an action's start
+record Target (at : Context) (t : List ℕ) (x : ℕ) : Type 0 where
+  some : 0 < x
+  low : x ≤ contexts
+  room : members x t < most
+  fresh : isChoose at ≡ true → get t (cell (rec x)) ≡ 0
+  there : isChoose at ≡ false → 0 < get t (cell (rec x))
+  named : isChoose at ≡ false → x ≡ numberOf at
 
-    -- what it writes, and where its action stands
-    pub record StartLies (x : Start) : Type 0 where
-      pub all : AllOurs N K (x .writes)
-      pub seat : Seat N K (x .acted .at)
+-- the lowest number absent has no record and no members
+free-target : (t : List ℕ) → Whole t → 0 < freeContext t → Target Choose t (freeContext t)
+unfolding freeContext isChoose
+free-target t W h =
+    let a = lowest 1 (recordWords t) h in
+    let b : a .place < contexts = omega (arith, record-words t (W .long)) in
+    let z : get t (cell (rec (freeContext t))) ≡ 0 = rw (a .number) (sym (record-at t (a .place) b) ∙ a .empty) in
+    let l : freeContext t ≤ contexts = omega arith in
+    let s = W .held (freeContext t) h l in
+    record { some = h; low = l; room = omega arith; fresh = λ _. z; there = λ e. absurd (clash e); named = λ e. absurd (clash e) }
 
-    startedBy-lies : (w : Context) (ps : List Property) (alone : Bool) (held : ℕ) (r : Result) → Seat N K w → Good r → StartLies (startedBy w ps alone held r)
-    unfolding startedBy
-    startedBy-lies w ps alone held (refused code) s fails = record { all = nothing; seat = s }
-    startedBy-lies w ps alone held (done ws) s (does g) = record { all = g; seat = s }
+targeted : (at : Context) (i : ℕ) (t : List ℕ) → Whole t → Joins at t → Passed (roomChecks at (look at i t)) → Target at t (target at (look at i t))
+unfolding look target isChoose numberOf freeAt pick
+targeted Choose i t W anew p = free-target t W (omega (arith, eqb-false (freeContext t) 0 (may-join Choose (look Choose i t) p .0)))
+targeted (Numbered c) i t W (there q l h) p =
+    record {
+      some = q;
+      low = l;
+      room = rw (seen-members c t q l) at (may-join (Numbered c) (look (Numbered c) i t) p .1);
+      fresh = λ e. absurd (clash (sym e));
+      there = λ _. h;
+      named = λ _. refl;
+    }
 
-    writes-all : (w : Context) (ps : List Property) (alone : Bool) (t : List ℕ) → Seat N K w
-        → Passed (startChecks w ps alone (seen (numberOf w) t .held)) → AllOurs N K (startWrites w ps (seen (numberOf w) t .held))
-    unfolding startChecks startWrites numberOf
-    writes-all Null ps alone t s p = nothing
-    writes-all (Numbered c) ps alone t s p =
-        pick-all (anyGiven ps) _ [] (λ e. also (ours-rec c _ (s (held-known c t (and-false (anyGiven ps) (eqb (seen c t .held) 0) e (search))))) nothing) nothing
-    writes-all Choose ps alone t s p = absurd s
-    writes-all All ps alone t s p = absurd s
+-- ---- an attempt that passes its tests
 
-    pub started-lies : (w : Context) (ps : List Property) (alone : Bool) (t : List ℕ) → Seat N K w → StartLies (started w ps alone (seen (numberOf w) t .held))
-    unfolding started
-    started-lies w ps alone t s = startedBy-lies w ps alone _ _ s (judge-good _ _ (writes-all w ps alone t s))
+-- what an attempt leaves: a sound table, on which the command may go on
+pub record Leaves (op : Op) (at : Context) (t u : List ℕ) : Type 0 where
+  pub whole : Whole u
+  pub ready : Ready op at u
+  pub meant : (j : ℕ) → Meant op t j → Meant op u j
+
+-- the writes of an attempt: each of these laws knows one of the definitions
+placed-moves : (g d i x y : ℕ) → i < terminations → Moves false false g d i x y (placed i x y)
+unfolding placed pick
+placed-moves g d i x y h =
+    record {
+      within = omega arith;
+      context = λ j v. refl;
+      property = λ j v. refl;
+      record′ = λ c v. rw (and-false (eqb x c), and-false (eqb d c));
+    }
+
+joining-moves : (at : Context) (g d i y : ℕ) (v : View) (t : List ℕ) → Target at t (target at v) → i < terminations
+    → Moves (isChoose at) false g d i (target at v) y (joining at g v (placed i (target at v) y))
+unfolding joining target placed pick
+joining-moves at g d i y v t T h =
+    pick-of (Moves (isChoose at) false g d i (target at v) y) (isChoose at)
+    (λ e. let n : target at v ≡ v .free = rw e in
+    record {
+      within = omega arith;
+      context = λ j w. refl;
+      property = λ j w. refl;
+      record′ = λ c w. rw (e, and-true (eqb (v .free) c), and-false (eqb d c));
+    })
+    (λ e. let n : target at v ≡ numberOf at = rw e in
+    record {
+      within = omega arith;
+      context = λ j w. refl;
+      property = λ j w. refl;
+      record′ = λ c w. rw (e, and-false (eqb (numberOf at) c), and-false (eqb d c));
+    })
+
+leaving-moves : (new : Bool) (g i x y : ℕ) (v : View) (ws : List Write) → 0 < v .here → v .here ≤ contexts → Moves new false g (v .here) i x y ws
+    → Moves new (leb (v .from .members) 1) g (v .here) i x y (leaving v ws)
+unfolding leaving pick
+leaving-moves new g i x y v ws p q M =
+    pick-of (Moves new (leb (v .from .members) 1) g (v .here) i x y) (leb (v .from .members) 1)
+    (λ e. record {
+      within = search M;
+      context = M .context;
+      property = M .property;
+      record′ = λ c w. M .record′ c (pick (eqb (v .here) c) 0 w) ∙ rw (e, and-true (eqb (v .here) c), and-false (eqb (v .here) c));
+    })
+    (λ e. record {
+      within = search M;
+      context = M .context;
+      property = M .property;
+      record′ = λ c w. rw e (M .record′ c w);
+    })
+
+-- a context that is joined
+joined : (at : Context) (g d i x y : ℕ) (t : List ℕ) (last : Bool) → Target at t x → Present g → i < terminations → get t (ctx i) ≡ d → x ≢ d → SoundWord y
+    → (0 < d → last ≡ leb (members d t) 1) → Goes t (isChoose at) last g d i x y
+joined at g d i x y t last T G h e n s ends =
+    record {
+      small = h;
+      from = e;
+      away = n;
+      low = T .low;
+      word = s;
+      absent = λ _ z. absurd (omega (arith, T .some));
+      room = λ _. T .room;
+      made = λ _. (G .some, G .low);
+      there = λ e _. T .there e;
+      ends = ends;
+    }
+
+-- it exists then
+joined-there : (at : Context) (i : ℕ) (v : View) (t u : List ℕ) → Joins at t → Target at t (target at v) → i < terminations → Whole u → get u (ctx i) ≡ target at v
+    → Joins (settled at v) u
+unfolding settled target isChoose numberOf pick
+joined-there at i v t u j T h W e = by at j T e
+  where
+    held : (x : ℕ) → 0 < x → x ≤ contexts → get u (ctx i) ≡ x → 0 < get u (cell (rec x))
+    held x p q e = alive u W x p q (rw e at (member i u h (W .long)))
+
+    by : (at : Context) → Joins at t → Target at t (target at v) → get u (ctx i) ≡ target at v → Joins (settled at v) u
+    by Choose anew T e = there (T .some) (T .low) (held (v .free) (T .some) (T .low) e)
+    by (Numbered c) (there p q _) T e = there p q (held c p q e)
+
+-- the context that it stands in
+here-low : (i : ℕ) (t : List ℕ) → Whole t → i < terminations → 0 < get t (ctx i) → seen (get t (ctx i)) t .members ≡ members (get t (ctx i)) t
+here-low i t W h p = seen-members (get t (ctx i)) t p (W .place i h)
+
+added-sound : (i w : ℕ) → SoundWord w → SoundWord (added i w)
+unfolding added
+added-sound i w s = pick-of SoundWord (isEphemeral i) (λ _. omega arith) (λ _. s)
+
+subtracted-sound : (i w : ℕ) → SoundWord w → SoundWord (subtracted i w)
+unfolding subtracted
+subtracted-sound i w s = pick-of SoundWord (isEphemeral i) (λ _. omega arith) (λ _. omega arith)
+
+subtracted-zero : (i w : ℕ) → lineTerminations ≤ i → subtracted i w ≡ 0
+unfolding subtracted isEphemeral pick
+subtracted-zero i w h = rw (le-leb lineTerminations i h)
+
+-- an absent ephemeral does not exist
+absent-gone : (i word : ℕ) → lineTerminations ≤ i → word ≡ 0 → exists i word ≡ true → ⊥
+unfolding exists isEphemeral
+absent-gone i word h z e = clash (sym (rw (le-leb lineTerminations i h, eq-eqb word 0 z) at e))
+
+-- a Move goes elsewhere: a new context has no record, and that of the termination has one
+moved-away : (at : Context) (i x : ℕ) (t : List ℕ) → Whole t → Target at t x → i < terminations → 0 < get t (ctx i) → get t (ctx i) ≢ numberOf at → x ≢ get t (ctx i)
+moved-away at i x t W T h p n e = by (isChoose at) refl
+  where
+    by : (b : Bool) → isChoose at ≡ b → ⊥
+    by true c = omega (arith, alive t W x (T .some) (T .low) (rw e (member i t h (W .long))), T .fresh c)
+    by false c = n (sym e ∙ T .named c)
+
+-- a termination that joins
+arrives : (op : Op) (at : Context) (given d i y : ℕ) (t : List ℕ) (last : Bool) (ws : List Write) → isModify op ≡ false
+    → ((c : Context) (u : List ℕ) → Joins c u → Ready op c u) → Whole t → Joins at t → Target at t (target at (look at i t))
+    → Moves (isChoose at) last given d i (target at (look at i t)) y ws → Goes t (isChoose at) last given d i (target at (look at i t)) y
+    → Leaves op (settled at (look at i t)) t (apply ws t)
+arrives op at given d i y t last ws n r W j T m g =
+    let x : ℕ = target at (look at i t) in
+    let S = moved-sound t (isChoose at) last given d i x y ws W m g in
+    record {
+      whole = S;
+      ready = r _ _ (joined-there at i (look at i t) t (apply ws t) j T (g .small) S (moved-here t (isChoose at) last given d i x y ws W m g));
+      meant = λ k u. record { small = u .small; there = λ e. absurd (clash (sym e ∙ n)) };
+    }
+
+-- a termination that goes to null
+departs : (c given i : ℕ) (t : List ℕ) → Whole t → 0 < c → i < terminations → get t (ctx i) ≡ numberOf (Numbered c)
+    → Leaves Subtract (settled (Numbered c) (look (Numbered c) i t)) t (apply (leaving (look (Numbered c) i t) (placed i 0 (subtracted i (get t (cell (prop i)))))) t)
+unfolding look numberOf settled isChoose isModify pick
+departs c given i t W h k e =
+    let w : ℕ = get t (cell (prop i)) in
+    let d : ℕ = get t (ctx i) in
+    let b : 0 < d = rw e h in
+    record {
+      whole = moved-sound t false (leb (seen d t .members) 1) given d i 0 (subtracted i w) _ W
+          (leaving-moves false given i 0 (subtracted i w) (look (Numbered c) i t) _ b (W .place i k) (placed-moves given d i 0 (subtracted i w) k))
+          (record {
+            small = k;
+            from = refl;
+            away = λ z. omega arith;
+            low = omega arith;
+            word = subtracted-sound i w (W .word i k);
+            absent = λ z _. subtracted-zero i w z;
+            room = λ z. absurd (omega arith);
+            made = λ z. absurd (clash (sym z));
+            there = λ _ z. absurd (omega arith);
+            ends = λ z. ap (λ (m : ℕ). leb m 1) (here-low i t W k z);
+          });
+      ready = stands h;
+      meant = λ j m. record { small = m .small; there = λ z. absurd (clash (sym z)) };
+    }
+
+pub attempt-sound : (op : Op) (at : Context) (given i : ℕ) (vs : Values) (t : List ℕ) → Whole t → Ready op at t → Meant op t i → Present given → Fair vs
+    → Passed (checks op at (look at i t)) → Leaves op (settled at (look at i t)) t (apply (changes op at given i vs (look at i t)) t)
+unfolding changes look isModify
+attempt-sound Add at given i vs t W j M G F p =
+    let v : View = look at i t in
+    let w : ℕ = added i (get t (cell (prop i))) in
+    let q = may-add at v p in
+    let T = targeted at i t W j (q .1) in
+    arrives Add at given 0 i (update vs w) t false _ refl (λ c u k. k) W j T (joining-moves at given 0 i (update vs w) v t T (M .small))
+    (joined at given 0 i (target at v) (update vs w) t false T G (M .small) (q .0) (λ z. omega (arith, T .some))
+    (update-sound vs w F (added-sound i (get t (cell (prop i))) (W .word i (M .small)))) (λ z. absurd (omega arith)))
+attempt-sound Modify at given i vs t W j M G F p =
+    let w : ℕ = get t (cell (prop i)) in
+    record {
+      whole = modified-sound t i (update vs w) W (M .small) (update-sound vs w F (W .word i (M .small))) (λ k z. absurd (absent-gone i (get t (ctx i)) k z (M .there refl)));
+      ready = tt;
+      meant = λ k m. record { small = m .small; there = λ e. rw (modified-place t i (update vs w) (W .long) (M .small) k (m .small)) (m .there e) };
+    }
+attempt-sound Subtract (Numbered c) given i vs t W (stands h) M G F p = departs c given i t W h (M .small) (may-subtract (Numbered c) (look (Numbered c) i t) p)
+attempt-sound Move at given i vs t W j M G F p =
+    let v : View = look at i t in
+    let w : ℕ = get t (cell (prop i)) in
+    let d : ℕ = get t (ctx i) in
+    let q = may-move at v p in
+    let b : 0 < d = omega (arith, q .0) in
+    let T = targeted at i t W j (q .2) in
+    arrives Move at given d i (update vs w) t (leb (seen d t .members) 1) _ refl (λ c u k. k) W j T
+    (leaving-moves (isChoose at) given i (target at v) (update vs w) v _ b (W .place i (M .small)) (joining-moves at given d i (update vs w) v t T (M .small)))
+    (joined at given d i (target at v) (update vs w) t (leb (seen d t .members) 1) T G (M .small) refl (moved-away at i (target at v) t W T (M .small) b (q .1))
+    (update-sound vs w F (W .word i (M .small))) (λ z. ap (λ (m : ℕ). leb m 1) (here-low i t W (M .small) z)))
+
+-- ---- the attempts of a command
+
+pub effect-sound : (op : Op) (wild : Bool) (name : List ℕ) (given : ℕ) (vs : Values) (i : ℕ) (at : Context) (t : List ℕ)
+    → Whole t → Ready op at t → Meant op t i → Present given → Fair vs
+    → Leaves op (effect op wild name given vs i at (look at i t) .at) t (apply (effect op wild name given vs i at (look at i t) .writes) t)
+unfolding effect attempt concluded apply
+effect-sound op wild name given vs i at t W r m G F =
+    judged (λ (x : Result). Leaves op (concluded op wild name i at (look at i t) x .at) t (apply (concluded op wild name i at (look at i t) x .writes) t))
+    (checks op at (look at i t)) (changes op at given i vs (look at i t)) (λ code. record { whole = W; ready = r; meant = λ j k. k })
+    (λ p. attempt-sound op at given i vs t W r m G F p)
+
+pub tries-sound : (op : Op) (wild : Bool) (name : List ℕ) (given : ℕ) (vs : Values) (is : List ℕ) (at : Context) (t : List ℕ)
+    → Whole t → Ready op at t → Each (Meant op t) is → Present given → Fair vs → Whole (tries op wild name given vs is at t .table)
+unfolding tries
+tries-sound op wild name given vs [] at t W r m G F = W
+tries-sound op wild name given vs (i ∷ is) at t W r (more m ms) G F =
+    let e : Effect = effect op wild name given vs i at (look at i t) in
+    let l = effect-sound op wild name given vs i at t W r m G F in
+    tries-sound op wild name given vs is (e .at) (apply (e .writes) t) (l .whole) (l .ready) (each-on (Meant op t) (Meant op (apply (e .writes) t)) is (l .meant) ms) G F

@@ -1,10 +1,10 @@
+pub mod Passed
 pub mod Slots
 pub mod Counting
 pub mod Bounds
-pub mod Bools
 pub mod Frame
 pub mod Views
-pub mod Attempts
+pub mod Written
 pub mod Steps
 pub mod Mix
 pub mod Membership
@@ -15,3 +15,11 @@ pub mod Reaching
 pub mod Demand
 pub mod Witness
 pub mod Needed
+pub mod Sound
+pub mod Moved
+pub mod Values
+pub mod Aims
+pub mod Attempts
+pub mod Starts
+pub mod Runs
+pub mod Kept

@@ -10,7 +10,7 @@ use borrow.Author.Tests.{eqb-true, eq-eqb, ne-eqb, not-true}
 use native.Mathlib.Omega.{arith}
 use Rattle.base.specs.Pick.{pick}
 use Rattle.base.specs.Lists.{has}
-use Rattle.laws.specs.Bools.{clash, and-left, and-right, not-holds}
+use Rattle.base.proofs.TestLaws.{clash, and-left, and-right, not-holds}
 
 infix 40 _∈_
 abbrev pub _∈_ : {A : Type 0} → A → List A → Type 0

@@ -11,7 +11,7 @@ use Rattle.megaco.specs.Tree.{Transaction}
 use Rattle.megaco.specs.Table.{sound}
 use Rattle.megaco.specs.Running.{runTransaction}
 use Rattle.megaco.specs.declared.Context.the-variants.{Numbered}
-use Rattle.laws.specs.Bools.{clash, and-left, and-right}
+use Rattle.base.proofs.TestLaws.{clash, and-left, and-right}
 use Rattle.laws.specs.Membership.{_∈_, not-has, all?, all-is, onlyZeroShared?, only-zero-shared, in-collect}
 use Rattle.laws.specs.Apart.{contextsOf, namesOf, ContextsPlain, NamesPlain, TerminationsApart, ContextsApart, Apart}
 use Rattle.laws.specs.ApartTest.{contextsPlain?, namesPlain?, writtenNumber, numbered, contexts-plain-is, names-plain-is, terminations-apart-is, contexts-apart-is}

@@ -13,7 +13,7 @@ use Rattle.megaco.specs.Table.{terminations, lines, channels, ephemerals}
 use Rattle.megaco.specs.Names.{within, lineName, ephemeralName, plainName, capitalName, nameOf}
 use Rattle.megaco.specs.declared.Name.{Name}
 use Rattle.megaco.specs.declared.Name.the-variants.{Termination, Root, Unknown}
-use Rattle.laws.specs.Bools.{clash, and-left, and-right}
+use Rattle.base.proofs.TestLaws.{clash, and-left, and-right}
 
 pub data Plain : Name → Type 0 where
   aTermination : {i : ℕ} → i < terminations → Plain (Termination i)

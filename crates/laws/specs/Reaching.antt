@@ -16,7 +16,7 @@ use Rattle.megaco.specs.Names.{nameOf}
 use Rattle.megaco.specs.Running.{Step, orders, steps, fresh}
 use Rattle.megaco.specs.declared.Context.{Context}
 use Rattle.megaco.specs.declared.Name.{Name}
-use Rattle.laws.specs.Bools.{clash, and-left, and-right}
+use Rattle.base.proofs.TestLaws.{clash, and-left, and-right}
 use Rattle.laws.specs.Frame.{Foot, Closed, Disjoint}
 use Rattle.laws.specs.Views.{known-above, known-below, Seat}
 use Rattle.laws.specs.Steps.{Means, Named}

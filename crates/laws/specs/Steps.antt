@@ -22,7 +22,7 @@ use Rattle.megaco.specs.declared.Values.{Values}
 use Rattle.megaco.specs.declared.Seen.{Seen}
 use Rattle.laws.specs.Frame.{AllOurs, nothing, Foot, Closed, Agree}
 use Rattle.laws.specs.Views.{Seat, seat-same, look-same}
-use Rattle.laws.specs.Attempts.{seat-home, seat-above, Lies, effect-lies, started-lies}
+use Rattle.laws.specs.Written.{seat-home, seat-above, Lies, effect-lies, started-lies}
 
 -- what a step writes, and how its transaction then stands
 pub record Change : Type 0 where

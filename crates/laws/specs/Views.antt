@@ -11,7 +11,7 @@ use Rattle.megaco.specs.Running.{unseen, seen, numberOf, freeAt, look}
 use Rattle.megaco.specs.declared.Context.{Context}
 use Rattle.megaco.specs.declared.Context.the-variants.{Null, Numbered, Choose, All}
 use Rattle.megaco.specs.declared.Seen.{Seen}
-use Rattle.laws.specs.Bools.{clash, and-left, and-right}
+use Rattle.base.proofs.TestLaws.{clash, and-left, and-right}
 use Rattle.laws.specs.Counting.{count-agree}
 use Rattle.laws.specs.Frame.{Foot, Closed, Agree}
 

@@ -16,7 +16,7 @@ use Rattle.megaco.specs.Table.{sound}
 use Rattle.megaco.specs.Reply.{headerText}
 use Rattle.megaco.specs.Running.{Ran, ran, runMessage}
 use Rattle.megaco.specs.Call.{written, replied, taken, call}
-use Rattle.megaco.proofs.Tests.{and-true, same-is}
+use Rattle.base.proofs.TestLaws.{and-both, same-is}
 use Rattle.megaco.proofs.Opened.{opened}
 
 -- a table, a message, the reply to it and the table after it
@@ -116,9 +116,9 @@ row-answers : (r : Row) → holds r ≡ true → Answers r
 unfolding holds admitted fits taken replied
 row-answers (row t m a u) e =
     λ o h.
-    let p = and-true (admitted t m) (fits (computed m t own) a u) e in
-    let q = and-true (sound t) (not (eqb (length m) 0 || ltb 4096 (length m))) (p .0) in
-    let r = and-true (same (computed m t own .table) u) (same (computed m t own .text) a) (p .1) in
+    let p = and-both (admitted t m) (fits (computed m t own) a u) e in
+    let q = and-both (sound t) (not (eqb (length m) 0 || ltb 4096 (length m))) (p .0) in
+    let r = and-both (same (computed m t own .table) u) (same (computed m t own .text) a) (p .1) in
     let x : computed m t own .table ≡ u = same-is (computed m t own .table) u (r .0) in
     let y : computed m t own .text ≡ a = same-is (computed m t own .text) a (r .1) in
     taken-is m t o h (q .0) (not-true _ (q .1))
@@ -129,7 +129,7 @@ rows-answer : (rs : List Row) → all-hold rs ≡ true → Hold rs
 unfolding all-hold
 rows-answer [] e = tt
 rows-answer (r ∷ rs) e =
-    let p = and-true (holds r) (all-hold rs) e in
+    let p = and-both (holds r) (all-hold rs) e in
     (row-answers r (p .0), rows-answer rs (p .1))
 
 examples-compute : all-hold examples ≡ true
