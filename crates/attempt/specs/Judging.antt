@@ -1,5 +1,6 @@
 -- The code of an attempt, and the values that a command's items can give.
 use Prim.Native.Nat.{ℕ, zero, suc, _≤_}
+use mathlib.Core.Bool.{Bool, true, false}
 use mathlib.Core.List.{List, [], _∷_}
 use Rattle.base.specs.Pick.{pick}
 use Rattle.megaco.specs.Table.{Write}
@@ -12,6 +13,12 @@ use Rattle.megaco.specs.declared.Values.{Values}
 unfoldable pub codeOf : List Check → ℕ
 codeOf [] = 0
 codeOf (check b code ∷ cs) = let r = codeOf cs in pick b code r
+
+-- no test has code 0
+unfoldable pub coded : List Check → Bool
+coded [] = true
+coded (check b zero ∷ cs) = false
+coded (check b (suc n) ∷ cs) = coded cs
 
 -- what a code means: 0 that all is done
 unfoldable pub byCode : ℕ → List Write → Result
