@@ -18,7 +18,7 @@ use Rattle.megaco.specs.declared.Given.{Given}
 use Rattle.megaco.specs.declared.Given.the-variants.{Keep, To}
 use Rattle.megaco.specs.declared.Values.{Values}
 use Rattle.megaco.specs.declared.View.{View}
-use Rattle.attempt.specs.Judging.{valueOr, Fitting}
+use Rattle.attempt.specs.Judging.{valueOr, Fair}
 
 -- ---- property words
 
@@ -26,7 +26,7 @@ value-small : (g : Given) (x m : ℕ) → valueOr g 0 ≤ m → valueOr g x ≤ 
 value-small Keep x m h = omega arith
 value-small (To y) x m h = omega arith
 
-module _ (vs : Values) (word a b : ℕ) (f : Fitting vs) (e : a ≡ valueOr (vs .mode) (word % 8)) (d : b ≡ valueOr (vs .state) (word / 8)) where
+module _ (vs : Values) (word a b : ℕ) (f : Fair vs) (e : a ≡ valueOr (vs .mode) (word % 8)) (d : b ≡ valueOr (vs .state) (word / 8)) where
   pub state-fits : word < 4294967296 → Fits w32 (8 * b)
   state-fits h = record { fits = omega (arith, d, value-small (vs .state) (word / 8) 2 (f .state)) }
 

@@ -28,7 +28,7 @@ byCode (suc n) ws = refused (suc n)
 abbrev pub valueOr : Given → ℕ → ℕ
 valueOr g x = items.change g x
 
--- a mode and a state of document 01's, where they are given
-pub record Fitting (vs : Values) : Type 0 where
+-- modes 0..4, states 0..2, where they are given
+pub record Fair (vs : Values) : Type 0 where
   pub mode : valueOr (vs .mode) 0 ≤ 4
   pub state : valueOr (vs .state) 0 ≤ 2

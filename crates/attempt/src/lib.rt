@@ -9,7 +9,7 @@ ghost use mathlib.Core.List.{[]};
 ghost use Rattle.megaco.specs.Table.{apply};
 ghost use Rattle.megaco.specs.Items.{update};
 ghost use Rattle.megaco.specs.Running.{isChoose, target, roomChecks, checks, joining, leaving, placed, added, subtracted, changes, settled};
-ghost use Rattle.attempt.specs.Judging.{codeOf, valueOr, Fitting};
+ghost use Rattle.attempt.specs.Judging.{codeOf, valueOr, Fair};
 
 // ---- judging
 
@@ -109,7 +109,7 @@ fn value_or(g: Given, x: u32) -> u32
 
 // A property word with the values given set in it.
 pub fn update(values: Values, word: u32) -> u32
-    requires { ⌜ Fitting values ⌝ }
+    requires { ⌜ Fair values ⌝ }
     ensures { λ r. ⌜ r ≡ update values word ⌝ }
 {
     let mode = values.mode;
@@ -174,7 +174,7 @@ pub fn change(
     values: Values,
     view: View,
 )
-    requires { ⌜ Fitting values ⌝ }
+    requires { ⌜ Fair values ⌝ }
     ensures { λ _. ⌜ now (table .exit) ≡ apply (changes op at given i values view) (now (table .entry)) ⌝ }
 {
     match op {
