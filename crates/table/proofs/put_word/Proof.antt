@@ -1,30 +1,14 @@
 use Rattle.table.proofs.TableLaws.{store-past}
 use borrow.Author.Needs.{needs}
-use native.Mathlib.Omega.{arith}
 use Rattle.table.proofs.put_word.Statement.{statement}
 use Rattle.table.proofs.put_word.Tie as tie
-use Rattle.table.proofs.put_word.Reads as reads
-use Rattle.table.proofs.put_word.Lts as lts
-
--- src/lib.rt:39:9
-mul-table : tie.Need-mul-table
-mul-table c = search needs
-
--- src/lib.rt:39:9
-slice-write-table : tie.Need-slice-write-table
-slice-write-table c = search needs
-
--- src/lib.rt:35:1
-same-length : tie.Need-same-length
-same-length c = search needs
-
--- src/lib.rt:35:1
-returns : tie.Need-returns
-returns c = search needs
-
--- src/lib.rt:35:1
-returns-2 : tie.Need-returns-2
-returns-2 c = search store-past
 
 pub put-word-spec : {M : Type 1} → statement M
-put-word-spec = tie.close (tie.spec mul-table slice-write-table same-length returns returns-2)
+put-word-spec =
+    tie.close
+    (tie.spec
+    (λ c. search needs)
+    (λ c. search needs)
+    (λ c. search needs)
+    (λ c. search needs)
+    (λ c. search store-past))

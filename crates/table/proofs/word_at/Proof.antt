@@ -1,26 +1,13 @@
 use Rattle.table.proofs.TableLaws.{read-past}
 use borrow.Author.Needs.{needs}
-use native.Mathlib.Omega.{arith}
 use Rattle.table.proofs.word_at.Statement.{statement}
 use Rattle.table.proofs.word_at.Tie as tie
-use Rattle.table.proofs.word_at.Reads as reads
-use Rattle.table.proofs.word_at.Lts as lts
-
--- src/lib.rt:28:9
-mul-result : tie.Need-mul-result
-mul-result c = search needs
-
--- src/lib.rt:28:9
-shared-slice-read-result : tie.Need-shared-slice-read-result
-shared-slice-read-result c = search needs
-
--- src/lib.rt:24:1
-returns : tie.Need-returns
-returns c = search needs
-
--- src/lib.rt:24:1
-returns-2 : tie.Need-returns-2
-returns-2 c = search read-past
 
 pub word-at-spec : {M : Type 1} → statement M
-word-at-spec = tie.close (tie.spec mul-result shared-slice-read-result returns returns-2)
+word-at-spec =
+    tie.close
+    (tie.spec
+    (λ c. search needs)
+    (λ c. search needs)
+    (λ c. search needs)
+    (λ c. search read-past))
