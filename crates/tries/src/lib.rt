@@ -50,7 +50,16 @@ fn put_full(out: &mut [u8], p: usize, first: bool, op: Op, i: usize, code: u32) 
 }
 
 // The report of an attempt that failed: a wildcard's bears the full name, another the bytes received.
-fn put_refused(out: &mut [u8], p: usize, first: bool, op: Op, wild: bool, name: &[u8], i: usize, code: u32) -> usize
+fn put_refused(
+    out: &mut [u8],
+    p: usize,
+    first: bool,
+    op: Op,
+    wild: bool,
+    name: &[u8],
+    i: usize,
+    code: u32,
+) -> usize
     ensures { λ r. ⌜ Appended (now (out .entry)) p (reportsText first (tried op (shown wild i (now (name .entry))) code ∷ [])) (now (out .exit)) r ⌝ }
 {
     if wild {
@@ -62,7 +71,19 @@ fn put_refused(out: &mut [u8], p: usize, first: bool, op: Op, wild: bool, name: 
 // ---- attempts
 
 // One attempt.
-pub fn try_one(op: Op, wild: bool, name: &[u8], given: u32, values: Values, i: usize, at: Context, first: bool, table: &mut [u32], out: &mut [u8], p: usize) -> Went
+pub fn try_one(
+    op: Op,
+    wild: bool,
+    name: &[u8],
+    given: u32,
+    values: Values,
+    i: usize,
+    at: Context,
+    first: bool,
+    table: &mut [u32],
+    out: &mut [u8],
+    p: usize,
+) -> Went
     requires { ⌜ (length (now table) ≡ words) × Fitting values ⌝ }
     ensures { λ r. ⌜ Did (tries op wild (now (name .entry)) given values (i ∷ []) at (now (table .entry))) first (now (out .entry)) p (now (table .exit)) (now (out .exit)) r ⌝ }
 {
@@ -72,10 +93,18 @@ pub fn try_one(op: Op, wild: bool, name: &[u8], given: u32, values: Values, i: u
         attempt::change(table, op, at, given, i, values, view);
         let n = put_full(out, p, first, op, i, 0);
         let c = attempt::settled(at, view);
-        return Went { next: n, at: c, going: true };
+        return Went {
+            next: n,
+            at: c,
+            going: true,
+        };
     }
     let n = put_refused(out, p, first, op, wild, name, i, code);
-    Went { next: n, at: at, going: false }
+    Went {
+        next: n,
+        at: at,
+        going: false,
+    }
 }
 
 fn number(i: u32) -> usize
@@ -85,7 +114,18 @@ fn number(i: u32) -> usize
 }
 
 // The attempts of a wildcard, in the order of its matches.
-fn try_each(op: Op, name: &[u8], given: u32, values: Values, matched: &[u32], at: Context, first: bool, table: &mut [u32], out: &mut [u8], p: usize) -> Went
+fn try_each(
+    op: Op,
+    name: &[u8],
+    given: u32,
+    values: Values,
+    matched: &[u32],
+    at: Context,
+    first: bool,
+    table: &mut [u32],
+    out: &mut [u8],
+    p: usize,
+) -> Went
     requires { ⌜ (length (now table) ≡ words) × Fitting values ⌝ }
     ensures { λ r. ⌜ Did (tries op true (now (name .entry)) given values (now (matched .entry)) at (now (table .entry))) first (now (out .entry)) p (now (table .exit)) (now (out .exit)) r ⌝ }
 {
@@ -95,18 +135,45 @@ fn try_each(op: Op, name: &[u8], given: u32, values: Values, matched: &[u32], at
     let mut good = true;
     let mut f = first;
     while k < matched.len() {
-        let w = try_one(op, true, name, given, values, number(matched[k]), c, f, table, out, q);
+        let w = try_one(
+            op,
+            true,
+            name,
+            given,
+            values,
+            number(matched[k]),
+            c,
+            f,
+            table,
+            out,
+            q,
+        );
         q = w.next;
         c = w.at;
         good = good & w.going;
         f = false;
         k += 1;
     }
-    Went { next: q, at: c, going: good }
+    Went {
+        next: q,
+        at: c,
+        going: good,
+    }
 }
 
 // The attempts of a wildcard: its matches are noted before the first of them.
-fn try_many(op: Op, name: &[u8], given: u32, values: Values, r: Range, at: Context, first: bool, table: &mut [u32], out: &mut [u8], p: usize) -> Went
+fn try_many(
+    op: Op,
+    name: &[u8],
+    given: u32,
+    values: Values,
+    r: Range,
+    at: Context,
+    first: bool,
+    table: &mut [u32],
+    out: &mut [u8],
+    p: usize,
+) -> Went
     requires { ⌜ (length (now table) ≡ words) × Fitting values ⌝ }
     ensures { λ w. ⌜ Did (aimed op (now (name .entry)) given values (aimOf (Many r) op at (now (table .entry))) at (now (table .entry))) first (now (out .entry)) p (now (table .exit)) (now (out .exit)) w ⌝ }
 {
@@ -114,9 +181,24 @@ fn try_many(op: Op, name: &[u8], given: u32, values: Values, r: Range, at: Conte
     let n = view::note_matches(table, op, at, r, &mut matched);
     if n == 0 {
         let q = put_received(out, p, first, op, name, 431);
-        return Went { next: q, at: at, going: false };
+        return Went {
+            next: q,
+            at: at,
+            going: false,
+        };
     }
-    try_each(op, name, given, values, &matched[0..n], at, first, table, out, p)
+    try_each(
+        op,
+        name,
+        given,
+        values,
+        &matched[0..n],
+        at,
+        first,
+        table,
+        out,
+        p,
+    )
 }
 
 // ---- whom a name means
@@ -195,8 +277,7 @@ fn aim_one(i: usize, table: &[u32]) -> Target {
 }
 
 // Test 4.
-pub fn aim(op: Op, at: Context, items: bool, name: Name, table: &[u32]) -> Target
-{
+pub fn aim(op: Op, at: Context, items: bool, name: Name, table: &[u32]) -> Target {
     match name {
         Name::Termination(i) => aim_one(i, table),
         Name::Root => aim_root(op, at, items),
@@ -209,16 +290,34 @@ pub fn aim(op: Op, at: Context, items: bool, name: Name, table: &[u32]) -> Targe
 }
 
 // Tests 5 and 6, for each that the name means.
-pub fn run_target(op: Op, name: &[u8], given: u32, values: Values, target: Target, at: Context, first: bool, table: &mut [u32], out: &mut [u8], p: usize) -> Went
-{
+pub fn run_target(
+    op: Op,
+    name: &[u8],
+    given: u32,
+    values: Values,
+    target: Target,
+    at: Context,
+    first: bool,
+    table: &mut [u32],
+    out: &mut [u8],
+    p: usize,
+) -> Went {
     match target {
         Target::Misses(code) => {
             let q = put_received(out, p, first, op, name, code);
-            Went { next: q, at: at, going: false }
+            Went {
+                next: q,
+                at: at,
+                going: false,
+            }
         }
         Target::Gateway => {
             let q = put_received(out, p, first, op, b"ROOT", 0);
-            Went { next: q, at: at, going: true }
+            Went {
+                next: q,
+                at: at,
+                going: true,
+            }
         }
         Target::One(i) => try_one(op, false, name, given, values, i, at, first, table, out, p),
         Target::Many(r) => try_many(op, name, given, values, r, at, first, table, out, p),

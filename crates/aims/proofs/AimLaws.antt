@@ -1,0 +1,82 @@
+-- The target is the definition's aim.
+use Prim.Native.Nat.{ℕ}
+use mathlib.Core.Path.{_≡_, refl}
+use mathlib.Core.Bool.{Bool, true, false, not}
+use mathlib.Core.List.{List, [], _∷_}
+use lib.Dec.{eqb}
+use Rattle.base.specs.Pick.{pick}
+use Rattle.megaco.specs.Table.{ctx, get, exists, freeEphemeral}
+use Rattle.megaco.specs.Running.{misses, aimRoot, aimFree, aim, isAdd, isModify, isNull}
+use Rattle.megaco.specs.declared.Context.{Context}
+use Rattle.megaco.specs.declared.Op.{Op}
+use Rattle.megaco.specs.declared.Name.{Name}
+use Rattle.megaco.specs.declared.Name.the-variants.{Termination, Root, Chosen, Unchosen, Wildcard, Unmatched, Unknown}
+use Rattle.megaco.specs.declared.Range.{Range}
+use Rattle.aims.specs.declared.Target.{Target}
+use Rattle.aims.specs.declared.Target.the-variants.{Misses, Many}
+use Rattle.aims.specs.Targets.{rootTarget, freeTarget, unchosenTarget, oneTarget, targetOf, aimOf}
+
+module _ (op : Op) (at : Context) (t : List ℕ) where
+  root-is : (m n items : Bool) → isModify op ≡ m → isNull at ≡ n → aimOf (rootTarget op at items) op at t ≡ aimRoot op at items
+  unfolding rootTarget aimRoot aimOf pick
+  root-is true true true p q = rw (p, q)
+  root-is true true false p q = rw (p, q)
+  root-is true false items p q = rw (p, q)
+  root-is false n items p q = rw p
+
+  free-is : (a z : Bool) (n : ℕ) → isAdd op ≡ a → eqb n 0 ≡ z → aimOf (freeTarget op n) op at t ≡ pick (not (isAdd op)) (misses 410) (aimFree n)
+  unfolding freeTarget aimFree aimOf pick
+  free-is true true n p q = rw (p, q)
+  free-is true false n p q = rw (p, q)
+  free-is false z n p q = rw p
+
+  unchosen-is : (a : Bool) → isAdd op ≡ a
+      → aimOf (unchosenTarget op) op at t ≡ pick (not (isAdd op)) (misses 410) (misses 432)
+  unfolding unchosenTarget aimOf pick
+  unchosen-is true p = rw p
+  unchosen-is false p = rw p
+
+  one-is : (i : ℕ) (b : Bool) → exists i (get t (ctx i)) ≡ b → aimOf (oneTarget i (get t (ctx i))) op at t ≡ aim op at true (Termination i) t
+  unfolding oneTarget aimOf aim pick
+  one-is i true p = rw p
+  one-is i false p = rw p
+
+  pub target-is : (items : Bool) (n : Name) → aimOf (targetOf op at items n t) op at t ≡ aim op at items n t
+  unfolding targetOf aim aimOf
+  target-is items (Termination i) = one-is i (exists i (get t (ctx i))) refl
+  target-is items Root = root-is (isModify op) (isNull at) items refl refl
+  target-is items Chosen = free-is (isAdd op) (eqb (freeEphemeral t) 0) (freeEphemeral t) refl refl
+  target-is items Unchosen = unchosen-is (isAdd op) refl
+  target-is items (Wildcard r) = refl
+  target-is items Unmatched = refl
+  target-is items Unknown = refl
+
+-- each form of a name
+module _ (op : Op) (at : Context) (items : Bool) (n : Name) (t : List ℕ) (r : Target) where
+  pub for-one : (i w : ℕ) → n ≡ Termination i → w ≡ get t (ctx i) → r ≡ oneTarget i w → r ≡ targetOf op at items n t
+  unfolding targetOf
+  for-one i w e p q = rw (e, ← p) q
+
+  pub for-root : n ≡ Root → r ≡ rootTarget op at items → r ≡ targetOf op at items n t
+  unfolding targetOf
+  for-root e q = rw e q
+
+  pub for-chosen : (k : ℕ) → n ≡ Chosen → k ≡ freeEphemeral t → r ≡ freeTarget op k → r ≡ targetOf op at items n t
+  unfolding targetOf
+  for-chosen k e p q = rw (e, ← p) q
+
+  pub for-unchosen : n ≡ Unchosen → r ≡ unchosenTarget op → r ≡ targetOf op at items n t
+  unfolding targetOf
+  for-unchosen e q = rw e q
+
+  pub for-wildcard : (w : Range) → n ≡ Wildcard w → r ≡ Many w → r ≡ targetOf op at items n t
+  unfolding targetOf
+  for-wildcard w e q = rw e q
+
+  pub for-unmatched : n ≡ Unmatched → r ≡ Misses 431 → r ≡ targetOf op at items n t
+  unfolding targetOf
+  for-unmatched e q = rw e q
+
+  pub for-unknown : n ≡ Unknown → r ≡ Misses 430 → r ≡ targetOf op at items n t
+  unfolding targetOf
+  for-unknown e q = rw e q

@@ -1,0 +1,125 @@
+// Whom a command's name means (document 01, test 4).
+ghost use mathlib.Core.Path.{_≡_};
+ghost use lib.ListN.{length};
+ghost use Rattle.megaco.specs.Table.{words};
+ghost use Rattle.megaco.specs.Running.{isAdd, isModify, isSubtract, isNull};
+ghost use Rattle.aims.specs.Targets.{rootTarget, freeTarget, unchosenTarget, oneTarget, targetOf};
+use megaco::Context;
+use megaco::Name;
+use megaco::Op;
+use megaco::Range;
+
+// Whom a command's name means: nobody, with a code; the gateway itself; one termination; those that a wildcard matches.
+pub enum Target {
+    Misses(u32),
+    Gateway,
+    One(usize),
+    Many(Range),
+}
+
+pub fn is_add(op: Op) -> bool
+    ensures { λ r. ⌜ r ≡ isAdd op ⌝ }
+{
+    match op {
+        Op::Add => true,
+        Op::Modify => false,
+        Op::Subtract => false,
+        Op::Move => false,
+    }
+}
+
+pub fn is_modify(op: Op) -> bool
+    ensures { λ r. ⌜ r ≡ isModify op ⌝ }
+{
+    match op {
+        Op::Add => false,
+        Op::Modify => true,
+        Op::Subtract => false,
+        Op::Move => false,
+    }
+}
+
+pub fn is_subtract(op: Op) -> bool
+    ensures { λ r. ⌜ r ≡ isSubtract op ⌝ }
+{
+    match op {
+        Op::Add => false,
+        Op::Modify => false,
+        Op::Subtract => true,
+        Op::Move => false,
+    }
+}
+
+pub fn is_null(at: Context) -> bool
+    ensures { λ r. ⌜ r ≡ isNull at ⌝ }
+{
+    match at {
+        Context::Null => true,
+        Context::Numbered(_) => false,
+        Context::Choose => false,
+        Context::All => false,
+    }
+}
+
+// ROOT.
+fn root_target(op: Op, at: Context, items: bool) -> Target
+    ensures { λ r. ⌜ r ≡ rootTarget op at items ⌝ }
+{
+    if is_modify(op) {
+        if is_null(at) {
+            if items {
+                return Target::Misses(447);
+            }
+            return Target::Gateway;
+        }
+        return Target::Misses(435);
+    }
+    Target::Misses(410)
+}
+
+// `$` and `R/$`, with the lowest absent ephemeral.
+fn free_target(op: Op, n: u32) -> Target
+    ensures { λ r. ⌜ r ≡ freeTarget op n ⌝ }
+{
+    if is_add(op) {
+        if n == 0 {
+            return Target::Misses(432);
+        }
+        return Target::One(table::LINE_TERMINATIONS + (n as usize - 1));
+    }
+    Target::Misses(410)
+}
+
+fn unchosen_target(op: Op) -> Target
+    ensures { λ r. ⌜ r ≡ unchosenTarget op ⌝ }
+{
+    if is_add(op) {
+        return Target::Misses(432);
+    }
+    Target::Misses(410)
+}
+
+fn one_target(i: usize, word: u32) -> Target
+    ensures { λ r. ⌜ r ≡ oneTarget i word ⌝ }
+{
+    if table::exists(i, word) {
+        return Target::One(i);
+    }
+    Target::Misses(430)
+}
+
+// Test 4.
+pub fn target_of(op: Op, at: Context, items: bool, name: Name, table: &[u32]) -> Target
+    requires { ⌜ length (now table) ≡ words ⌝ }
+    ensures { λ r. ⌜ r ≡ targetOf op at items name (now (table .entry)) ⌝ }
+{
+    match name {
+        Name::Termination(i) => one_target(i, table::context_of(table, i)),
+        Name::Root => root_target(op, at, items),
+        Name::Chosen => free_target(op, table::free_ephemeral(table)),
+        Name::Unchosen => unchosen_target(op),
+        Name::Wildcard(r) => Target::Many(r),
+        Name::Unmatched => Target::Misses(431),
+        Name::Unknown => Target::Misses(430),
+    }
+}
