@@ -1,24 +1,37 @@
 -- Outcomes one after another, and the loops that write them.
-use Prim.Native.Nat.{ℕ, zero, suc, _+_, _<_, _≤_}
+use Prim.Native.Nat.{ℕ, zero, suc, _+_, _-_, _<_, _≤_, min}
 use mathlib.Core.Path.{_≡_, refl, sym, ap, _∙_, subst}
 use mathlib.Core.List.{List, [], _∷_, _++_}
 use mathlib.Core.Bool.{Bool, true, false, _&&_}
-use lib.ListN.{length, getD, drop, drop-of-length-le}
-use lib.Seq.{drop-cons}
+use lib.ListN.{length, getD, take, drop, drop-of-length-le, length-take}
+use lib.Dec.{ltb}
+use borrow.Author.Tests.{ltb-true, ltb-false}
+use lib.Seq.{drop-cons, take-all}
 use native.Mathlib.Numerals.{add-one}
 use native.Mathlib.Omega.{arith}
 use Rattle.base.specs.Pick.{pick}
-use Rattle.base.specs.Bytes.{_then_}
+use Rattle.base.specs.Bytes.{text, _then_}
 use Rattle.base.specs.Out.{Appended}
-use Rattle.base.proofs.OutLaws.{_▸_, none}
-use Rattle.base.proofs.TextLaws.{then-assoc, none-then}
-use Rattle.megaco.specs.Reply.{Report, reportText, separator, reportsText}
-use Rattle.megaco.specs.Running.{Outcome, outcome, Effect, effect, look, tries}
-use Rattle.megaco.specs.Table.{apply}
+use Rattle.base.proofs.OutLaws.{_▸_, none, take-put}
+use Rattle.base.proofs.PickLaws.{pick-ind}
+use Rattle.megaco.specs.Reply.{Report, tried, reportsText}
+use Rattle.report.specs.Rows.{firstAfter}
+use Rattle.report.proofs.ReportLaws.{reports-split}
+use Rattle.megaco.specs.Running.{Outcome, outcome, effect, concluded, Result, refused, checks, changes, attempt, settled, numberOf, look, tries, wanted, matchesFrom, matches, aimMatches, missed, aimed}
+use Rattle.megaco.specs.Table.{terminations, contextWords, exists, apply}
+use Rattle.megaco.specs.Names.{inRange, nameText}
+use Rattle.attempt.specs.Judging.{codeOf}
+use Rattle.attempt.proofs.JudgeLaws.{attempt-done, attempt-refused}
+use Rattle.view.specs.Noted.{Matched}
+use Rattle.aims.specs.Targets.{aimOf}
+use Rattle.aims.specs.declared.Target.{Target}
+use Rattle.aims.specs.declared.Target.the-variants.{Misses, Gateway, One, Many}
+use Rattle.megaco.specs.declared.Range.{Range}
+use Rattle.megaco.specs.declared.View.{View}
 use Rattle.megaco.specs.declared.Context.{Context}
 use Rattle.megaco.specs.declared.Op.{Op}
 use Rattle.megaco.specs.declared.Values.{Values}
-use Rattle.tries.specs.Contract.{Did, joined}
+use Rattle.tries.specs.Contract.{Did, joined, shown}
 use Rattle.tries.specs.declared.Went.{Went}
 
 abbrev pub went : ℕ → Context → Bool → Went
@@ -28,19 +41,9 @@ went n at g = record { next = n; at = at; going = g }
 pub data Some : List Report → Type 0 where
   some : {r : Report} {rs : List Report} → Some (r ∷ rs)
 
--- a row of reports and then another
-false-text : (rs ys : List Report) → reportsText false (rs ++ ys) ≡ reportsText false rs then reportsText false ys
-unfolding reportsText
-false-text [] ys = sym (none-then (reportsText false ys))
-false-text (r ∷ rs) ys =
-    ap (λ (z : List ℕ). separator false then reportText r then z) (false-text rs ys)
-    ∙ sym (then-assoc (separator false) (reportText r then reportsText false rs) (reportsText false ys) ∙ ap (λ (z : List ℕ). separator false then z) (then-assoc (reportText r) (reportsText false rs) (reportsText false ys)))
-
 pub join-text : (first : Bool) (rs ys : List Report) → Some rs → reportsText first (rs ++ ys) ≡ reportsText first rs then reportsText false ys
-unfolding reportsText
-join-text first _ ys (some {r = r} {rs = rs}) =
-    ap (λ (z : List ℕ). separator first then reportText r then z) (false-text rs ys)
-    ∙ sym (then-assoc (separator first) (reportText r then reportsText false rs) (reportsText false ys) ∙ ap (λ (z : List ℕ). separator first then z) (then-assoc (reportText r) (reportsText false rs) (reportsText false ys)))
+unfolding firstAfter
+join-text first _ ys (some {r = r} {rs = rs}) = reports-split first (r ∷ rs) ys
 
 pub did-join : (x y : Outcome) (first : Bool) (o : List ℕ) (at : ℕ) (t₁ o₁ t′ o′ : List ℕ) (w r : Went) → Some (x .reports)
     → Did x first o at t₁ o₁ w → Did y false o₁ (w .next) t′ o′ r → Did (joined x y) first o at t′ o′ (went (r .next) (r .at) (w .going && r .going))
@@ -121,3 +124,120 @@ module _ (op : Op) (wild : Bool) (name : List ℕ) (given : ℕ) (vs : Values) w
     tries-end h =
         let m : Leads x first o p₀ good (outcome t [] at true) f o₁ p = subst (λ (z : List ℕ). Leads x first o p₀ good (tries op wild name given vs z at t) f o₁ p) (drop-of-length-le ms h) l in
         subst (λ (z : Bool). Did x first o p₀ t o₁ (went p at z)) (and-true good) (m .to t o₁ p at true (done-none t o₁ f p at))
+
+-- ---- one attempt
+
+-- the name that a failed attempt bears
+module _ (op : Op) (wild : Bool) (i : ℕ) (name : List ℕ) (code : ℕ) (first : Bool) (o : List ℕ) (p : ℕ) (o′ : List ℕ) (r : ℕ) where
+  pub shown-full : wild ≡ true → Appended o p (reportsText first (tried op (nameText i) code ∷ [])) o′ r
+      → Appended o p (reportsText first (tried op (shown wild i name) code ∷ [])) o′ r
+  unfolding shown pick
+  shown-full e a = rw e a
+
+  pub shown-received : wild ≡ false → Appended o p (reportsText first (tried op name code ∷ [])) o′ r
+      → Appended o p (reportsText first (tried op (shown wild i name) code ∷ [])) o′ r
+  unfolding shown pick
+  shown-received e a = rw e a
+
+module _ (op : Op) (wild : Bool) (name : List ℕ) (given : ℕ) (vs : Values) (i : ℕ) (at : Context) (first : Bool) (t : List ℕ) (o : List ℕ) (p : ℕ) (v : View) (code : ℕ) where
+  -- what an attempt comes to, by its result
+  abbrev comes : Result → Outcome
+  comes r = let e = concluded op wild name i at v r in outcome (apply (e .writes) t) (e .report ∷ []) (e .at) (e .good && true)
+
+  tries-one : v ≡ look at i t → tries op wild name given vs (i ∷ []) at t ≡ comes (attempt op at given i vs v)
+  unfolding tries effect
+  tries-one e = rw e
+
+  pub attempt-does : (t′ o′ : List ℕ) (n : ℕ) (c : Context) → v ≡ look at i t → code ≡ codeOf (checks op at v) → code ≡ 0
+      → t′ ≡ apply (changes op at given i vs v) t → Appended o p (reportsText first (tried op (nameText i) 0 ∷ [])) o′ n → c ≡ settled at v
+      → Did (tries op wild name given vs (i ∷ []) at t) first o p t′ o′ (went n c true)
+  unfolding concluded
+  attempt-does t′ o′ n c e f z g a s =
+      rw (tries-one e ∙ ap comes (attempt-done op at given i vs v (sym f ∙ z))) (record { table = g; text = a; place = s; going = refl })
+
+  pub attempt-fails : (o′ : List ℕ) (n : ℕ) → v ≡ look at i t → code ≡ codeOf (checks op at v) → (code ≡ 0 → ⊥)
+      → Appended o p (reportsText first (tried op (shown wild i name) code ∷ [])) o′ n
+      → Did (tries op wild name given vs (i ∷ []) at t) first o p t o′ (went n at false)
+  unfolding concluded shown apply
+  attempt-fails o′ n e f z a =
+      rw (tries-one e ∙ ap comes (attempt-refused op at given i vs v (λ q. z (f ∙ q)) ∙ ap refused (sym f))) (record { table = refl; text = a; place = refl; going = refl })
+
+-- ---- a target
+
+no-elements : (l : List ℕ) → length l ≡ 0 → l ≡ []
+no-elements [] e = refl
+no-elements (x ∷ xs) e = absurd (omega (arith, e))
+
+-- no more are matched than there are
+matches-from : (op : Op) (c : ℕ) (r : Range) (i : ℕ) (l : List ℕ) → length (matchesFrom op c r i l) ≤ length l
+unfolding matchesFrom
+matches-from op c r i [] = omega arith
+matches-from op c r i (x ∷ xs) =
+    let h : length (matchesFrom op c r (i + 1) xs) ≤ length xs = matches-from op c r (i + 1) xs in
+    let m : List ℕ = matchesFrom op c r (i + 1) xs in
+    pick-ind (λ l. length l ≤ length (x ∷ xs)) (inRange r i && exists i x && wanted op c x) (i ∷ m) m (λ e. omega arith) (λ e. omega arith)
+
+pub matches-few : (op : Op) (at : Context) (r : Range) (t z u : List ℕ) (k : ℕ) → Matched (matches op at r t) z u k → k ≤ terminations
+unfolding matches contextWords
+matches-few op at r t z u k m =
+    let h : length (matches op at r t) ≤ length (contextWords t) = matches-from op (numberOf at) r 0 (contextWords t) in
+    let w : length (take terminations t) ≤ terminations = simp length-take (omega arith) in
+    omega (arith, m .many)
+
+-- what was noted in a row that is long enough
+noted : (z u is : List ℕ) (k : ℕ) → Matched is z u k → k ≤ length z → take k u ≡ is
+noted z u is k m h = rw (m .many, m .row) (take-put z is (rw (← m .many) h))
+
+-- the first numbers of a row, as they are lent
+pub lent-first : (l : List ℕ) (n e : ℕ) → e ≡ min n (length l) → take (e - 0) (drop 0 l) ≡ take n l
+lent-first l n e q = by (ltb (length l) n) refl
+  where
+    by : (b : Bool) → ltb (length l) n ≡ b → take (e - 0) (drop 0 l) ≡ take n l
+    by true h =
+        let f : e - 0 ≡ length l = omega (arith, ltb-true (length l) n h) in
+        let g : length l ≤ n = omega (arith, ltb-true (length l) n h) in
+        rw f (take-all (length l) l (omega arith) ∙ sym (take-all n l g))
+    by false h = let f : e - 0 ≡ n = omega (arith, ltb-false (length l) n h) in rw f
+
+pub noted-tries : (op : Op) (name : List ℕ) (given : ℕ) (vs : Values) (at : Context) (first : Bool) (t o : List ℕ) (p : ℕ) (t′ o′ l ms : List ℕ) (n e : ℕ) (w : Went)
+    → e ≡ min n (length l) → ms ≡ take (e - 0) (drop 0 l) → Did (tries op true name given vs ms at t) first o p t′ o′ w → Did (tries op true name given vs (take n l) at t) first o p t′ o′ w
+noted-tries op name given vs at first t o p t′ o′ l ms n e w q f d = subst (λ (x : List ℕ). Did (tries op true name given vs x at t) first o p t′ o′ w) (f ∙ lent-first l n e q) d
+
+module _ (op : Op) (name : List ℕ) (given : ℕ) (vs : Values) (at : Context) (first : Bool) (t : List ℕ) (o : List ℕ) (p : ℕ) (t′ o′ : List ℕ) where
+  pub target-misses : (x : Target) (code n : ℕ) → x ≡ Misses code → Appended o p (reportsText first (tried op name code ∷ [])) o′ n
+      → Did (aimed op name given vs (aimOf x op at t) at t) first o p t o′ (went n at false)
+  unfolding aimOf aimed missed
+  target-misses x code n e a = rw e (record { table = refl; text = a; place = refl; going = refl })
+
+  pub target-gateway : (x : Target) (n : ℕ) → x ≡ Gateway → Appended o p (reportsText first (tried op (text "ROOT") 0 ∷ [])) o′ n
+      → Did (aimed op name given vs (aimOf x op at t) at t) first o p t o′ (went n at true)
+  unfolding aimOf aimed
+  target-gateway x n e a = rw e (record { table = refl; text = a; place = refl; going = refl })
+
+  pub target-one : (x : Target) (i : ℕ) (w : Went) → x ≡ One i → Did (tries op false name given vs (i ∷ []) at t) first o p t′ o′ w
+      → Did (aimed op name given vs (aimOf x op at t) at t) first o p t′ o′ w
+  unfolding aimOf aimed
+  target-one x i w e d = rw e d
+
+  pub target-many : (x : Target) (r : Range) (w : Went) → x ≡ Many r → Did (aimed op name given vs (aimOf (Many r) op at t) at t) first o p t′ o′ w
+      → Did (aimed op name given vs (aimOf x op at t) at t) first o p t′ o′ w
+  target-many x r w e d = rw e d
+
+  -- nobody is matched
+  pub many-none : (r : Range) (z u : List ℕ) (k n : ℕ) → Matched (matches op at r t) z u k → k ≡ 0 → Appended o p (reportsText first (tried op name 431 ∷ [])) o′ n
+      → Did (aimed op name given vs (aimOf (Many r) op at t) at t) first o p t o′ (went n at false)
+  unfolding aimOf aimed missed aimMatches
+  many-none r z u k n m e a = rw (no-elements (matches op at r t) (sym (m .many) ∙ e)) (record { table = refl; text = a; place = refl; going = refl })
+
+  -- those that were noted are tried
+  pub many-some : (r : Range) (z u : List ℕ) (k : ℕ) (w : Went) → Matched (matches op at r t) z u k → (k ≡ 0 → ⊥) → length z ≡ terminations
+      → Did (tries op true name given vs (take k u) at t) first o p t′ o′ w → Did (aimed op name given vs (aimOf (Many r) op at t) at t) first o p t′ o′ w
+  unfolding aimOf
+  many-some r z u k w m n h d =
+      let f : k ≤ terminations = matches-few op at r t z u k m in
+      let q : take k u ≡ matches op at r t = noted z u (matches op at r t) k m (rw h f) in
+      by (matches op at r t) (λ z. n (m .many ∙ ap length z)) (subst (λ (l : List ℕ). Did (tries op true name given vs l at t) first o p t′ o′ w) q d)
+    where
+      by : (l : List ℕ) → (l ≡ [] → ⊥) → Did (tries op true name given vs l at t) first o p t′ o′ w → Did (aimed op name given vs (aimMatches l) at t) first o p t′ o′ w
+      by [] f d = absurd (f refl)
+      by (i ∷ is) f d = unfold aimMatches aimed in d

@@ -1,18 +1,14 @@
 -- What the functions of a run promise: the table and the reports that the definition gives, the reports' text appended in a buffer.
 use Prim.Native.Nat.{ℕ}
 use mathlib.Core.Path.{_≡_}
-use mathlib.Core.List.{List, [], _∷_, _++_}
-use mathlib.Core.Bool.{Bool, true, false, _&&_}
+use mathlib.Core.List.{List, _++_}
+use mathlib.Core.Bool.{Bool, _&&_}
 use Rattle.base.specs.Pick.{pick}
 use Rattle.base.specs.Out.{Appended}
 use Rattle.megaco.specs.Reply.{reportsText}
 use Rattle.megaco.specs.Names.{nameText}
-use Rattle.megaco.specs.Running.{Outcome, outcome, Aim, misses, gateway, meets, aimMatches, matches}
-use Rattle.megaco.specs.declared.Context.{Context}
-use Rattle.megaco.specs.declared.Op.{Op}
+use Rattle.megaco.specs.Running.{Outcome, outcome}
 use Rattle.tries.specs.declared.Went.{Went}
-use Rattle.tries.specs.declared.Target.{Target}
-use Rattle.tries.specs.declared.Target.the-variants.{Misses, Gateway, One, Many}
 
 -- from the buffer o at `at`, a run leaves the table t′ and the buffer o′; `first` tells that no comma is due before its first report
 pub record Did (x : Outcome) (first : Bool) (o : List ℕ) (at : ℕ) (t′ o′ : List ℕ) (r : Went) : Type 0 where
@@ -28,10 +24,3 @@ joined x y = outcome (y .table) (x .reports ++ y .reports) (y .at) (x .going && 
 -- the name that a failed attempt bears
 unfoldable pub shown : Bool → ℕ → List ℕ → List ℕ
 shown wild i name = pick wild (nameText i) name
-
--- whom a target means, a wildcard's matches being those of the table
-unfoldable pub aimOf : Target → Op → Context → List ℕ → Aim
-aimOf (Misses code) op at t = misses code
-aimOf Gateway op at t = gateway
-aimOf (One i) op at t = meets false (i ∷ [])
-aimOf (Many r) op at t = aimMatches (matches op at r t)

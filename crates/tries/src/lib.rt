@@ -2,16 +2,19 @@
 ghost use mathlib.Core.Path.{_≡_};
 ghost use mathlib.Core.Bool.{true, false};
 ghost use mathlib.Core.List.{[], _∷_};
-ghost use lib.ListN.{length};
+ghost use Prim.Native.Nat.{min};
+ghost use lib.ListN.{length, take};
 ghost use Rattle.base.specs.Out.{Appended};
 ghost use Rattle.megaco.specs.Table.{words};
 ghost use Rattle.megaco.specs.Names.{nameText};
 ghost use Rattle.megaco.specs.Reply.{tried, reportsText};
-ghost use Rattle.megaco.specs.Running.{isAdd, isModify, isNull, tries, aim, aimed};
-ghost use Rattle.attempt.specs.Judging.{Fitting};
-ghost use Rattle.tries.specs.Contract.{Did, shown, aimOf};
+ghost use Rattle.megaco.specs.Running.{tries, aimed};
+ghost use Rattle.attempt.specs.Judging.{Fair};
+ghost use Rattle.aims.specs.Targets.{aimOf};
+ghost use Rattle.aims.specs.declared.Target.the-variants.{Many};
+ghost use Rattle.tries.specs.Contract.{Did, shown};
+use aims::Target;
 use megaco::Context;
-use megaco::Name;
 use megaco::Op;
 use megaco::Range;
 use megaco::Values;
@@ -21,14 +24,6 @@ pub struct Went {
     pub next: usize,
     pub at: Context,
     pub going: bool,
-}
-
-// Whom a command's name means: nobody, with a code; the gateway itself; one termination; those that a wildcard matches.
-pub enum Target {
-    Misses(u32),
-    Gateway,
-    One(usize),
-    Many(Range),
 }
 
 // ---- reports
@@ -84,7 +79,7 @@ pub fn try_one(
     out: &mut [u8],
     p: usize,
 ) -> Went
-    requires { ⌜ (length (now table) ≡ words) × Fitting values ⌝ }
+    requires { ⌜ (length (now table) ≡ words) × Fair values ⌝ }
     ensures { λ r. ⌜ Did (tries op wild (now (name .entry)) given values (i ∷ []) at (now (table .entry))) first (now (out .entry)) p (now (table .exit)) (now (out .exit)) r ⌝ }
 {
     let view = view::look(table, at, i);
@@ -126,7 +121,7 @@ fn try_each(
     out: &mut [u8],
     p: usize,
 ) -> Went
-    requires { ⌜ (length (now table) ≡ words) × Fitting values ⌝ }
+    requires { ⌜ (length (now table) ≡ words) × Fair values ⌝ }
     ensures { λ r. ⌜ Did (tries op true (now (name .entry)) given values (now (matched .entry)) at (now (table .entry))) first (now (out .entry)) p (now (table .exit)) (now (out .exit)) r ⌝ }
 {
     let mut k: usize = 0;
@@ -161,6 +156,44 @@ fn try_each(
     }
 }
 
+fn low(a: usize, b: usize) -> usize
+    ensures { λ r. ⌜ r ≡ min a b ⌝ }
+{
+    if a < b { a } else { b }
+}
+
+// The attempts of a wildcard, in the order of the first n numbers of a row.
+fn try_noted(
+    op: Op,
+    name: &[u8],
+    given: u32,
+    values: Values,
+    row: &[u32],
+    n: usize,
+    at: Context,
+    first: bool,
+    table: &mut [u32],
+    out: &mut [u8],
+    p: usize,
+) -> Went
+    requires { ⌜ (length (now table) ≡ words) × Fair values ⌝ }
+    ensures { λ r. ⌜ Did (tries op true (now (name .entry)) given values (take n (now (row .entry))) at (now (table .entry))) first (now (out .entry)) p (now (table .exit)) (now (out .exit)) r ⌝ }
+{
+    let e = low(n, row.len());
+    try_each(
+        op,
+        name,
+        given,
+        values,
+        &row[0..e],
+        at,
+        first,
+        table,
+        out,
+        p,
+    )
+}
+
 // The attempts of a wildcard: its matches are noted before the first of them.
 fn try_many(
     op: Op,
@@ -174,7 +207,7 @@ fn try_many(
     out: &mut [u8],
     p: usize,
 ) -> Went
-    requires { ⌜ (length (now table) ≡ words) × Fitting values ⌝ }
+    requires { ⌜ (length (now table) ≡ words) × Fair values ⌝ }
     ensures { λ w. ⌜ Did (aimed op (now (name .entry)) given values (aimOf (Many r) op at (now (table .entry))) at (now (table .entry))) first (now (out .entry)) p (now (table .exit)) (now (out .exit)) w ⌝ }
 {
     let mut matched = [0u32; 312];
@@ -187,106 +220,19 @@ fn try_many(
             going: false,
         };
     }
-    try_each(
+    try_noted(
         op,
         name,
         given,
         values,
-        &matched[0..n],
+        &matched,
+        n,
         at,
         first,
         table,
         out,
         p,
     )
-}
-
-// ---- whom a name means
-
-pub fn is_add(op: Op) -> bool
-    ensures { λ r. ⌜ r ≡ isAdd op ⌝ }
-{
-    match op {
-        Op::Add => true,
-        Op::Modify => false,
-        Op::Subtract => false,
-        Op::Move => false,
-    }
-}
-
-pub fn is_modify(op: Op) -> bool
-    ensures { λ r. ⌜ r ≡ isModify op ⌝ }
-{
-    match op {
-        Op::Add => false,
-        Op::Modify => true,
-        Op::Subtract => false,
-        Op::Move => false,
-    }
-}
-
-pub fn is_null(at: Context) -> bool
-    ensures { λ r. ⌜ r ≡ isNull at ⌝ }
-{
-    match at {
-        Context::Null => true,
-        Context::Numbered(_) => false,
-        Context::Choose => false,
-        Context::All => false,
-    }
-}
-
-// ROOT.
-fn aim_root(op: Op, at: Context, items: bool) -> Target {
-    if is_modify(op) {
-        if is_null(at) {
-            if items {
-                return Target::Misses(447);
-            }
-            return Target::Gateway;
-        }
-        return Target::Misses(435);
-    }
-    Target::Misses(410)
-}
-
-// `$` and `R/$`.
-fn aim_free(op: Op, table: &[u32]) -> Target {
-    if is_add(op) {
-        let n = table::free_ephemeral(table);
-        if n == 0 {
-            return Target::Misses(432);
-        }
-        return Target::One(table::LINE_TERMINATIONS + (number(n) - 1));
-    }
-    Target::Misses(410)
-}
-
-fn aim_unchosen(op: Op) -> Target {
-    if is_add(op) {
-        return Target::Misses(432);
-    }
-    Target::Misses(410)
-}
-
-fn aim_one(i: usize, table: &[u32]) -> Target {
-    if table::exists(i, table::context_of(table, i)) {
-        return Target::One(i);
-    }
-    Target::Misses(430)
-}
-
-// Test 4.
-pub fn aim(op: Op, at: Context, items: bool, name: Name, table: &[u32]) -> Target {
-    match name {
-        Name::Termination(i) => aim_one(i, table),
-        Name::Root => aim_root(op, at, items),
-        Name::Chosen => aim_free(op, table),
-        Name::Unchosen => aim_unchosen(op),
-        Name::Wildcard(r) => Target::Many(r),
-        Name::Unmatched => Target::Misses(431),
-        Name::Unknown => Target::Misses(430),
-    }
 }
 
 // Tests 5 and 6, for each that the name means.
@@ -301,7 +247,10 @@ pub fn run_target(
     table: &mut [u32],
     out: &mut [u8],
     p: usize,
-) -> Went {
+) -> Went
+    requires { ⌜ (length (now table) ≡ words) × Fair values ⌝ }
+    ensures { λ w. ⌜ Did (aimed op (now (name .entry)) given values (aimOf target op at (now (table .entry))) at (now (table .entry))) first (now (out .entry)) p (now (table .exit)) (now (out .exit)) w ⌝ }
+{
     match target {
         Target::Misses(code) => {
             let q = put_received(out, p, first, op, name, code);

@@ -1,0 +1,21 @@
+use borrow.Author.Needs.{needs}
+use Rattle.tries.proofs.DidLaws.{attempt-does, attempt-fails}
+use Rattle.tries.proofs.try_one.Statement.{statement}
+use Rattle.tries.proofs.try_one.Tie as tie
+
+pub try-one-spec : {M : Type 1} → statement M
+try-one-spec =
+    tie.close
+    (tie.spec
+    (λ c κs. search needs)
+    (λ c κs. search needs)
+    (λ c κs. search needs)
+    (λ c κs. search needs)
+    (λ c κs. search needs)
+    (λ c. search needs)
+    (λ c. search needs)
+    (λ c. search attempt-does)
+    (λ c κs. search needs)
+    (λ c. search needs)
+    (λ c. search needs)
+    (λ c. search attempt-fails))
