@@ -21,8 +21,9 @@ use Rattle.megaco.specs.declared.Context.the-variants.{Null, Numbered, Choose, 
 use Rattle.megaco.specs.declared.Property.{Property}
 use Rattle.megaco.specs.declared.Property.the-variants.{Priority, Emergency}
 use Rattle.megaco.specs.declared.Token.the-variants.{TransToken, CtxToken, PriorityToken, EmergencyToken}
-use Rattle.syntax.specs.Places.{spacedAt, listAt, secondAt, valueItemAt, bracesAt, headAt, itemAt, itemsAt, orderAt, orderStart, commandHeadAt, commandAt, commandsAt, contextAt, propertyAt, bodyAt, openingAt, actionAt, actionsAt, orFault400, ifNumber, orFault403, braceAt, transactionsAt, verdict}
-use Rattle.syntax.specs.Extraction.{endOf, valueIn, nextIn, pastWhite, pastSign, wordEnd, listOf, listEnd, secondEnd, equalPlace, valueEnd, headEnd, secondOf, valueItemOf, bracesOf, bracesEnd, itemOf, itemEnd, itemsOf, orderEnd, nameStart, nameEnd, commandHeadEnd, commandOf, commandEnd, commandsOf, commandsEnd, contextStart, contextOf, contextEnd, bodyStart, priorityAt, propertyOf, propertyEnd, propertiesOf, rest, restOf, commandsIn, bodyEnd, bodyOf, restIn, actionOf, actionEnd, actionsOf, actionsEnd, identifierAt, actionsStart, transactionOf, transactionEnd, transactionsOf, headerEnd, messageOf}
+use Rattle.syntax.specs.Places.{spacedAt, listAt, secondAt, valueItemAt, bracesAt, headAt, itemAt, itemsAt, orderAt, orderStart, commandHeadAt, commandAt, commandsAt, contextAt, propertyAt, bodyAt, openingAt, actionAt, actionsAt, orFault400, ifNumber, numberAfter, priorityAt, braceAt, orOutside, orWithin, transactionAt, afterBraces, identifierAt, versionAt, transactionsAt, verdict}
+use Rattle.syntax.specs.Extraction.{endOf, valueIn, nextIn, pastWhite, pastSign, wordEnd, listOf, listEnd, secondEnd, equalPlace, valueEnd, headEnd, secondOf, valueItemOf, bracesOf, bracesEnd, itemOf, itemEnd, itemsOf, orderEnd, nameStart, nameEnd, commandHeadEnd, commandOf, commandEnd, commandsOf, commandsEnd, contextStart, contextOf, contextEnd, bodyStart, propertyOf, propertyEnd, propertiesOf, rest, restOf, commandsIn, bodyEnd, bodyOf, restIn, actionOf, actionEnd, actionsOf, actionsEnd, actionsStart, transactionOf, transactionEnd, transactionsOf, headerEnd, messageOf}
+use Rattle.syntax.specs.declared.Braces.{Braces}
 use Rattle.syntax.specs.declared.Verdict.{Verdict}
 use Rattle.syntax.specs.declared.Verdict.the-variants.{WellFormed, Fault400, Fault403, WrongVersion406}
 use Rattle.syntax.specs.declared.Rest.{Rest}
@@ -233,12 +234,18 @@ context-reads s at =
     (pick-reads (isAt s at star) (got-reads All (at + 1))
     (number-reads (numberAt s at 10 4294967295) Numbered)))
 
+priority-reads : (s : List ℕ) (x : Parsed) → let n = numberAfter x (λ p. numberAt s p 5 99999) in
+    Reads (skip x (λ p. spaced s (readNumber (numberAt s p 5 99999) Priority))) (spacedAt s (afterNumber n Next)) (Priority (valueIn n)) (pastWhite s (nextIn n))
+unfolding skip numberAfter
+priority-reads s (Next p) = spaced-reads s (number-reads (numberAt s p 5 99999) Priority)
+priority-reads s Fault = unfold afterNumber spacedAt after in fault-reads _ _
+
 pub property-reads : (s : List ℕ) (at : ℕ) → Reads (propertyR s at) (propertyAt s at) (propertyOf s at) (propertyEnd s at)
 unfolding propertyR propertyAt propertyOf propertyEnd priorityAt
 property-reads s at =
     pick-reads (spells EmergencyToken (wordHere s at))
     (spaced-reads s (reading-to (wordAt s at) (λ e. Emergency) (wordEnd s at) (word-ends s at)))
-    (skip-reads (keyAt PriorityToken s at) _ _ (spaced-reads s (number-reads (numberAt s (endOf (keyAt PriorityToken s at)) 5 99999) Priority)))
+    (priority-reads s (keyAt PriorityToken s at))
 
 body-turn : (s : List ℕ) (t : Bool) (x : Property) (p : ℕ) {m : Read Body} {y : Parsed} {ps : List Property} (r : Rest)
     → Reads m y (body (x ∷ ps) (commandsIn s r)) (bodyEnd s r)
@@ -307,14 +314,28 @@ module _ (xs : List Transaction) where
   numbered-told (Got v p) f g h = h
   numbered-told Bad f g h = refl
 
-  inside-told : (id : ℕ) {r : Read (List Action)} {x : Parsed} {acts : List Action} {e : ℕ} (f : List Action → ℕ → Message) (g : ℕ → Verdict)
-      → Reads r x acts e → f acts e ≡ told (g e) xs → inside id r f ≡ told (orFault403 id x g) xs
-  unfolding inside orFault403 reading told
-  inside-told id {r} {x} {acts} {e} f g h k = rw (h .tree) (by x (h .ends))
-    where
-      by : (y : Parsed) → ((p : ℕ) → y ≡ Next p → e ≡ p) → inside id (found y acts) f ≡ told (orFault403 id y g) xs
-      by (Next p) n = rw (n p refl) at k
-      by Fault n = refl
+  -- the same behind another part
+  behind-told : (x : Parsed) (n : ℕ → Number) (f : ℕ → ℕ → Message) (g : ℕ → ℕ → Verdict)
+      → let m = numberAfter x n in f (valueIn m) (nextIn m) ≡ told (g (valueIn m) (nextIn m)) xs → elsewhere x (λ p. numbered (n p) f) ≡ told (ifNumber m g) xs
+  unfolding elsewhere numberAfter
+  behind-told (Next p) n f g h = numbered-told (n p) f g h
+  behind-told Fault n f g h = unfold ifNumber told in refl
+
+  -- in a transaction's braces and around them
+  module _ (id : ℕ) (g : ℕ → Verdict) where
+    outside-told : (x : Parsed) (f : ℕ → Message) (h : ℕ → Braces) → f (endOf x) ≡ told (afterBraces id (h (endOf x)) g) xs → elsewhere x f ≡ told (afterBraces id (orOutside x h) g) xs
+    unfolding elsewhere orOutside endOf
+    outside-told (Next p) f h k = k
+    outside-told Fault f h k = unfold afterBraces told in refl
+
+    within-told : {r : Read (List Action)} {x : Parsed} {acts : List Action} {e : ℕ} (f : List Action → ℕ → Message) (h : ℕ → Braces)
+        → Reads r x acts e → f acts e ≡ told (afterBraces id (h e) g) xs → inside id r f ≡ told (afterBraces id (orWithin x h) g) xs
+    unfolding inside orWithin reading
+    within-told {r} {x} {acts} {e} f h k l = rw (k .tree) (by x (k .ends))
+      where
+        by : (y : Parsed) → ((p : ℕ) → y ≡ Next p → e ≡ p) → inside id (found y acts) f ≡ told (afterBraces id (orWithin y h) g) xs
+        by (Next p) n = rw (n p refl) at l
+        by Fault n = unfold afterBraces told in refl
 
   pick-told : (t : Bool) {m n : Message} (v w : Verdict) → m ≡ told v xs → n ≡ told w xs → pick t m n ≡ told (pick t v w) xs
   unfolding pick
@@ -334,24 +355,23 @@ module _ (xs : List Transaction) where
   last-told false x v h = refl
 
 pub transactions-told : (k : ℕ) (s : List ℕ) (at : ℕ) → transactionsR k s at ≡ told (transactionsAt k s at) (transactionsOf k s at)
-unfolding transactionsR transactionsAt transactionsOf transactionOf transactionEnd bracesThen braceAt endOr identifierAt actionsStart pastWhite told
+unfolding transactionsR transactionsAt transactionsOf transactionOf transactionEnd transactionAt bracesThen braceAt endOr identifierAt actionsStart pastWhite afterBraces told
 transactions-told zero s at = refl
 transactions-told (suc k) s at =
     let i : Number = identifierAt s at in
-    elsewhere-told _ (keyAt TransToken s at) _ _
-    (numbered-told _ i _ _
+    let b : ℕ = endOf (braceAt s (nextIn i)) in
+    behind-told _ (keyAt TransToken s at) _ _ _
     (pick-told _ (eqb (valueIn i) 0) (Fault403 0) _ refl
-    (elsewhere-told _ (braceAt s (nextIn i)) _ _
-    (inside-told _ (valueIn i) _ _ (actions-read s (endOf (braceAt s (nextIn i))))
-    (elsewhere-told _ (whiteAt s _) _ _
-    (last-told _ _ _ _ (transactions-told k s _)))))))
+    (outside-told _ (valueIn i) _ (braceAt s (nextIn i)) _ _
+    (within-told _ (valueIn i) _ _ _ (actions-read s b)
+    (outside-told _ (valueIn i) _ (whiteAt s _) _ _
+    (last-told _ _ _ _ (transactions-told k s _))))))
 
--- "The whole message is read before anything runs": the meaning of a message is its verdict and, where it is well-formed, the tree told by position
+-- "The whole message is read before anything runs": a message means what its verdict tells and, where it is well-formed, its tree told by position
 pub message-told : (s : List ℕ) → messageR s ≡ told (verdict s) (messageOf s)
-unfolding messageR verdict messageOf headerEnd told
+unfolding messageR verdict versionAt messageOf headerEnd told
 message-told s =
-    let n : Number = numberAt s (endOf (startAt s)) 2 99 in
-    elsewhere-told _ (startAt s) _ _
-    (numbered-told _ n _ _
+    let n : Number = versionAt s in
+    behind-told _ (startAt s) _ _ _
     (elsewhere-told _ (senderAt s (nextIn n)) _ _
-    (pick-told _ (eqb (valueIn n) 1) _ WrongVersion406 (transactions-told 8 s _) refl)))
+    (pick-told _ (eqb (valueIn n) 1) _ WrongVersion406 (transactions-told 8 s _) refl))

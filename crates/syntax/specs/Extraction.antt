@@ -13,18 +13,18 @@ use Rattle.megaco.specs.White.{whiteAt}
 use Rattle.megaco.specs.Keywords.{spells}
 use Rattle.megaco.specs.Tokens.{markAt, signAt, rowAt, terminationAt, numberAt, valueAt}
 use Rattle.megaco.specs.Tree.{Value, ItemOf, item, Item, Command, command, Action, action, Transaction, transaction}
-use Rattle.megaco.specs.Reading.{unlimited, keyAt, valueOf, prefixAt, prefixEnd, isProperty, wordHere, Body, body, startAt, senderAt}
+use Rattle.megaco.specs.Reading.{unlimited, keyAt, valueOf, prefixAt, prefixEnd, isProperty, wordHere, Body, body, senderAt}
 use Rattle.megaco.specs.declared.Parsed.{Parsed}
 use Rattle.megaco.specs.declared.Parsed.the-variants.{Next, Fault}
 use Rattle.megaco.specs.declared.Number.{Number}
 use Rattle.megaco.specs.declared.Number.the-variants.{Got, Bad}
 use Rattle.megaco.specs.declared.Class.the-variants.{WordByte}
-use Rattle.megaco.specs.declared.Token.the-variants.{TransToken, CtxToken, PriorityToken, EmergencyToken}
+use Rattle.megaco.specs.declared.Token.the-variants.{CtxToken, EmergencyToken}
 use Rattle.megaco.specs.declared.Context.{Context}
 use Rattle.megaco.specs.declared.Context.the-variants.{Null, Numbered, Choose, All}
 use Rattle.megaco.specs.declared.Property.{Property}
 use Rattle.megaco.specs.declared.Property.the-variants.{Priority, Emergency}
-use Rattle.syntax.specs.Places.{bracesAt, itemsAt, orderStart, braceAt}
+use Rattle.syntax.specs.Places.{bracesAt, itemsAt, orderStart, priorityAt, braceAt, identifierAt, versionAt}
 use Rattle.syntax.specs.declared.Rest.{Rest}
 
 -- ---- places
@@ -158,10 +158,6 @@ contextEnd s at =
 unfoldable pub bodyStart : List ℕ → ℕ → ℕ
 bodyStart s at = pastSign leftBrace s (pastWhite s (contextEnd s (contextStart s at)))
 
--- a priority's number
-unfoldable pub priorityAt : List ℕ → ℕ → Number
-priorityAt s at = numberAt s (endOf (keyAt PriorityToken s at)) 5 99999
-
 unfoldable pub propertyOf : List ℕ → ℕ → Property
 propertyOf s at = pick (spells EmergencyToken (wordHere s at)) Emergency (Priority (valueIn (priorityAt s at)))
 
@@ -210,9 +206,6 @@ actionsEnd s at = listEnd (actionEnd s) s 16 at
 
 -- ---- transactions
 
-unfoldable pub identifierAt : List ℕ → ℕ → Number
-identifierAt s at = numberAt s (endOf (keyAt TransToken s at)) 10 4294967295
-
 unfoldable pub actionsStart : List ℕ → ℕ → ℕ
 actionsStart s at = pastWhite s (endOf (braceAt s (nextIn (identifierAt s at))))
 
@@ -230,7 +223,7 @@ transactionsOf (suc k) s at =
 
 -- behind the header
 unfoldable pub headerEnd : List ℕ → ℕ
-headerEnd s = endOf (senderAt s (nextIn (numberAt s (endOf (startAt s)) 2 99)))
+headerEnd s = endOf (senderAt s (nextIn (versionAt s)))
 
 unfoldable pub messageOf : List ℕ → List Transaction
 messageOf s = transactionsOf 8 s (headerEnd s)

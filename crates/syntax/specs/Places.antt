@@ -16,6 +16,8 @@ use Rattle.megaco.specs.declared.Parsed.the-variants.{Next, Fault}
 use Rattle.megaco.specs.declared.Number.{Number}
 use Rattle.megaco.specs.declared.Number.the-variants.{Got, Bad}
 use Rattle.megaco.specs.declared.Token.the-variants.{TransToken, CtxToken, PriorityToken, EmergencyToken}
+use Rattle.syntax.specs.declared.Braces.{Braces}
+use Rattle.syntax.specs.declared.Braces.the-variants.{Past, Outside, Within}
 use Rattle.syntax.specs.declared.Verdict.{Verdict}
 use Rattle.syntax.specs.declared.Verdict.the-variants.{WellFormed, Fault400, Fault403, WrongVersion406}
 
@@ -30,6 +32,11 @@ listAt one s (suc k) at =
     after (one at) (λ p.
     let more = after (signAt comma s p) (listAt one s k) in
     pick (isAt s p comma) more (Next p))
+
+-- a number behind another part
+unfoldable pub numberAfter : Parsed → (ℕ → Number) → Number
+numberAfter (Next p) f = f p
+numberAfter Fault f = Bad
 
 -- ---- items
 
@@ -90,11 +97,14 @@ contextAt s at =
     (pick (isAt s at star) (Next (at + 1))
     (afterNumber (numberAt s at 10 4294967295) Next)))
 
+unfoldable pub priorityAt : List ℕ → ℕ → Number
+priorityAt s at = numberAfter (keyAt PriorityToken s at) (λ p. numberAt s p 5 99999)
+
 unfoldable pub propertyAt : List ℕ → ℕ → Parsed
 propertyAt s at =
-    pick (spells EmergencyToken (wordHere s at))
-    (spacedAt s (wordAt s at))
-    (after (keyAt PriorityToken s at) (λ p. spacedAt s (afterNumber (numberAt s p 5 99999) Next)))
+    let emergency = spacedAt s (wordAt s at) in
+    let priority = spacedAt s (afterNumber (priorityAt s at) Next) in
+    pick (spells EmergencyToken (wordHere s at)) emergency priority
 
 -- what stands in an action's braces
 unfoldable pub bodyAt : ℕ → List ℕ → ℕ → Parsed
@@ -119,7 +129,28 @@ actionAt s at = after (openingAt s at) (λ p. after (bodyAt (unlimited s) s p) (
 unfoldable pub actionsAt : List ℕ → ℕ → Parsed
 actionsAt s at = after (whiteAt s at) (λ p. after (listAt (actionAt s) s 16 p) (markAt rightBrace s))
 
--- "Fault elsewhere: ER=400{}"
+-- the opening brace behind an identifier
+unfoldable pub braceAt : List ℕ → ℕ → Parsed
+braceAt s at = after (whiteAt s at) (markAt leftBrace s)
+
+unfoldable pub orOutside : Parsed → (ℕ → Braces) → Braces
+orOutside (Next p) f = f p
+orOutside Fault f = Outside
+
+unfoldable pub orWithin : Parsed → (ℕ → Braces) → Braces
+orWithin (Next p) f = f p
+orWithin Fault f = Within
+
+-- a transaction from behind its identifier, and the white space after it
+unfoldable pub transactionAt : List ℕ → ℕ → Braces
+transactionAt s at = orOutside (braceAt s at) (λ p. orWithin (actionsAt s p) (λ q. orOutside (whiteAt s q) Past))
+
+-- "Fault between a transaction's opening and closing brace": 403. "Fault elsewhere": 400
+unfoldable pub afterBraces : ℕ → Braces → (ℕ → Verdict) → Verdict
+afterBraces id (Past e) f = f e
+afterBraces id Outside f = Fault400
+afterBraces id Within f = Fault403 id
+
 unfoldable pub orFault400 : Parsed → (ℕ → Verdict) → Verdict
 orFault400 (Next p) f = f p
 orFault400 Fault f = Fault400
@@ -128,33 +159,24 @@ unfoldable pub ifNumber : Number → (ℕ → ℕ → Verdict) → Verdict
 ifNumber (Got v p) f = f v p
 ifNumber Bad f = Fault400
 
--- "Fault between a transaction's opening and closing brace": 403
-unfoldable pub orFault403 : ℕ → Parsed → (ℕ → Verdict) → Verdict
-orFault403 id (Next p) f = f p
-orFault403 id Fault f = Fault403 id
+unfoldable pub identifierAt : List ℕ → ℕ → Number
+identifierAt s at = numberAfter (keyAt TransToken s at) (λ p. numberAt s p 10 4294967295)
 
--- the opening brace behind an identifier
-unfoldable pub braceAt : List ℕ → ℕ → Parsed
-braceAt s at = after (whiteAt s at) (markAt leftBrace s)
-
--- at most k transactions, to the end of the message
+-- at most k transactions, to the end of the message. "or identifier 0": 403 as soon as its digits end
 unfoldable pub transactionsAt : ℕ → List ℕ → ℕ → Verdict
 transactionsAt zero s at = Fault400
 transactionsAt (suc k) s at =
-    orFault400 (keyAt TransToken s at) (λ p.
-    ifNumber (numberAt s p 10 4294967295) (λ id q.
-    let braces =
-    orFault400 (braceAt s q) (λ r.
-    orFault403 id (actionsAt s r) (λ u.
-    orFault400 (whiteAt s u) (λ e.
-    let more = transactionsAt k s e in
-    pick (ltb e (length s)) more WellFormed))) in
-    pick (eqb id 0) (Fault403 0) braces))
+    ifNumber (identifierAt s at) (λ id p.
+    let braces = afterBraces id (transactionAt s p) (λ e. let more = transactionsAt k s e in pick (ltb e (length s)) more WellFormed) in
+    pick (eqb id 0) (Fault403 0) braces)
 
+unfoldable pub versionAt : List ℕ → Number
+versionAt s = numberAfter (startAt s) (λ p. numberAt s p 2 99)
+
+-- "A header that reads well with a version other than 1: ER=406{}, whatever follows"
 unfoldable pub verdict : List ℕ → Verdict
 verdict s =
-    orFault400 (startAt s) (λ p.
-    ifNumber (numberAt s p 2 99) (λ v q.
-    orFault400 (senderAt s q) (λ r.
-    let rest = transactionsAt 8 s r in
-    pick (eqb v 1) rest WrongVersion406)))
+    ifNumber (versionAt s) (λ v p.
+    orFault400 (senderAt s p) (λ q.
+    let rest = transactionsAt 8 s q in
+    pick (eqb v 1) rest WrongVersion406))

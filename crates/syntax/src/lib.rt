@@ -8,6 +8,13 @@ pub enum Verdict {
     WrongVersion406,
 }
 
+// What a transaction's braces read as: the place after them and the white space there; or a fault outside them, or one between them.
+pub enum Braces {
+    Past(usize),
+    Outside,
+    Within,
+}
+
 // What follows an action's properties: commands, or none; and the place where they begin, or where the properties end.
 pub struct Rest {
     pub commands: bool,
