@@ -7,7 +7,7 @@ use Rattle.megaco.specs.White.{goesOn}
 use Rattle.megaco.specs.declared.Class.{Class}
 use Rattle.megaco.specs.declared.Class.the-variants.{WordByte, NameByte, SafeByte, QuotedByte, DomainByte}
 
-unfoldable pub bitOf : Class → ℕ
+abbrev pub bitOf : Class → ℕ
 bitOf WordByte = 1
 bitOf NameByte = 2
 bitOf SafeByte = 4
@@ -15,7 +15,7 @@ bitOf QuotedByte = 8
 bitOf DomainByte = 16
 
 -- the bytes that white space goes on with, inside a comment or outside one
-unfoldable pub whiteBit : Bool → ℕ
+abbrev pub whiteBit : Bool → ℕ
 whiteBit true = 64
 whiteBit false = 32
 
