@@ -21,7 +21,7 @@ use Rattle.megaco.specs.declared.Context.the-variants.{Null, Numbered, Choose, 
 use Rattle.megaco.specs.declared.Property.{Property}
 use Rattle.megaco.specs.declared.Property.the-variants.{Priority, Emergency}
 use Rattle.megaco.specs.declared.Token.the-variants.{TransToken, CtxToken, PriorityToken, EmergencyToken}
-use Rattle.syntax.specs.Places.{spacedAt, listAt, secondAt, valueItemAt, bracesAt, headAt, itemAt, itemsAt, orderAt, orderStart, commandHeadAt, commandAt, commandsAt, contextAt, propertyAt, bodyAt, openingAt, actionAt, actionsAt, orFault400, ifNumber, numberAfter, priorityAt, braceAt, orOutside, orWithin, transactionAt, afterBraces, identifierAt, versionAt, transactionsAt, verdict}
+use Rattle.syntax.specs.Places.{spacedAt, joinedAt, listAt, secondAt, valueItemAt, bracesAt, headAt, itemAt, itemsAt, orderAt, orderStart, commandHeadAt, commandAt, commandsAt, contextAt, propertyAt, bodyAt, openingAt, actionAt, actionsAt, orFault400, ifNumber, numberAfter, priorityAt, braceAt, orOutside, orWithin, transactionAt, afterBraces, identifierAt, versionAt, transactionsAt, verdict}
 use Rattle.syntax.specs.Extraction.{endOf, valueIn, nextIn, pastWhite, pastSign, wordEnd, listOf, listEnd, secondEnd, equalPlace, valueEnd, headEnd, secondOf, valueItemOf, bracesOf, bracesEnd, itemOf, itemEnd, itemsOf, orderEnd, nameStart, nameEnd, commandHeadEnd, commandOf, commandEnd, commandsOf, commandsEnd, contextStart, contextOf, contextEnd, bodyStart, propertyOf, propertyEnd, propertiesOf, rest, restOf, commandsIn, bodyEnd, bodyOf, restIn, actionOf, actionEnd, actionsOf, actionsEnd, actionsStart, transactionOf, transactionEnd, transactionsOf, headerEnd, messageOf}
 use Rattle.syntax.specs.declared.Braces.{Braces}
 use Rattle.syntax.specs.declared.Verdict.{Verdict}
@@ -121,7 +121,7 @@ turn false a p h = got-reads (a ∷ []) p
 
 module _ {A : Type 0} (r : ℕ → Read A) (rd : ℕ → Parsed) (one : ℕ → A) (end : ℕ → ℕ) (s : List ℕ) (h : (i : ℕ) → Reads (r i) (rd i) (one i) (end i)) where
   pub list-reads : (k i : ℕ) → Reads (listR r s k i) (listAt rd s k i) (listOf one end s k i) (listEnd end s k i)
-  unfolding listR listAt listOf listEnd pastSign
+  unfolding listR listAt joinedAt listOf listEnd pastSign
   list-reads zero i = fault-reads [] i
   list-reads (suc k) i =
       bind-reads _ _ (h i) (turn (isAt s (end i) comma) (one i) (end i)
@@ -262,7 +262,7 @@ body-choice s true at r h c = h
 body-choice s false at r h c = c
 
 pub body-reads : (k : ℕ) (s : List ℕ) (at : ℕ) → Reads (bodyR k s at) (bodyAt k s at) (bodyOf k s at) (bodyEnd s (restOf k s at))
-unfolding bodyR propertyThen withProperty bodyAt bodyOf propertiesOf restOf pastSign
+unfolding bodyR propertyThen withProperty bodyAt joinedAt bodyOf propertiesOf restOf pastSign
 body-reads zero s at = fault-reads _ _
 body-reads (suc k) s at =
     let p : ℕ = propertyEnd s at in

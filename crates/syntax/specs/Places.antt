@@ -25,13 +25,17 @@ use Rattle.syntax.specs.declared.Verdict.the-variants.{WellFormed, Fault
 unfoldable pub spacedAt : List ℕ → Parsed → Parsed
 spacedAt s x = after x (whiteAt s)
 
+-- a part, and what follows it behind a comma
+unfoldable pub joinedAt : (ℕ → Parsed) → List ℕ → Parsed → Parsed
+joinedAt rest s x =
+    after x (λ p.
+    let more = after (signAt comma s p) rest in
+    pick (isAt s p comma) more (Next p))
+
 -- one to k parts, joined by commas
 unfoldable pub listAt : (ℕ → Parsed) → List ℕ → ℕ → ℕ → Parsed
 listAt one s zero at = Fault
-listAt one s (suc k) at =
-    after (one at) (λ p.
-    let more = after (signAt comma s p) (listAt one s k) in
-    pick (isAt s p comma) more (Next p))
+listAt one s (suc k) at = joinedAt (listAt one s k) s (one at)
 
 -- a number behind another part
 unfoldable pub numberAfter : Parsed → (ℕ → Number) → Number
@@ -110,10 +114,7 @@ propertyAt s at =
 unfoldable pub bodyAt : ℕ → List ℕ → ℕ → Parsed
 bodyAt zero s at = Fault
 bodyAt (suc k) s at =
-    let properties =
-    after (propertyAt s at) (λ p.
-    let more = after (signAt comma s p) (bodyAt k s) in
-    pick (isAt s p comma) more (Next p)) in
+    let properties = joinedAt (bodyAt k s) s (propertyAt s at) in
     pick (isProperty (wordHere s at)) properties (commandsAt s at)
 
 -- an action through its opening brace

@@ -20,3 +20,4 @@ pub struct Rest {
     pub commands: bool,
     pub at: usize,
 }
+

@@ -1,0 +1,67 @@
+-- Laws of items, in the form in which `search` uses them.
+use Prim.Native.Nat.{ℕ, zero, suc, _+_, _*_, _-_, _<_, _≤_}
+use mathlib.Core.Path.{_≡_, refl, sym, ap, _∙_}
+use mathlib.Core.List.{List}
+use mathlib.Core.Bool.{Bool, true, false}
+use native.Mathlib.Omega.{arith}
+use lib.ListN.{length}
+use Rattle.base.specs.Pick.{pick}
+use Rattle.base.specs.Lists.{isAt}
+use Rattle.megaco.specs.Bytes.{comma, leftBrace, rightBrace, slash}
+use Rattle.megaco.specs.White.{after, whiteAt}
+use Rattle.megaco.specs.Tokens.{signAt}
+use Rattle.megaco.specs.Reading.{unlimited}
+use Rattle.megaco.specs.declared.Parsed.{Parsed}
+use Rattle.megaco.specs.declared.Parsed.the-variants.{Next, Fault}
+use Rattle.syntax.specs.Places.{spacedAt, listAt, secondAt, bracesAt, headAt, itemAt, itemsAt}
+use Rattle.syntax.proofs.Onward.{Onward, white-on, head-on, item-on}
+use Rattle.syntax.proofs.ListLaws.{Goes, goes-more, comma-falls}
+
+pub no-second : (s : List ℕ) (at : ℕ) (x : Bool) (r : Parsed) → x ≡ isAt s at slash → x ≡ false → r ≡ whiteAt s at → r ≡ spacedAt s (secondAt s at)
+unfolding spacedAt secondAt after pick
+no-second s at x r g f h = h ∙ rw (← g, f)
+
+-- ---- one item, where `left` more levels may be opened
+
+-- no level is left
+no-level : (s : List ℕ) (x : Parsed) → Fault ≡ after x (λ p. after (itemsAt zero s p) (signAt rightBrace s))
+unfolding after itemsAt
+no-level s (Next p) = refl
+no-level s Fault = refl
+
+-- the items inside have a level less
+pub items-level : (s : List ℕ) (left at : ℕ) (y : Parsed) → (left ≡ 0 → ⊥) → y ≡ itemsAt (suc (left - 1)) s at → y ≡ itemsAt left s at
+items-level s left at y h e = let z : suc (left - 1) ≡ left = omega arith in rw z at e
+
+module _ (s : List ℕ) (left at p : ℕ) (y : Parsed) (e : y ≡ headAt s at) (n : y ≡ Next p) (x : Bool) (g : x ≡ isAt s p leftBrace) (t : x ≡ true) where
+  pub item-deep : left ≡ 0 → Fault ≡ itemAt (itemsAt left s) s at
+  unfolding itemAt bracesAt pick after
+  item-deep z = rw (z, ← e, n, ← g, t) (no-level s (signAt leftBrace s p))
+
+  -- levels left and bytes left fall
+  pub item-falls : (w : Parsed) (q m : ℕ) → (left ≡ 0 → ⊥) → w ≡ whiteAt s (p + 1) → w ≡ Next q → 2 * (left + (length s - at)) ≡ m → 2 * (left - 1 + (length s - q)) + 1 < m
+  item-falls w q m z l f k =
+      let a : at ≤ p = head-on s at p (sym e ∙ n) in
+      let b : p + 1 ≤ q = white-on s (p + 1) q (sym l ∙ f) in
+      omega arith
+
+-- ---- items joined by commas
+
+module _ (s : List ℕ) (left at : ℕ) where
+  pub items-start : Goes (itemsAt (suc left) s at) (itemAt (itemsAt left s) s) s at
+  unfolding itemsAt unlimited
+  items-start = record { left = length s + 1; enough = omega arith; same = refl }
+
+  -- a list calls the reader of an item at its own place or past it
+  pub items-falls : (i m : ℕ) → at ≤ i → 2 * (left + (length s - at)) + 1 ≡ m → 2 * (left + (length s - i)) < m
+  items-falls i m h k = omega arith
+
+  module _ (i p u : ℕ) (x : Bool) (y w : Parsed) (e : y ≡ itemAt (itemsAt left s) s i) (n : y ≡ Next p) (g : x ≡ isAt s p comma) (t : x ≡ true) (l : w ≡ whiteAt s (p + 1)) (f : w ≡ Next u) where
+    pub items-less : length s - u < length s - i
+    items-less = comma-falls (itemAt (itemsAt left s) s) s i p u x y w (item-on left s) e n g t l f .1
+
+    pub items-past : at ≤ i → at ≤ u
+    items-past h = let d : (i < u) × (length s - u < length s - i) = comma-falls (itemAt (itemsAt left s) s) s i p u x y w (item-on left s) e n g t l f in omega (arith, d .0)
+
+    pub items-more : (q : Parsed) → Goes q (itemAt (itemsAt left s) s) s i → Goes q (itemAt (itemsAt left s) s) s u
+    items-more q inv = goes-more q (itemAt (itemsAt left s) s) s i inv y e p n x g t w l u (item-on left s) f

@@ -1,0 +1,3 @@
+pub mod Onward
+pub mod ListLaws
+pub mod ItemLaws
