@@ -1,7 +1,9 @@
 // Words, numbers, values, names and the message identifier: readers of one token at a place.
 ghost use mathlib.Core.Path.{_≡_};
 ghost use Prim.Native.Nat.{_<_, _≤_};
-ghost use lib.ListN.{length};
+ghost use lib.ListN.{length, getD};
+ghost use Rattle.megaco.specs.Bytes.{isDigit};
+ghost use Rattle.megaco.specs.White.{after};
 ghost use Rattle.megaco.specs.Tokens.{upTo64, wordAt, keywordAt, pathStart, pathNameAt, terminationAt, numberEnd, numberAt, quotedAt, plainAt, valueAt, portAt, octetAt, addressAt, domainAt, mIdAt, isMid};
 use megaco::Class;
 use megaco::Number;
@@ -140,8 +142,9 @@ fn quoted(s: &[u8], at: usize) -> Parsed
     requires { ⌜ at < length (now s) ⌝ }
     ensures { λ r. ⌜ r ≡ quotedAt (now (s .entry)) at ⌝ }
 {
-    let e = text::row(s, at + 1, Class::QuotedByte);
-    let u = up_to_64(at + 1, e);
+    let from = at + 1;
+    let e = text::row(s, from, Class::QuotedByte);
+    let u = up_to_64(from, e);
     let Parsed::Next(p) = u else {
         return Parsed::Fault;
     };
@@ -216,14 +219,25 @@ fn address(s: &[u8], at: usize) -> Parsed
     octet(s, u, 0x5d)
 }
 
+fn digit_at(s: &[u8], at: usize) -> bool
+    ensures { λ r. ⌜ r ≡ isDigit (getD (now (s .entry)) at 0) ⌝ }
+{
+    if at < s.len() {
+        text::is_digit(s[at])
+    } else {
+        false
+    }
+}
+
 // `<`letter or digit, then up to 63 letters, digits, `-`, `.``>`.
 fn domain(s: &[u8], at: usize) -> Parsed
     requires { ⌜ at < length (now s) ⌝ }
     ensures { λ r. ⌜ r ≡ domainAt (now (s .entry)) at ⌝ }
 {
-    if text::letter_at(s, at + 1) | digit_at(s, at + 1) {
-        let e = text::row(s, at + 1, Class::DomainByte);
-        let u = up_to_64(at + 1, e);
+    let from = at + 1;
+    if text::letter_at(s, from) | digit_at(s, from) {
+        let e = text::row(s, from, Class::DomainByte);
+        let u = up_to_64(from, e);
         let Parsed::Next(p) = u else {
             return Parsed::Fault;
         };
@@ -232,20 +246,14 @@ fn domain(s: &[u8], at: usize) -> Parsed
     Parsed::Fault
 }
 
-fn digit_at(s: &[u8], at: usize) -> bool {
-    if at < s.len() {
-        text::is_digit(s[at])
-    } else {
-        false
-    }
-}
-
 // An optional port after what was read.
-fn with_port(s: &[u8], a: Parsed) -> Parsed {
-    match a {
-        Parsed::Next(p) => port(s, p),
-        Parsed::Fault => Parsed::Fault,
-    }
+fn with_port(s: &[u8], a: Parsed) -> Parsed
+    ensures { λ r. ⌜ r ≡ after a (portAt (now (s .entry))) ⌝ }
+{
+    let Parsed::Next(p) = a else {
+        return Parsed::Fault;
+    };
+    port(s, p)
 }
 
 pub fn mid(s: &[u8], at: usize) -> Parsed
