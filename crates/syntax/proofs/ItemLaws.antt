@@ -1,25 +1,21 @@
 -- Laws of items, in the form in which `search` uses them.
 use Prim.Native.Nat.{ℕ, zero, suc, _+_, _*_, _-_, _<_, _≤_}
-use mathlib.Core.Path.{_≡_, refl, sym, ap, _∙_}
+use mathlib.Core.Path.{_≡_, refl, sym, _∙_}
 use mathlib.Core.List.{List}
-use mathlib.Core.Bool.{Bool, true, false}
+use mathlib.Core.Bool.{Bool, true}
 use native.Mathlib.Omega.{arith}
 use lib.ListN.{length}
 use Rattle.base.specs.Pick.{pick}
 use Rattle.base.specs.Lists.{isAt}
-use Rattle.megaco.specs.Bytes.{comma, leftBrace, rightBrace, slash}
+use Rattle.megaco.specs.Bytes.{comma, leftBrace, rightBrace}
 use Rattle.megaco.specs.White.{after, whiteAt}
 use Rattle.megaco.specs.Tokens.{signAt}
 use Rattle.megaco.specs.Reading.{unlimited}
 use Rattle.megaco.specs.declared.Parsed.{Parsed}
 use Rattle.megaco.specs.declared.Parsed.the-variants.{Next, Fault}
-use Rattle.syntax.specs.Places.{spacedAt, listAt, secondAt, bracesAt, headAt, itemAt, itemsAt}
-use Rattle.syntax.proofs.Onward.{Onward, white-on, head-on, item-on}
+use Rattle.syntax.specs.Places.{bracesAt, headAt, itemAt, itemsAt}
+use Rattle.syntax.proofs.Onward.{white-on, head-on, item-on}
 use Rattle.syntax.proofs.ListLaws.{Goes, goes-more, comma-falls}
-
-pub no-second : (s : List ℕ) (at : ℕ) (x : Bool) (r : Parsed) → x ≡ isAt s at slash → x ≡ false → r ≡ whiteAt s at → r ≡ spacedAt s (secondAt s at)
-unfolding spacedAt secondAt after pick
-no-second s at x r g f h = h ∙ rw (← g, f)
 
 -- ---- one item, where `left` more levels may be opened
 

@@ -1,3 +1,4 @@
 pub mod Onward
 pub mod ListLaws
 pub mod ItemLaws
+pub mod CommandLaws

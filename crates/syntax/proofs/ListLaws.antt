@@ -1,6 +1,6 @@
 -- Laws of reading one part after another and of lists joined by commas, in the form in which `search` uses them.
-use Prim.Native.Nat.{ℕ, zero, suc, _+_, _*_, _-_, _<_, _≤_}
-use mathlib.Core.Path.{_≡_, refl, sym, ap, _∙_}
+use Prim.Native.Nat.{ℕ, suc, _+_, _-_, _<_, _≤_}
+use mathlib.Core.Path.{_≡_, sym, _∙_}
 use mathlib.Core.List.{List}
 use mathlib.Core.Bool.{Bool, true, false}
 use native.Mathlib.Omega.{arith}
@@ -8,12 +8,12 @@ use lib.Dec.{lit<}
 use lib.ListN.{length}
 use Rattle.base.specs.Pick.{pick}
 use Rattle.base.specs.Lists.{isAt}
-use Rattle.megaco.specs.Bytes.{comma, leftBrace}
+use Rattle.megaco.specs.Bytes.{comma}
 use Rattle.megaco.specs.White.{after, whiteAt}
 use Rattle.megaco.specs.Tokens.{markAt, signAt}
 use Rattle.megaco.specs.declared.Parsed.{Parsed}
 use Rattle.megaco.specs.declared.Parsed.the-variants.{Next, Fault}
-use Rattle.syntax.specs.Places.{joinedAt, listAt}
+use Rattle.syntax.specs.Places.{spacedAt, joinedAt, listAt}
 use Rattle.text.proofs.TextLaws.{within, reads}
 use Rattle.syntax.proofs.Onward.{Onward, white-on}
 
@@ -22,7 +22,11 @@ pub sign-by : (b : ℕ) (s : List ℕ) (at : ℕ) (x : Bool) (y : Parsed) → x 
 unfolding signAt markAt after pick
 sign-by b s at x y g t h = h ∙ rw (← g, t)
 
-pub ruleset steps = (reads, sign-by)
+-- white space after what a call read
+pub spaced-by : (s : List ℕ) (r x y : Parsed) → r ≡ spacedAt s y → y ≡ x → r ≡ spacedAt s x
+spaced-by s r x y h e = rw (← e) h
+
+pub ruleset steps = (reads, sign-by, spaced-by)
 
 -- ---- a part that was read, and what follows it behind a comma
 

@@ -1,18 +1,18 @@
 -- No reader goes back: what it finds is at or past the place where it began.
-use Prim.Native.Nat.{ℕ, zero, suc, _+_, _*_, _-_, _≤_, _<_}
-use mathlib.Core.Path.{_≡_, refl, sym, ap, _∙_}
-use mathlib.Core.Bool.{Bool, true, false}
+use Prim.Native.Nat.{ℕ, zero, suc, _+_, _-_, _≤_}
+use mathlib.Core.Path.{_≡_, refl}
+use mathlib.Core.Bool.{Bool, false}
 use mathlib.Core.List.{List, [], _∷_}
 use native.Mathlib.Omega.{arith}
 use native.Mathlib.Nat.{le-refl, le-trans, le-add-right}
-use lib.ListN.{length, drop}
+use lib.ListN.{drop}
 use lib.Dec.{ltb, leb}
 use Rattle.base.specs.Pick.{pick}
 use Rattle.base.specs.Lists.{isAt, part}
-use Rattle.megaco.specs.Bytes.{equal, comma, leftBrace, rightBrace, slash, quote, isDigit, inClass}
+use Rattle.megaco.specs.Bytes.{equal, comma, leftBrace, rightBrace, slash, quote, isDigit}
 use Rattle.megaco.specs.White.{after, goesOn, insideAfter, stopAt, whiteFrom, whiteAt}
 use Rattle.megaco.specs.Keywords.{spells}
-use Rattle.megaco.specs.Tokens.{markAt, signAt, rowFrom, rowAt, upTo64, letterAt, wordAt, keywordAt, numberEnd, numberFrom, numberAt, afterNumber, quotedAt, plainAt, valueAt}
+use Rattle.megaco.specs.Tokens.{markAt, signAt, rowAt, upTo64, letterAt, wordAt, keywordAt, numberEnd, numberFrom, numberAt, afterNumber, quotedAt, plainAt, valueAt}
 use Rattle.megaco.specs.Reading.{unlimited, keyAt, wordHere}
 use Rattle.megaco.specs.declared.Parsed.{Parsed}
 use Rattle.megaco.specs.declared.Parsed.the-variants.{Next, Fault}
@@ -22,13 +22,8 @@ use Rattle.megaco.specs.declared.Class.{Class}
 use Rattle.megaco.specs.declared.Class.the-variants.{WordByte, SafeByte, QuotedByte}
 use Rattle.megaco.specs.declared.Token.{Token}
 use Rattle.megaco.specs.declared.Token.the-variants.{PriorityToken, EmergencyToken}
+use Rattle.tokens.proofs.TokenLaws.{pick-ind, row-ahead}
 use Rattle.syntax.specs.Places.{spacedAt, numberAfter, joinedAt, listAt, secondAt, valueItemAt, bracesAt, headAt, itemAt, itemsAt, priorityAt, propertyAt}
-
--- what holds of both choices holds of the choice
-pick-ind : {A : Type 0} (P : A → Type 0) (t : Bool) (a b : A) → P a → P b → P (pick t a b)
-unfolding pick
-pick-ind P true a b p q = p
-pick-ind P false a b p q = q
 
 abbrev pub Onward : ℕ → Parsed → Type 0
 Onward at x = (p : ℕ) → x ≡ Next p → at ≤ p
@@ -53,14 +48,8 @@ earlier a at x h k p e = le-trans h (k p e)
 
 -- ---- leaves
 
-row-from : (k : Class) (l : List ℕ) (n : ℕ) → n ≤ rowFrom k l n
-unfolding rowFrom
-row-from k [] n = le-refl n
-row-from k (b ∷ t) n = pick-ind (λ x. n ≤ x) (inClass k b) _ _ (le-trans (le-add-right n 1) (row-from k t (n + 1))) (le-refl n)
-
-pub row-on : (k : Class) (s : List ℕ) (at : ℕ) → at ≤ rowAt k s at
-unfolding rowAt
-row-on k s at = row-from k (drop at s) at
+row-on : (k : Class) (s : List ℕ) (at : ℕ) → at ≤ rowAt k s at
+row-on k s at = row-ahead k s at (rowAt k s at) refl
 
 white-from : (l : List ℕ) (n : ℕ) (inside : Bool) → Onward n (whiteFrom l n inside)
 unfolding whiteFrom stopAt
