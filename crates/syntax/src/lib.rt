@@ -1,7 +1,8 @@
 // Reading whole messages: the types of what is found, and the readers of items and commands. Actions and messages are read by the crates above.
 ghost use mathlib.Core.Path.{_≡_};
-ghost use Prim.Native.Nat.{suc};
+ghost use Prim.Native.Nat.{suc, min};
 ghost use Rattle.megaco.specs.Reading.{prefixEnd, isProperty};
+ghost use Rattle.syntax.specs.Pieces.{Within};
 ghost use Rattle.syntax.specs.Places.{spacedAt, secondAt, valueItemAt, bracesAt, headAt, itemAt, itemsAt, orderAt, orderStart, commandHeadAt, commandAt, commandsAt};
 use megaco::Parsed;
 use megaco::Token;
@@ -25,6 +26,30 @@ pub enum Braces {
 pub struct Rest {
     pub commands: bool,
     pub at: usize,
+}
+
+// A part of the message, from a place up to another.
+pub struct Piece {
+    pub from: usize,
+    pub to: usize,
+}
+
+fn low(a: usize, b: usize) -> usize
+    ensures { λ r. ⌜ r ≡ min a b ⌝ }
+{
+    if a < b { a } else { b }
+}
+
+// The bytes from a place up to another, brought within the message.
+pub fn piece_of(s: &[u8], a: usize, e: usize) -> Piece
+    ensures { λ r. ⌜ Within (now (s .entry)) a e r ⌝ }
+{
+    let to = low(e, s.len());
+    let from = low(a, to);
+    Piece {
+        from: from,
+        to: to,
+    }
 }
 
 // A part that was read, and the white space after it.
