@@ -46,10 +46,7 @@ pub fn piece_of(s: &[u8], a: usize, e: usize) -> Piece
 {
     let to = low(e, s.len());
     let from = low(a, to);
-    Piece {
-        from: from,
-        to: to,
-    }
+    Piece { from: from, to: to }
 }
 
 // A part that was read, and the white space after it.
