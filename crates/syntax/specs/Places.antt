@@ -9,13 +9,13 @@ use Rattle.base.specs.Lists.{isAt, part}
 use Rattle.megaco.specs.Bytes.{equal, comma, leftBrace, rightBrace, slash, dash, dollar, star}
 use Rattle.megaco.specs.White.{after, whiteAt}
 use Rattle.megaco.specs.Keywords.{spells}
-use Rattle.megaco.specs.Tokens.{markAt, signAt, wordAt, terminationAt, numberAt, afterNumber, valueAt}
+use Rattle.megaco.specs.Tokens.{markAt, signAt, wordAt, keywordAt, terminationAt, numberAt, afterNumber, valueAt}
 use Rattle.megaco.specs.Reading.{unlimited, keyAt, prefixEnd, isProperty, wordHere, startAt, senderAt}
 use Rattle.megaco.specs.declared.Parsed.{Parsed}
 use Rattle.megaco.specs.declared.Parsed.the-variants.{Next, Fault}
 use Rattle.megaco.specs.declared.Number.{Number}
 use Rattle.megaco.specs.declared.Number.the-variants.{Got, Bad}
-use Rattle.megaco.specs.declared.Token.the-variants.{TransToken, CtxToken, PriorityToken, EmergencyToken}
+use Rattle.megaco.specs.declared.Token.the-variants.{MegacopToken, TransToken, CtxToken, PriorityToken, EmergencyToken}
 use Rattle.syntax.specs.declared.Braces.{Braces}
 use Rattle.syntax.specs.declared.Braces.the-variants.{Past, Outside, Within}
 use Rattle.syntax.specs.declared.Verdict.{Verdict}
@@ -170,6 +170,10 @@ transactionsAt (suc k) s at =
     ifNumber (identifierAt s at) (λ id p.
     let braces = afterBraces id (transactionAt s p) (λ e. let more = transactionsAt k s e in pick (ltb e (length s)) more WellFormed) in
     pick (eqb id 0) (Fault403 0) braces)
+
+-- MEGACO or `!`
+abbrev pub protocolAt : List ℕ → ℕ → Parsed
+protocolAt s at = pick (isAt s at 0x21) (Next (at + 1)) (keywordAt MegacopToken s at)
 
 unfoldable pub versionAt : List ℕ → Number
 versionAt s = numberAfter (startAt s) (λ p. numberAt s p 2 99)
