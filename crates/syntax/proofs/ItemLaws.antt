@@ -29,17 +29,16 @@ no-level s Fault = refl
 pub items-level : (s : List ℕ) (left at : ℕ) (y : Parsed) → (left ≡ 0 → ⊥) → y ≡ itemsAt (suc (left - 1)) s at → y ≡ itemsAt left s at
 items-level s left at y h e = let z : suc (left - 1) ≡ left = omega arith in rw z at e
 
-module _ (s : List ℕ) (left at p : ℕ) (y : Parsed) (e : y ≡ headAt s at) (n : y ≡ Next p) (x : Bool) (g : x ≡ isAt s p leftBrace) (t : x ≡ true) where
-  pub item-deep : left ≡ 0 → Fault ≡ itemAt (itemsAt left s) s at
-  unfolding itemAt bracesAt pick after
-  item-deep z = rw (z, ← e, n, ← g, t) (no-level s (signAt leftBrace s p))
+pub braces-deep : (s : List ℕ) (left at : ℕ) (x : Bool) → x ≡ isAt s at leftBrace → x ≡ true → left ≡ 0 → Fault ≡ bracesAt (itemsAt left s) s at
+unfolding bracesAt pick
+braces-deep s left at x g t z = rw (z, ← g, t) (no-level s (signAt leftBrace s at))
 
-  -- levels left and bytes left fall
-  pub item-falls : (w : Parsed) (q m : ℕ) → (left ≡ 0 → ⊥) → w ≡ whiteAt s (p + 1) → w ≡ Next q → 2 * (left + (length s - at)) ≡ m → 2 * (left - 1 + (length s - q)) + 1 < m
-  item-falls w q m z l f k =
-      let a : at ≤ p = head-on s at p (sym e ∙ n) in
-      let b : p + 1 ≤ q = white-on s (p + 1) q (sym l ∙ f) in
-      omega arith
+-- levels left and bytes left fall
+pub item-falls : (s : List ℕ) (left at p m : ℕ) (y : Parsed) → y ≡ headAt s at → y ≡ Next p → 3 * (left + (length s - at)) + 1 ≡ m → 3 * (left + (length s - p)) < m
+item-falls s left at p m y e n k = let a : at ≤ p = head-on s at p (sym e ∙ n) in omega arith
+
+pub braces-falls : (s : List ℕ) (left at q m : ℕ) (w : Parsed) → (left ≡ 0 → ⊥) → w ≡ whiteAt s (at + 1) → w ≡ Next q → 3 * (left + (length s - at)) ≡ m → 3 * (left - 1 + (length s - q)) + 2 < m
+braces-falls s left at q m w z l f k = let b : at + 1 ≤ q = white-on s (at + 1) q (sym l ∙ f) in omega arith
 
 -- ---- items joined by commas
 
@@ -49,7 +48,7 @@ module _ (s : List ℕ) (left at : ℕ) where
   items-start = record { left = length s + 1; enough = omega arith; same = refl }
 
   -- a list calls the reader of an item at its own place or past it
-  pub items-falls : (i m : ℕ) → at ≤ i → 2 * (left + (length s - at)) + 1 ≡ m → 2 * (left + (length s - i)) < m
+  pub items-falls : (i m : ℕ) → at ≤ i → 3 * (left + (length s - at)) + 2 ≡ m → 3 * (left + (length s - i)) + 1 < m
   items-falls i m h k = omega arith
 
   module _ (i p u : ℕ) (x : Bool) (y w : Parsed) (e : y ≡ itemAt (itemsAt left s) s i) (n : y ≡ Next p) (g : x ≡ isAt s p comma) (t : x ≡ true) (l : w ≡ whiteAt s (p + 1)) (f : w ≡ Next u) where

@@ -108,21 +108,7 @@ pub fn item(s: &[u8], left: usize, at: usize) -> Parsed
     let Parsed::Next(p) = h else {
         return Parsed::Fault;
     };
-    if text::is_at(s, p, 0x7b) {
-        if left == 0 {
-            return Parsed::Fault;
-        }
-        let o = text::white(s, p + 1);
-        let Parsed::Next(q) = o else {
-            return Parsed::Fault;
-        };
-        let i = items(s, left - 1, q);
-        let Parsed::Next(e) = i else {
-            return Parsed::Fault;
-        };
-        return text::sign(s, e, 0x7d);
-    }
-    Parsed::Next(p)
+    braced_items(s, left, p)
 }
 
 // Items joined by commas, in each of which `left` more levels may be opened.
@@ -147,16 +133,19 @@ pub fn items(s: &[u8], left: usize, at: usize) -> Parsed
     }
 }
 
-// The items of a command, if it has any.
-pub fn command_items(s: &[u8], at: usize) -> Parsed
-    ensures { λ r. ⌜ r ≡ bracesAt (itemsAt 8 (now (s .entry))) (now (s .entry)) at ⌝ }
+// Items of at most `left` levels in braces, if they stand here.
+pub fn braced_items(s: &[u8], left: usize, at: usize) -> Parsed
+    ensures { λ r. ⌜ r ≡ bracesAt (itemsAt left (now (s .entry))) (now (s .entry)) at ⌝ }
 {
     if text::is_at(s, at, 0x7b) {
+        if left == 0 {
+            return Parsed::Fault;
+        }
         let o = text::white(s, at + 1);
         let Parsed::Next(p) = o else {
             return Parsed::Fault;
         };
-        let i = items(s, 7, p);
+        let i = items(s, left - 1, p);
         let Parsed::Next(q) = i else {
             return Parsed::Fault;
         };
@@ -238,7 +227,7 @@ fn command(s: &[u8], at: usize) -> Parsed
     let Parsed::Next(p) = h else {
         return Parsed::Fault;
     };
-    command_items(s, p)
+    braced_items(s, 8, p)
 }
 
 // One to 64 commands.
