@@ -22,7 +22,7 @@ use Rattle.megaco.specs.declared.Property.{Property}
 use Rattle.megaco.specs.declared.Property.the-variants.{Priority, Emergency}
 use Rattle.megaco.specs.declared.Token.the-variants.{TransToken, CtxToken, PriorityToken, EmergencyToken}
 use Rattle.syntax.specs.Places.{spacedAt, joinedAt, listAt, secondAt, valueItemAt, bracesAt, headAt, itemAt, itemsAt, orderAt, orderStart, commandHeadAt, commandAt, commandsAt, contextAt, propertyAt, bodyAt, openingAt, actionAt, actionsAt, orFault400, ifNumber, numberAfter, priorityAt, braceAt, orOutside, orWithin, transactionAt, afterBraces, identifierAt, versionAt, transactionsAt, verdict}
-use Rattle.syntax.specs.Extraction.{endOf, valueIn, nextIn, pastWhite, pastSign, wordEnd, listOf, listEnd, secondEnd, equalPlace, valueEnd, headEnd, secondOf, valueItemOf, bracesOf, bracesEnd, itemOf, itemEnd, itemsOf, orderEnd, nameStart, nameEnd, commandHeadEnd, commandOf, commandEnd, commandsOf, commandsEnd, contextStart, contextOf, contextEnd, bodyStart, propertyOf, propertyEnd, propertiesOf, rest, restOf, commandsIn, bodyEnd, bodyOf, restIn, actionOf, actionEnd, actionsOf, actionsEnd, actionsStart, transactionOf, transactionEnd, transactionsOf, headerEnd, messageOf}
+use Rattle.syntax.specs.Extraction.{endOf, valueIn, nextIn, pastWhite, pastSign, wordEnd, listOf, listEnd, secondEnd, equalPlace, valueEnd, valueItemEnd, headEnd, secondOf, valueItemOf, bracesOf, bracesEnd, itemOf, itemEnd, itemsOf, orderEnd, nameStart, nameEnd, commandHeadEnd, commandOf, commandEnd, commandsOf, commandsEnd, contextStart, contextOf, contextEnd, bodyStart, propertyOf, propertyEnd, propertiesOf, rest, restOf, commandsIn, bodyEnd, bodyOf, restIn, actionOf, actionEnd, actionsOf, actionsEnd, actionsStart, transactionOf, transactionEnd, transactionsOf, headerEnd, messageOf}
 use Rattle.syntax.specs.declared.Braces.{Braces}
 use Rattle.syntax.specs.declared.Verdict.{Verdict}
 use Rattle.syntax.specs.declared.Verdict.the-variants.{WellFormed, Fault400, Fault403, WrongVersion406}
@@ -151,10 +151,6 @@ pub second-reads : (s : List ℕ) (at : ℕ) → Reads (secondR s at) (secondAt 
 unfolding secondR secondAt secondOf secondEnd
 second-reads s at = pick-reads (isAt s at slash) (map-reads some (word-reads s (at + 1))) (got-reads none at)
 
--- where a value ends, or where none stands
-unfoldable valueItemEnd : List ℕ → ℕ → ℕ
-valueItemEnd s at = pick (isAt s at equal) (pastWhite s (valueEnd s at)) at
-
 value-reads : (s : List ℕ) (at : ℕ) → Reads (valueR s at) (valueItemAt s at) (valueItemOf s at) (valueItemEnd s at)
 unfolding valueR valueItemAt valueItemOf valueItemEnd valueEnd pastSign
 value-reads s at =
@@ -177,7 +173,7 @@ braces-reads inner rd of end s h at =
 pub item-reads : {A : Type 0} (inner : ℕ → Read (List A)) (rd : ℕ → Parsed) (of : ℕ → List A) (end : ℕ → ℕ) (s : List ℕ)
     → ((i : ℕ) → Reads (inner i) (rd i) (of i) (end i)) → (at : ℕ)
     → Reads (itemR inner s at) (itemAt rd s at) (itemOf of s at) (endOf (bracesAt rd s (headEnd s at)))
-unfolding itemR itemAt headAt itemOf headEnd equalPlace valueItemEnd
+unfolding itemR itemAt headAt itemOf headEnd equalPlace
 item-reads inner rd of end s h at =
     let w : ℕ = wordEnd s at in
     let q : ℕ = pastWhite s (secondEnd s w) in

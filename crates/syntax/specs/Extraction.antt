@@ -78,9 +78,13 @@ equalPlace s at = pastWhite s (secondEnd s (wordEnd s at))
 unfoldable pub valueEnd : List ℕ → ℕ → ℕ
 valueEnd s at = endOf (valueAt s (pastSign equal s at))
 
+-- the end of a value that may stand here
+unfoldable pub valueItemEnd : List ℕ → ℕ → ℕ
+valueItemEnd s at = pick (isAt s at equal) (pastWhite s (valueEnd s at)) at
+
 -- the end of an item before its braces
 unfoldable pub headEnd : List ℕ → ℕ → ℕ
-headEnd s at = pick (isAt s (equalPlace s at) equal) (pastWhite s (valueEnd s (equalPlace s at))) (equalPlace s at)
+headEnd s at = valueItemEnd s (equalPlace s at)
 
 unfoldable pub secondOf : List ℕ → ℕ → Option (List ℕ)
 secondOf s at = pick (isAt s at slash) (some (part s (at + 1) (wordEnd s (at + 1)))) none
