@@ -88,14 +88,17 @@ fn put_busy(t: &mut [u32]) {
 fn start(t: &mut [u32], base: u32) {
     if base == 1 {
         put_busy(t);
+        return;
     }
     if base == 2 {
         put_spread(t);
         put_run(t, 624, 752, 17);
+        return;
     }
     if base == 3 {
         put_eights(t, 0);
         put_run(t, 624, 663, 32);
+        return;
     }
     if base == 4 {
         put_eights(t, 248);
@@ -330,19 +333,27 @@ fn matches() {
 
 // ---- attempts
 
-// An attempt's code; where the termination then stands, its property, the record of a context, and whether the table is sound.
-fn attempt_case(name: &[u8], base: u32, op: Op, at: Context, i: usize, c: u32) {
-    let mut t = [0u32; 752];
-    start(&mut t, base);
-    let v = view::look(&t, at, i);
+// An attempt, with mode 3 given and 9 for the record of `$`; its code.
+fn run_attempt(t: &mut [u32], op: Op, at: Context, i: usize) -> u32
+    requires { ⌜ length (now t) ≡ words ⌝ }
+{
+    let v = view::look(t, at, i);
     let code = attempt::judge_attempt(op, at, v);
     if code == 0 {
         let values = Values {
             mode: Given::To(3),
             state: Given::Keep,
         };
-        attempt::change(&mut t, op, at, 9, i, values, v);
+        attempt::change(t, op, at, 9, i, values, v);
     }
+    code
+}
+
+// An attempt's code; where the termination then stands, its property, the record of a context, and whether the table is sound.
+fn attempt_case(name: &[u8], base: u32, op: Op, at: Context, i: usize, c: u32) {
+    let mut t = [0u32; 752];
+    start(&mut t, base);
+    let code = run_attempt(&mut t, op, at, i);
     say(name);
     say_number(b": code ", code as u64);
     say_number(b", in ", table::context_of(&t, i) as u64);
