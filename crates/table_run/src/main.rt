@@ -13,7 +13,7 @@ ghost use Rattle.megaco.specs.Table.{words};
 
 fn main() {
     let mut room = [0u32; 753];
-    let mut input = [0u8; 4096];
+    let mut input = io::buffer();
     let n = io::read_full(STDIN_FILENO, &mut input);
     run(&mut room, &input[..n]);
 }
