@@ -18,11 +18,11 @@ ghost use Rattle.names.specs.Digits.{oneDigit, twoDigits};
 pub fn name_of(n: &[u8]) -> Name
     ensures { λ r. ⌜ r ≡ nameOf (now (n .entry)) ⌝ }
 {
-    if is_text(n, b"ROOT") {
+    if is_word(n, b"ROOT") {
         return Name::Root;
     }
     if has_byte(n, b'$') {
-        if is_text(n, b"$") | is_text(n, b"R/$") {
+        if is_word(n, b"$") | is_word(n, b"R/$") {
             return Name::Chosen;
         }
         return Name::Unchosen;
@@ -51,13 +51,13 @@ pub fn in_range(r: Range, i: usize) -> bool
 fn wildcard_name(n: &[u8]) -> Name
     ensures { λ r. ⌜ r ≡ wildcardName (capitals (now (n .entry))) ⌝ }
 {
-    if is_text(n, b"*") {
+    if is_word(n, b"*") {
         return Name::Wildcard(Range::Everyone);
     }
-    if is_text(n, b"L/*") {
+    if is_word(n, b"L/*") {
         return Name::Wildcard(Range::EveryLine);
     }
-    if is_text(n, b"R/*") {
+    if is_word(n, b"R/*") {
         return Name::Wildcard(Range::EveryEphemeral);
     }
     line_range(n)
@@ -69,7 +69,7 @@ fn line_range(n: &[u8]) -> Name
 {
     let tail = behind_slash(n);
     let l = numeral(before_slash(tail));
-    if is_text(before_slash(n), b"L") & is_text(behind_slash(tail), b"*") & within(l, LINES) {
+    if is_word(before_slash(n), b"L") & is_word(behind_slash(tail), b"*") & within(l, LINES) {
         return Name::Wildcard(Range::ChannelsOf(l));
     }
     Name::Unmatched
@@ -80,10 +80,10 @@ fn plain_name(n: &[u8]) -> Name
     ensures { λ r. ⌜ r ≡ plainName (capitals (now (n .entry))) ⌝ }
 {
     let tail = behind_slash(n);
-    if is_text(before_slash(n), b"L") {
+    if is_word(before_slash(n), b"L") {
         return line_name(numeral(before_slash(tail)), numeral(behind_slash(tail)));
     }
-    if is_text(before_slash(n), b"R") {
+    if is_word(before_slash(n), b"R") {
         return ephemeral_name(numeral(tail));
     }
     Name::Unknown
@@ -94,7 +94,7 @@ fn line_name(l: u32, s: u32) -> Name
     ensures { λ r. ⌜ r ≡ lineName l s ⌝ }
 {
     if within(l, LINES) & within(s, CHANNELS as u32) {
-        return Name::Termination(CHANNELS * one_less(l) + one_less(s));
+        return Name::Termination(CHANNELS * less(l, 1) as usize + less(s, 1) as usize);
     }
     Name::Unknown
 }
@@ -104,7 +104,7 @@ fn ephemeral_name(n: u32) -> Name
     ensures { λ r. ⌜ r ≡ ephemeralName n ⌝ }
 {
     if within(n, EPHEMERALS) {
-        return Name::Termination(LINE_TERMINATIONS + one_less(n));
+        return Name::Termination(LINE_TERMINATIONS + less(n, 1) as usize);
     }
     Name::Unknown
 }
@@ -128,7 +128,7 @@ fn one_digit(a: u8) -> u32
     ensures { λ r. ⌜ r ≡ oneDigit a ⌝ }
 {
     if is_digit(a) {
-        return digit(a);
+        return less(a as u32, 48);
     }
     0
 }
@@ -137,15 +137,9 @@ fn two_digits(a: u8, b: u8) -> u32
     ensures { λ r. ⌜ r ≡ twoDigits a b ⌝ }
 {
     if is_digit(a) & is_digit(b) & (a != 48) {
-        return 10 * digit(a) + digit(b);
+        return 10 * less(a as u32, 48) + less(b as u32, 48);
     }
     0
-}
-
-fn digit(b: u8) -> u32
-    ensures { λ r. ⌜ r ≡ b - 48 ⌝ }
-{
-    if b < 48 { 0 } else { b as u32 - 48 }
 }
 
 fn is_digit(b: u8) -> bool
@@ -160,10 +154,11 @@ fn within(x: u32, most: u32) -> bool
     (0 < x) & (x <= most)
 }
 
-fn one_less(x: u32) -> usize
-    ensures { λ r. ⌜ r ≡ x - 1 ⌝ }
+// A difference; 0 where there is none.
+fn less(x: u32, y: u32) -> u32
+    ensures { λ r. ⌜ r ≡ x - y ⌝ }
 {
-    if x == 0 { 0 } else { x as usize - 1 }
+    if x < y { 0 } else { x - y }
 }
 
 // ---- bytes
@@ -213,7 +208,7 @@ fn has_byte(n: &[u8], b: u8) -> bool
 }
 
 // Whether a name in capital letters is this text.
-fn is_text(n: &[u8], text: &[u8]) -> bool
+fn is_word(n: &[u8], text: &[u8]) -> bool
     ensures { λ r. ⌜ r ≡ same (capitals (now (n .entry))) (now (text .entry)) ⌝ }
 {
     if n.len() != text.len() {
@@ -221,7 +216,7 @@ fn is_text(n: &[u8], text: &[u8]) -> bool
     }
     let mut i: usize = 0;
     while i < n.len() {
-        if is_byte(n[i], text[i]) {
+        if same_letter(n[i], text[i]) {
             i += 1;
         } else {
             return false;
@@ -231,7 +226,7 @@ fn is_text(n: &[u8], text: &[u8]) -> bool
 }
 
 // Whether a byte's capital is this byte.
-fn is_byte(x: u8, b: u8) -> bool
+fn same_letter(x: u8, b: u8) -> bool
     ensures { λ r. ⌜ r ≡ eqb (capital x) b ⌝ }
 {
     capital(x) == b

@@ -10,5 +10,6 @@ ephemeral-name-spec =
     (λ c κs. search needs)
     (λ c κs. search needs)
     (λ c. search needs)
+    (λ c. search needs)
     (λ c. search ephemeral-yes)
     (λ c. search ephemeral-no))

@@ -5,8 +5,8 @@ use lib.ListN.{length, drop}
 use Rattle.base.specs.Lists.{same}
 use Rattle.megaco.specs.Bytes.{capitals}
 use Rattle.names.proofs.NameLaws.{uneven, same-on, same-no, same-end}
-use Rattle.names.proofs.is_text.Statement.{statement}
-use Rattle.names.proofs.is_text.Tie as tie
+use Rattle.names.proofs.is_word.Statement.{statement}
+use Rattle.names.proofs.is_word.Tie as tie
 
 abbrev Inv-loop : tie.InvT-loop
 Inv-loop n text i₀ i = same (capitals n) text ≡ same (capitals (drop i n)) (drop i text)
@@ -14,8 +14,8 @@ Inv-loop n text i₀ i = same (capitals n) text ≡ same (capitals (drop i n)) (
 abbrev μ-loop : tie.MeasureT-loop
 μ-loop n text i₀ i = length n - i
 
-pub is-text-spec : {M : Type 1} → statement M
-is-text-spec =
+pub is-word-spec : {M : Type 1} → statement M
+is-word-spec =
     tie.close
     (tie.spec
     Inv-loop
