@@ -9,6 +9,7 @@ ghost use Rattle.megaco.specs.White.{goesOn, insideAfter, stopAt, whiteAt, sepA
 ghost use Rattle.megaco.specs.Keywords.{forms, spelt, spells};
 ghost use Rattle.megaco.specs.Tokens.{markAt, signAt, letterAt, rowAt};
 ghost use Rattle.text.specs.Classes.{lowOf, highOf, OfMaps};
+ghost use Rattle.text.specs.Short.{shortForm};
 use megaco::Class;
 use megaco::Parsed;
 use megaco::Token;
@@ -256,11 +257,22 @@ fn is_word(w: &[u8], form: &[u8]) -> bool
     true
 }
 
-// The long or the short form.
-fn is_either(w: &[u8], long: &[u8], short: &[u8]) -> bool
-    ensures { λ r. ⌜ r ≡ spelt (forms (now (long .entry)) (now (short .entry))) (capitals (now (w .entry))) ⌝ }
+// A short form: two letters, or one where the second is 0.
+fn is_short(w: &[u8], x: u8, y: u8) -> bool
+    ensures { λ r. ⌜ r ≡ same (capitals (now (w .entry))) (shortForm x y) ⌝ }
 {
-    is_word(w, long) | is_word(w, short)
+    let form = [x, y];
+    if y == 0 {
+        return is_word(w, &form[..1]);
+    }
+    is_word(w, &form)
+}
+
+// The long or the short form.
+fn is_either(w: &[u8], long: &[u8], x: u8, y: u8) -> bool
+    ensures { λ r. ⌜ r ≡ spelt (forms (now (long .entry)) (shortForm x y)) (capitals (now (w .entry))) ⌝ }
+{
+    is_word(w, long) | is_short(w, x, y)
 }
 
 // Whether a word is the keyword, in either form and any letter case.
@@ -268,27 +280,27 @@ pub fn spells(k: Token, w: &[u8]) -> bool
     ensures { λ r. ⌜ r ≡ spells k (now (w .entry)) ⌝ }
 {
     match k {
-        Token::MegacopToken => is_either(w, b"MEGACO", b"!"),
-        Token::TransToken => is_either(w, b"TRANSACTION", b"T"),
-        Token::CtxToken => is_either(w, b"CONTEXT", b"C"),
-        Token::AddToken => is_either(w, b"ADD", b"A"),
-        Token::ModifyToken => is_either(w, b"MODIFY", b"MF"),
-        Token::SubtractToken => is_either(w, b"SUBTRACT", b"S"),
-        Token::MoveToken => is_either(w, b"MOVE", b"MV"),
-        Token::MediaToken => is_either(w, b"MEDIA", b"M"),
-        Token::LocalControlToken => is_either(w, b"LOCALCONTROL", b"O"),
-        Token::TerminationStateToken => is_either(w, b"TERMINATIONSTATE", b"TS"),
-        Token::ModeToken => is_either(w, b"MODE", b"MO"),
-        Token::ServiceStatesToken => is_either(w, b"SERVICESTATES", b"SI"),
-        Token::PriorityToken => is_either(w, b"PRIORITY", b"PR"),
-        Token::EmergencyToken => is_either(w, b"EMERGENCY", b"EG"),
-        Token::InactiveToken => is_either(w, b"INACTIVE", b"IN"),
-        Token::SendonlyToken => is_either(w, b"SENDONLY", b"SO"),
-        Token::RecvonlyToken => is_either(w, b"RECEIVEONLY", b"RC"),
-        Token::SendrecvToken => is_either(w, b"SENDRECEIVE", b"SR"),
-        Token::LoopbackToken => is_either(w, b"LOOPBACK", b"LB"),
-        Token::InSvcToken => is_either(w, b"INSERVICE", b"IV"),
-        Token::OutOfSvcToken => is_either(w, b"OUTOFSERVICE", b"OS"),
-        Token::TestToken => is_either(w, b"TEST", b"TE"),
+        Token::MegacopToken => is_either(w, b"MEGACO", b'!', 0),
+        Token::TransToken => is_either(w, b"TRANSACTION", b'T', 0),
+        Token::CtxToken => is_either(w, b"CONTEXT", b'C', 0),
+        Token::AddToken => is_either(w, b"ADD", b'A', 0),
+        Token::ModifyToken => is_either(w, b"MODIFY", b'M', b'F'),
+        Token::SubtractToken => is_either(w, b"SUBTRACT", b'S', 0),
+        Token::MoveToken => is_either(w, b"MOVE", b'M', b'V'),
+        Token::MediaToken => is_either(w, b"MEDIA", b'M', 0),
+        Token::LocalControlToken => is_either(w, b"LOCALCONTROL", b'O', 0),
+        Token::TerminationStateToken => is_either(w, b"TERMINATIONSTATE", b'T', b'S'),
+        Token::ModeToken => is_either(w, b"MODE", b'M', b'O'),
+        Token::ServiceStatesToken => is_either(w, b"SERVICESTATES", b'S', b'I'),
+        Token::PriorityToken => is_either(w, b"PRIORITY", b'P', b'R'),
+        Token::EmergencyToken => is_either(w, b"EMERGENCY", b'E', b'G'),
+        Token::InactiveToken => is_either(w, b"INACTIVE", b'I', b'N'),
+        Token::SendonlyToken => is_either(w, b"SENDONLY", b'S', b'O'),
+        Token::RecvonlyToken => is_either(w, b"RECEIVEONLY", b'R', b'C'),
+        Token::SendrecvToken => is_either(w, b"SENDRECEIVE", b'S', b'R'),
+        Token::LoopbackToken => is_either(w, b"LOOPBACK", b'L', b'B'),
+        Token::InSvcToken => is_either(w, b"INSERVICE", b'I', b'V'),
+        Token::OutOfSvcToken => is_either(w, b"OUTOFSERVICE", b'O', b'S'),
+        Token::TestToken => is_either(w, b"TEST", b'T', b'E'),
     }
 }

@@ -9,4 +9,4 @@ is-either-spec =
     (tie.spec
     (λ c κs. search needs)
     (λ c κs. search needs)
-    (λ c. unfold spelt in rw (c .before .is-word .ensures, c .is-word2 .ensures)))
+    (λ c. unfold spelt in rw (c .before .is-word .ensures, c .is-short .ensures)))
