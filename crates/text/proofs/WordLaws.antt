@@ -8,9 +8,7 @@ use native.Mathlib.Omega.{arith}
 use lib.ListN.{length, getD, drop, drop-of-length-le}
 use lib.Seq.{drop-cons}
 use lib.Dec.{eqb}
-use borrow.Author.Tests.{eq-eqb, ne-eqb}
 use Rattle.base.specs.Pick.{pick}
-use Rattle.text.specs.Short.{shortForm}
 use Rattle.base.specs.Lists.{same}
 use Rattle.megaco.specs.declared.Token.{Token}
 use Rattle.megaco.specs.Bytes.{capital, capitals}
@@ -47,12 +45,3 @@ word-end w f i q inv long h = let m : length f ≤ i = omega arith in sym (inv �
 pub spells-by : (k j : Token) (w : List ℕ) (r : Bool) → k ≡ j → r ≡ spelt (formsOf j) (capitals w) → r ≡ spells k w
 unfolding spells
 spells-by k j w r e h = rw e h
-
-module _ (w : List ℕ) (x y : ℕ) (r : Bool) where
-  pub short-one : y ≡ 0 → r ≡ same (capitals w) (x ∷ []) → r ≡ same (capitals w) (shortForm x y)
-  unfolding shortForm pick
-  short-one e h = rw (eq-eqb y 0 e) h
-
-  pub short-two : (y ≡ 0 → ⊥) → r ≡ same (capitals w) (x ∷ y ∷ []) → r ≡ same (capitals w) (shortForm x y)
-  unfolding shortForm pick
-  short-two n h = rw (ne-eqb y 0 n) h

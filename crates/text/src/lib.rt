@@ -1,18 +1,19 @@
-// Leaf readers: bytes and their classes, white space, rows of bytes, given bytes, keywords.
+// Leaf readers: bytes and their classes, white space, rows of bytes, given bytes. Keywords are in keywords.rt.
 ghost use mathlib.Core.Path.{_≡_};
 ghost use Prim.Native.Nat.{_<_};
-ghost use lib.Dec.{eqb, ltb};
+ghost use lib.Dec.{ltb};
 ghost use Rattle.base.specs.Pick.{pick};
-ghost use Rattle.base.specs.Lists.{isAt, same};
-ghost use Rattle.megaco.specs.Bytes.{isLetter, isDigit, isWhite, isLineEnd, isComment, inClass, capital, capitals};
+ghost use Rattle.base.specs.Lists.{isAt};
+ghost use Rattle.megaco.specs.Bytes.{isLetter, isDigit, isWhite, isLineEnd, isComment, inClass, capital};
 ghost use Rattle.megaco.specs.White.{goesOn, insideAfter, stopAt, whiteAt, sepAt};
-ghost use Rattle.megaco.specs.Keywords.{forms, spelt, spells};
 ghost use Rattle.megaco.specs.Tokens.{markAt, signAt, letterAt, rowAt};
 ghost use Rattle.text.specs.Classes.{lowOf, highOf, OfMaps};
-ghost use Rattle.text.specs.Short.{shortForm};
+
+mod keywords;
+
+pub use keywords::spells;
 use megaco::Class;
 use megaco::Parsed;
-use megaco::Token;
 
 // ---- bytes
 
@@ -229,78 +230,4 @@ pub fn sign(s: &[u8], at: usize, b: u8) -> Parsed
         return Parsed::Fault;
     };
     white(s, p)
-}
-
-// ---- keywords
-
-fn same_letter(x: u8, y: u8) -> bool
-    ensures { λ r. ⌜ r ≡ eqb (capital x) y ⌝ }
-{
-    capital(x) == y
-}
-
-// Whether a word, in any letter case, is this one.
-fn is_word(w: &[u8], form: &[u8]) -> bool
-    ensures { λ r. ⌜ r ≡ same (capitals (now (w .entry))) (now (form .entry)) ⌝ }
-{
-    if w.len() != form.len() {
-        return false;
-    }
-    let mut i = 0;
-    while i < w.len() {
-        if same_letter(w[i], form[i]) {
-            i += 1;
-        } else {
-            return false;
-        }
-    }
-    true
-}
-
-// A short form: two letters, or one where the second is 0.
-fn is_short(w: &[u8], x: u8, y: u8) -> bool
-    ensures { λ r. ⌜ r ≡ same (capitals (now (w .entry))) (shortForm x y) ⌝ }
-{
-    let form = [x, y];
-    if y == 0 {
-        return is_word(w, &form[..1]);
-    }
-    is_word(w, &form)
-}
-
-// The long or the short form.
-fn is_either(w: &[u8], long: &[u8], x: u8, y: u8) -> bool
-    ensures { λ r. ⌜ r ≡ spelt (forms (now (long .entry)) (shortForm x y)) (capitals (now (w .entry))) ⌝ }
-{
-    is_word(w, long) | is_short(w, x, y)
-}
-
-// Whether a word is the keyword, in either form and any letter case.
-pub fn spells(k: Token, w: &[u8]) -> bool
-    ensures { λ r. ⌜ r ≡ spells k (now (w .entry)) ⌝ }
-{
-    match k {
-        Token::MegacopToken => is_either(w, b"MEGACO", b'!', 0),
-        Token::TransToken => is_either(w, b"TRANSACTION", b'T', 0),
-        Token::CtxToken => is_either(w, b"CONTEXT", b'C', 0),
-        Token::AddToken => is_either(w, b"ADD", b'A', 0),
-        Token::ModifyToken => is_either(w, b"MODIFY", b'M', b'F'),
-        Token::SubtractToken => is_either(w, b"SUBTRACT", b'S', 0),
-        Token::MoveToken => is_either(w, b"MOVE", b'M', b'V'),
-        Token::MediaToken => is_either(w, b"MEDIA", b'M', 0),
-        Token::LocalControlToken => is_either(w, b"LOCALCONTROL", b'O', 0),
-        Token::TerminationStateToken => is_either(w, b"TERMINATIONSTATE", b'T', b'S'),
-        Token::ModeToken => is_either(w, b"MODE", b'M', b'O'),
-        Token::ServiceStatesToken => is_either(w, b"SERVICESTATES", b'S', b'I'),
-        Token::PriorityToken => is_either(w, b"PRIORITY", b'P', b'R'),
-        Token::EmergencyToken => is_either(w, b"EMERGENCY", b'E', b'G'),
-        Token::InactiveToken => is_either(w, b"INACTIVE", b'I', b'N'),
-        Token::SendonlyToken => is_either(w, b"SENDONLY", b'S', b'O'),
-        Token::RecvonlyToken => is_either(w, b"RECEIVEONLY", b'R', b'C'),
-        Token::SendrecvToken => is_either(w, b"SENDRECEIVE", b'S', b'R'),
-        Token::LoopbackToken => is_either(w, b"LOOPBACK", b'L', b'B'),
-        Token::InSvcToken => is_either(w, b"INSERVICE", b'I', b'V'),
-        Token::OutOfSvcToken => is_either(w, b"OUTOFSERVICE", b'O', b'S'),
-        Token::TestToken => is_either(w, b"TEST", b'T', b'E'),
-    }
 }
