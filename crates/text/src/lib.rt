@@ -1,13 +1,11 @@
 // Leaf readers: bytes and their classes, white space, rows of bytes, given bytes. Keywords are in keywords.rt.
 ghost use mathlib.Core.Path.{_≡_};
 ghost use Prim.Native.Nat.{_<_};
-ghost use lib.Dec.{ltb};
-ghost use Rattle.base.specs.Pick.{pick};
 ghost use Rattle.base.specs.Lists.{isAt};
 ghost use Rattle.megaco.specs.Bytes.{isLetter, isDigit, isWhite, isLineEnd, isComment, inClass, capital};
 ghost use Rattle.megaco.specs.White.{goesOn, insideAfter, stopAt, whiteAt, sepAt};
 ghost use Rattle.megaco.specs.Tokens.{markAt, signAt, letterAt, rowAt};
-ghost use Rattle.text.specs.Classes.{lowOf, highOf, OfMaps};
+ghost use Rattle.text.specs.Classes.{lowOf, highOf, halfOf, OfMaps};
 
 mod keywords;
 
@@ -83,17 +81,24 @@ fn high_of(k: Class) -> u64
     }
 }
 
+// The map that has the byte's bit.
 fn half(b: u8, low: u64, high: u64) -> u64
-    ensures { λ r. ⌜ r ≡ pick (ltb b 64) low high ⌝ }
+    ensures { λ r. ⌜ r ≡ halfOf b low high ⌝ }
 {
-    if b < 64 { low } else { high }
+    if b < 64 {
+        return low;
+    }
+    if b < 128 {
+        return high;
+    }
+    0
 }
 
 // Whether a byte is in the class that has these maps.
 fn in_maps(b: u8, low: u64, high: u64) -> bool
     ensures { λ r. ⌜ OfMaps b low high r ⌝ }
 {
-    (b < 128) & ((half(b, low, high) >> (b % 64)) & 1 == 1)
+    (half(b, low, high) >> (b % 64)) % 2 == 1
 }
 
 pub fn in_class(k: Class, b: u8) -> bool
