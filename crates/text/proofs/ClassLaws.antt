@@ -4,13 +4,12 @@ use mathlib.Core.Path.{_≡_, refl, sym, _∙_}
 use mathlib.Core.Bool.{Bool, true, false, not, _&&_}
 use native.Mathlib.Omega.{arith}
 use borrow.Author.Tests.{eqb-true, eqb-false}
-use lib.Bits.{bitAnd}
-use lib.Dec.{eqb, ltb}
+use lib.Dec.{eqb}
 use Rattle.base.specs.Pick.{pick}
 use Rattle.megaco.specs.Bytes.{isLetter, isDigit, isWord, isName, isSafe, isRest, isQuoted, isDomain, inClass}
 use Rattle.megaco.specs.declared.Class.{Class}
 use Rattle.megaco.specs.declared.Class.the-variants.{WordByte, NameByte, SafeByte, QuotedByte, DomainByte}
-use Rattle.text.specs.Classes.{lowOf, highOf, OfMaps}
+use Rattle.text.specs.Classes.{lowOf, highOf, halfOf, OfMaps}
 
 agree : Bool → Bool → Bool
 agree true b = b
@@ -47,19 +46,19 @@ below-at f (suc n) t b h = by (eqb b n) refl (below-at f n (right (f n) (below f
 
 -- the byte's bit in a class's maps, as the code finds it
 unfoldable bitIn : ℕ → ℕ → Bool
-bitIn b half = ltb b 128 && eqb (bitAnd (half / 2 ^ (b % 64)) 1) 1
+bitIn b half = eqb (half / 2 ^ (b % 64) % 2) 1
 
 unfoldable right-at : Class → ℕ → Bool
-right-at k b = agree (bitIn b (pick (ltb b 64) (lowOf k) (highOf k))) (inClass k b)
+right-at k b = agree (bitIn b (halfOf b (lowOf k) (highOf k))) (inClass k b)
 
 maps-right : (k : Class) → below (right-at k) 256 ≡ true
-unfolding below right-at bitIn agree pick inClass isWord isName isSafe isQuoted isDomain isLetter isDigit isRest
+unfolding below right-at bitIn agree halfOf pick inClass isWord isName isSafe isQuoted isDomain isLetter isDigit isRest
 maps-right WordByte = refl
 maps-right NameByte = refl
 maps-right SafeByte = refl
 maps-right QuotedByte = refl
 maps-right DomainByte = refl
 
-pub of-maps : (b low high half : ℕ) → b < 256 → half ≡ pick (ltb b 64) low high → OfMaps b low high (ltb b 128 && eqb (bitAnd (half / 2 ^ (b % 64)) 1) 1)
+pub of-maps : (b low high half : ℕ) → b < 256 → half ≡ halfOf b low high → OfMaps b low high (eqb (half / 2 ^ (b % 64) % 2) 1)
 unfolding right-at bitIn
 of-maps b low high half n e = record { is = λ k l h. rw (e, l, h) (agree-is _ _ (below-at (right-at k) 256 (maps-right k) b n)) }

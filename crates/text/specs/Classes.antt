@@ -3,6 +3,8 @@
 use Prim.Native.Nat.{ℕ}
 use mathlib.Core.Path.{_≡_}
 use mathlib.Core.Bool.{Bool}
+use lib.Dec.{ltb}
+use Rattle.base.specs.Pick.{pick}
 use Rattle.megaco.specs.Bytes.{inClass}
 use Rattle.megaco.specs.declared.Class.{Class}
 use Rattle.megaco.specs.declared.Class.the-variants.{WordByte, NameByte, SafeByte, QuotedByte, DomainByte}
@@ -20,6 +22,10 @@ highOf NameByte = 0x07ff_fffe_87ff_fffe
 highOf SafeByte = 0x57ff_ffff_d7ff_ffff
 highOf QuotedByte = 0x7fff_ffff_ffff_ffff
 highOf DomainByte = 0x07ff_fffe_07ff_fffe
+
+-- the map that has the byte's bit
+unfoldable pub halfOf : ℕ → ℕ → ℕ → ℕ
+halfOf b low high = pick (ltb b 64) low (pick (ltb b 128) high 0)
 
 -- whether the byte is in the class that has these maps
 pub record OfMaps (b low high : ℕ) (r : Bool) : Type 0 where

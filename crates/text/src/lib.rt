@@ -1,17 +1,17 @@
-// Leaf readers: bytes and their classes, white space, rows of bytes, given bytes, keywords.
+// Leaf readers: bytes and their classes, white space, rows of bytes, given bytes. Keywords are in keywords.rt.
 ghost use mathlib.Core.Path.{_≡_};
 ghost use Prim.Native.Nat.{_<_};
-ghost use lib.Dec.{eqb, ltb};
-ghost use Rattle.base.specs.Pick.{pick};
-ghost use Rattle.base.specs.Lists.{isAt, same};
-ghost use Rattle.megaco.specs.Bytes.{isLetter, isDigit, isWhite, isLineEnd, isComment, inClass, capital, capitals};
+ghost use Rattle.base.specs.Lists.{isAt};
+ghost use Rattle.megaco.specs.Bytes.{isLetter, isDigit, isWhite, isLineEnd, isComment, inClass, capital};
 ghost use Rattle.megaco.specs.White.{goesOn, insideAfter, stopAt, whiteAt, sepAt};
-ghost use Rattle.megaco.specs.Keywords.{forms, spelt, spells};
 ghost use Rattle.megaco.specs.Tokens.{markAt, signAt, letterAt, rowAt};
-ghost use Rattle.text.specs.Classes.{lowOf, highOf, OfMaps};
+ghost use Rattle.text.specs.Classes.{lowOf, highOf, halfOf, OfMaps};
+
+mod keywords;
+
+pub use keywords::spells;
 use megaco::Class;
 use megaco::Parsed;
-use megaco::Token;
 
 // ---- bytes
 
@@ -81,17 +81,24 @@ fn high_of(k: Class) -> u64
     }
 }
 
+// The map that has the byte's bit.
 fn half(b: u8, low: u64, high: u64) -> u64
-    ensures { λ r. ⌜ r ≡ pick (ltb b 64) low high ⌝ }
+    ensures { λ r. ⌜ r ≡ halfOf b low high ⌝ }
 {
-    if b < 64 { low } else { high }
+    if b < 64 {
+        return low;
+    }
+    if b < 128 {
+        return high;
+    }
+    0
 }
 
 // Whether a byte is in the class that has these maps.
 fn in_maps(b: u8, low: u64, high: u64) -> bool
     ensures { λ r. ⌜ OfMaps b low high r ⌝ }
 {
-    (b < 128) & ((half(b, low, high) >> (b % 64)) & 1 == 1)
+    (half(b, low, high) >> (b % 64)) % 2 == 1
 }
 
 pub fn in_class(k: Class, b: u8) -> bool
@@ -228,67 +235,4 @@ pub fn sign(s: &[u8], at: usize, b: u8) -> Parsed
         return Parsed::Fault;
     };
     white(s, p)
-}
-
-// ---- keywords
-
-fn same_letter(x: u8, y: u8) -> bool
-    ensures { λ r. ⌜ r ≡ eqb (capital x) y ⌝ }
-{
-    capital(x) == y
-}
-
-// Whether a word, in any letter case, is this one.
-fn is_word(w: &[u8], form: &[u8]) -> bool
-    ensures { λ r. ⌜ r ≡ same (capitals (now (w .entry))) (now (form .entry)) ⌝ }
-{
-    if w.len() != form.len() {
-        return false;
-    }
-    let mut i = 0;
-    while i < w.len() {
-        if same_letter(w[i], form[i]) {
-            i += 1;
-        } else {
-            return false;
-        }
-    }
-    true
-}
-
-// The long or the short form.
-fn is_either(w: &[u8], long: &[u8], short: &[u8]) -> bool
-    ensures { λ r. ⌜ r ≡ spelt (forms (now (long .entry)) (now (short .entry))) (capitals (now (w .entry))) ⌝ }
-{
-    is_word(w, long) | is_word(w, short)
-}
-
-// Whether a word is the keyword, in either form and any letter case.
-pub fn spells(k: Token, w: &[u8]) -> bool
-    ensures { λ r. ⌜ r ≡ spells k (now (w .entry)) ⌝ }
-{
-    match k {
-        Token::MegacopToken => is_either(w, b"MEGACO", b"!"),
-        Token::TransToken => is_either(w, b"TRANSACTION", b"T"),
-        Token::CtxToken => is_either(w, b"CONTEXT", b"C"),
-        Token::AddToken => is_either(w, b"ADD", b"A"),
-        Token::ModifyToken => is_either(w, b"MODIFY", b"MF"),
-        Token::SubtractToken => is_either(w, b"SUBTRACT", b"S"),
-        Token::MoveToken => is_either(w, b"MOVE", b"MV"),
-        Token::MediaToken => is_either(w, b"MEDIA", b"M"),
-        Token::LocalControlToken => is_either(w, b"LOCALCONTROL", b"O"),
-        Token::TerminationStateToken => is_either(w, b"TERMINATIONSTATE", b"TS"),
-        Token::ModeToken => is_either(w, b"MODE", b"MO"),
-        Token::ServiceStatesToken => is_either(w, b"SERVICESTATES", b"SI"),
-        Token::PriorityToken => is_either(w, b"PRIORITY", b"PR"),
-        Token::EmergencyToken => is_either(w, b"EMERGENCY", b"EG"),
-        Token::InactiveToken => is_either(w, b"INACTIVE", b"IN"),
-        Token::SendonlyToken => is_either(w, b"SENDONLY", b"SO"),
-        Token::RecvonlyToken => is_either(w, b"RECEIVEONLY", b"RC"),
-        Token::SendrecvToken => is_either(w, b"SENDRECEIVE", b"SR"),
-        Token::LoopbackToken => is_either(w, b"LOOPBACK", b"LB"),
-        Token::InSvcToken => is_either(w, b"INSERVICE", b"IV"),
-        Token::OutOfSvcToken => is_either(w, b"OUTOFSERVICE", b"OS"),
-        Token::TestToken => is_either(w, b"TEST", b"TE"),
-    }
 }
