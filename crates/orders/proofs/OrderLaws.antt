@@ -1,0 +1,89 @@
+-- What the tests of a command come to.
+use Prim.Native.Nat.{ℕ, _<_, _≤_}
+use mathlib.Core.Path.{_≡_, refl, sym, ap, _∙_, subst}
+use mathlib.Core.List.{List, [], _∷_}
+use mathlib.Core.Option.{Option, none, some}
+use mathlib.Core.Bool.{Bool, true, false, _&&_, _||_}
+use lib.ListN.{length}
+use lib.Dec.{ltb, leb}
+use Rattle.base.specs.Pick.{pick}
+use Rattle.base.specs.Out.{Appended}
+use Rattle.megaco.specs.Table.{known, rec, cell, get, contexts}
+use Rattle.megaco.specs.Names.{nameOf}
+use Rattle.megaco.specs.Items.{judgeItems, given?}
+use Rattle.megaco.specs.Tree.{Items, Command, command}
+use Rattle.megaco.specs.Reply.{tried, failed, reportsText}
+use Rattle.megaco.specs.Running.{Outcome, outcome, seen, numberOf, opOf, lost, barred, isSubtract, missed, actionError, aim, aimed, named, tested, unlessOptional, ordered, runCommand}
+use Rattle.megaco.specs.Keywords.{spells}
+use Rattle.megaco.specs.declared.Token.the-variants.{AddToken, ModifyToken, SubtractToken, MoveToken}
+use Rattle.megaco.specs.declared.Context.{Context}
+use Rattle.megaco.specs.declared.Op.{Op}
+use Rattle.megaco.specs.declared.Op.the-variants.{Add, Modify, Subtract, Move}
+use Rattle.megaco.specs.declared.Judged.{Judged}
+use Rattle.megaco.specs.declared.Judged.the-variants.{Wrong, Right}
+use Rattle.megaco.specs.declared.Values.{Values}
+use Rattle.megaco.specs.declared.Name.{Name}
+use Rattle.attempt.specs.Judging.{Fair}
+use Rattle.aims.specs.Targets.{targetOf, aimOf}
+use Rattle.aims.proofs.AimLaws.{target-is}
+use Rattle.aims.specs.declared.Target.{Target}
+use Rattle.tries.specs.Contract.{Did}
+use Rattle.tries.specs.declared.Went.{Went}
+use Rattle.tries.proofs.DidLaws.{went}
+use Rattle.orders.specs.Orders.{foundOf, heldAt, FairJudged}
+use Rattle.orders.specs.declared.Found.{Found}
+use Rattle.orders.specs.declared.Found.the-variants.{Built, Unbuilt}
+
+-- ---- words
+
+pub op-wild : (wild : Bool) (w : List ℕ) → wild ≡ true → foundOf Unbuilt ≡ opOf wild w
+unfolding opOf foundOf
+op-wild wild w e = rw e
+
+pub op-plain : (wild : Bool) (w : List ℕ) (x : Option Op) → wild ≡ false
+    → x ≡ pick (spells AddToken w) (some Add) (pick (spells ModifyToken w) (some Modify) (pick (spells SubtractToken w) (some Subtract) (pick (spells MoveToken w) (some Move) none)))
+    → x ≡ opOf wild w
+unfolding opOf
+op-plain wild w x e q = rw e q
+
+-- ---- the record of the action's context
+
+module _ (t : List ℕ) (n : ℕ) where
+  seen-known : (ltb 0 n && leb n contexts) ≡ true → get t (cell (rec n)) ≡ seen n t .held
+  unfolding seen known pick
+  seen-known h = rw h
+
+  seen-none : (ltb 0 n && leb n contexts) ≡ false → 0 ≡ seen n t .held
+  unfolding seen known pick
+  seen-none h = rw h
+
+module _ (at : Context) (t : List ℕ) (n : ℕ) (e : n ≡ numberOf at) where
+  pub held-known : (r : ℕ) → (ltb 0 n && leb n contexts) ≡ true → r ≡ get t (cell (rec n)) → r ≡ heldAt at t
+  unfolding heldAt
+  held-known r h q = q ∙ seen-known t n h ∙ ap (λ (m : ℕ). seen m t .held) e
+
+  pub held-none : (ltb 0 n && leb n contexts) ≡ false → 0 ≡ heldAt at t
+  unfolding heldAt
+  held-none h = seen-none t n h ∙ ap (λ (m : ℕ). seen m t .held) e
+
+-- ---- a command's tests
+
+module _ (op : Op) (name : List ℕ) (items : Bool) (given : ℕ) (at : Context) (first : Bool) (t o : List ℕ) (p : ℕ) (t′ o′ : List ℕ) where
+  pub named-aims : (vs : Values) (n : Name) (x : Target) (w : Went) → n ≡ nameOf name → x ≡ targetOf op at items n t
+      → Did (aimed op name given vs (aimOf x op at t) at t) first o p t′ o′ w → Did (named op name given items (Right vs) at t) first o p t′ o′ w
+  unfolding named
+  named-aims vs n x w e f d =
+      subst (λ (a : Rattle.megaco.specs.Running.Aim). Did (aimed op name given vs a at t) first o p t′ o′ w)
+      (ap (λ (y : Target). aimOf y op at t) f ∙ target-is op at t items n ∙ ap (λ (m : Name). aim op at items m t) e) d
+
+  pub judged-wrong : (j : Judged) (code n : ℕ) → j ≡ Wrong code → Appended o p (reportsText first (tried op name code ∷ [])) o′ n
+      → Did (named op name given items j at t) first o p t o′ (went n at false)
+  unfolding named missed
+  judged-wrong j code n e a = rw e (record { table = refl; text = a; place = refl; going = refl })
+
+  pub judged-right : (j : Judged) (vs : Values) (w : Went) → j ≡ Right vs → Did (named op name given items (Right vs) at t) first o p t′ o′ w
+      → Did (named op name given items j at t) first o p t′ o′ w
+  judged-right j vs w e d = rw e d
+
+pub fair-right : (j : Judged) (vs : Values) → j ≡ Right vs → FairJudged j → Fair vs
+fair-right j vs e f = rw e at f

@@ -1,0 +1,134 @@
+// What a command's word, its context, its items and its name come to.
+ghost use mathlib.Core.Path.{_≡_};
+ghost use lib.ListN.{length};
+ghost use Rattle.megaco.specs.Table.{words};
+ghost use Rattle.megaco.specs.Running.{opOf, lost, barred, named};
+ghost use Rattle.megaco.specs.declared.Judged.the-variants.{Right};
+ghost use Rattle.attempt.specs.Judging.{Fair};
+ghost use Rattle.tries.specs.Contract.{Did};
+ghost use Rattle.orders.specs.Orders.{foundOf, heldAt, FairJudged};
+use megaco::Context;
+use megaco::Judged;
+use megaco::Op;
+use megaco::Token;
+use megaco::Values;
+use tries::Went;
+
+// What a command's word and its `W-` tell: one of the commands that are built, or another.
+pub enum Found {
+    Built(Op),
+    Unbuilt,
+}
+
+// The command of a word.
+pub fn op_of(wild: bool, word: &[u8]) -> Found
+    ensures { λ r. ⌜ foundOf r ≡ opOf wild (now (word .entry)) ⌝ }
+{
+    if wild {
+        return Found::Unbuilt;
+    }
+    if text::spells(Token::AddToken, word) {
+        return Found::Built(Op::Add);
+    }
+    if text::spells(Token::ModifyToken, word) {
+        return Found::Built(Op::Modify);
+    }
+    if text::spells(Token::SubtractToken, word) {
+        return Found::Built(Op::Subtract);
+    }
+    if text::spells(Token::MoveToken, word) {
+        return Found::Built(Op::Move);
+    }
+    Found::Unbuilt
+}
+
+// 411.
+pub fn is_lost(op: Op, at: Context, held: u32) -> bool
+    ensures { λ r. ⌜ r ≡ lost op at held ⌝ }
+{
+    match at {
+        Context::Null => false,
+        Context::Numbered(_) => held == 0,
+        Context::Choose => aims::is_modify(op) | aims::is_subtract(op),
+        Context::All => true,
+    }
+}
+
+// 421.
+pub fn is_barred(op: Op, at: Context) -> bool
+    ensures { λ r. ⌜ r ≡ barred op at ⌝ }
+{
+    aims::is_null(at) & !aims::is_modify(op)
+}
+
+// The record of the action's context, 0 if it does not exist.
+pub fn held_at(table: &[u32], at: Context) -> u32
+    ensures { λ r. ⌜ r ≡ heldAt at (now (table .entry)) ⌝ }
+{
+    let c = view::number_of(at);
+    if (0 < c) & (c <= table::CONTEXTS) {
+        return table::record_of(table, c);
+    }
+    0
+}
+
+// Tests 4 to 6.
+fn run_named(
+    op: Op,
+    name: &[u8],
+    items: bool,
+    given: u32,
+    values: Values,
+    at: Context,
+    first: bool,
+    table: &mut [u32],
+    out: &mut [u8],
+    p: usize,
+) -> Went
+    requires { ⌜ (length (now table) ≡ words) × Fair values ⌝ }
+    ensures { λ r. ⌜ Did (named op (now (name .entry)) given items (Right values) at (now (table .entry))) first (now (out .entry)) p (now (table .exit)) (now (out .exit)) r ⌝ }
+{
+    let n = names::name_of(name);
+    let x = aims::target_of(op, at, items, n, table);
+    tries::run_target(op, name, given, values, x, at, first, table, out, p)
+}
+
+// Test 4 after test 3.
+pub fn run_judged(
+    op: Op,
+    name: &[u8],
+    items: bool,
+    given: u32,
+    judged: Judged,
+    at: Context,
+    first: bool,
+    table: &mut [u32],
+    out: &mut [u8],
+    p: usize,
+) -> Went
+    requires { ⌜ (length (now table) ≡ words) × FairJudged judged ⌝ }
+    ensures { λ r. ⌜ Did (named op (now (name .entry)) given items judged at (now (table .entry))) first (now (out .entry)) p (now (table .exit)) (now (out .exit)) r ⌝ }
+{
+    match judged {
+        Judged::Wrong(code) => {
+            let n = tries::put_received(out, p, first, op, name, code);
+            Went {
+                next: n,
+                at: at,
+                going: false,
+            }
+        }
+        Judged::Right(values) => run_named(
+            op,
+            name,
+            items,
+            given,
+            values,
+            at,
+            first,
+            table,
+            out,
+            p,
+        ),
+    }
+}
