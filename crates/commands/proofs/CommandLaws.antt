@@ -1,0 +1,79 @@
+-- A command's tests in order.
+use Prim.Native.Nat.{ℕ}
+use mathlib.Core.Path.{_≡_, refl, sym, ap, _∙_, subst}
+use mathlib.Core.List.{List, [], _∷_}
+use mathlib.Core.Option.{Option, none, some}
+use mathlib.Core.Bool.{Bool, true, false, _||_}
+use Rattle.base.specs.Pick.{pick}
+use Rattle.base.specs.Lists.{part}
+use Rattle.base.specs.Out.{Appended}
+use Rattle.megaco.specs.Items.{judgeItems, given?}
+use Rattle.megaco.specs.Tree.{Items, Command, command}
+use Rattle.megaco.specs.Reply.{tried, reportsText}
+use Rattle.megaco.specs.Running.{Outcome, outcome, seen, numberOf, opOf, lost, barred, isSubtract, missed, actionError, named, tested, unlessOptional, ordered, runCommand}
+use Rattle.megaco.specs.declared.Context.{Context}
+use Rattle.megaco.specs.declared.Op.{Op}
+use Rattle.megaco.specs.declared.Judged.{Judged}
+use Rattle.syntax.specs.Extraction.{commandOf}
+use Rattle.syntax.specs.Pieces.{Within}
+use Rattle.parts.specs.Places.{itemsFrom, commandFrom, OfCommand}
+use Rattle.parts.proofs.PlaceLaws.{command-is}
+use Rattle.parts.specs.declared.CommandPlaces.{CommandPlaces}
+use Rattle.tries.specs.Contract.{Did}
+use Rattle.tries.specs.declared.Went.{Went}
+use Rattle.tries.proofs.DidLaws.{went}
+use Rattle.orders.specs.Orders.{foundOf, heldAt, FairJudged}
+use Rattle.orders.specs.declared.Found.{Found}
+use Rattle.orders.specs.declared.Found.the-variants.{Built, Unbuilt}
+use Rattle.commands.specs.Fails.{optionally, Failed}
+
+-- whether items stand in braces
+items-given : (s : List ℕ) (r : CommandPlaces) → given? (itemsFrom s r) ≡ r .braces
+unfolding itemsFrom
+items-given s r = by (r .braces)
+  where
+    by : (b : Bool) → given? (pick {A = Items} b (some (Rattle.syntax.specs.Extraction.itemsOf 8 s (r .inside))) none) ≡ b
+    by true = unfold pick given? in refl
+    by false = unfold pick given? in refl
+
+module _ (s : List ℕ) (r : CommandPlaces) (op : Op) (name : List ℕ) (given : ℕ) (at : Context) (first : Bool) (t o : List ℕ) (p : ℕ) (t′ o′ : List ℕ) where
+  pub tested-lost : (held n : ℕ) (x : Bool) → held ≡ heldAt at t → x ≡ lost op at held → x ≡ true → Appended o p (reportsText first (tried op name 411 ∷ [])) o′ n
+      → Did (tested op name (itemsFrom s r) given at t) first o p t o′ (went n at false)
+  unfolding tested heldAt missed pick
+  tested-lost held n x e f g a =
+      let h : lost op at (seen (numberOf at) t .held) ≡ true = ap (lost op at) (sym e) ∙ sym f ∙ g in
+      rw h (record { table = refl; text = a; place = refl; going = refl })
+
+  pub tested-on : (held : ℕ) (x b : Bool) (j : Judged) (w : Went) → held ≡ heldAt at t → x ≡ lost op at held → x ≡ false → b ≡ isSubtract op → j ≡ judgeItems b (itemsFrom s r)
+      → Did (named op name given (r .braces) j at t) first o p t′ o′ w → Did (tested op name (itemsFrom s r) given at t) first o p t′ o′ w
+  unfolding tested heldAt pick
+  tested-on held x b j w e f g h k d =
+      let z : lost op at (seen (numberOf at) t .held) ≡ false = ap (lost op at) (sym e) ∙ sym f ∙ g in
+      rw z (rw (items-given s r, ← h, ← k) d)
+
+  pub built-barred : (o? x : Bool) (w : Went) → x ≡ barred op at → x ≡ true → Failed 421 at first o p o′ w
+      → Did (ordered o? (some op) name (itemsFrom s r) given at t) first o p t o′ w
+  unfolding ordered actionError pick
+  built-barred o? x w e f a = rw (sym e ∙ f) (record { table = refl; text = a .text; place = a .place; going = a .going })
+
+  pub built-on : (o? x : Bool) (w v : Went) → x ≡ barred op at → x ≡ false → Did (tested op name (itemsFrom s r) given at t) first o p t′ o′ w → v ≡ optionally o? w
+      → Did (ordered o? (some op) name (itemsFrom s r) given at t) first o p t′ o′ v
+  unfolding ordered unlessOptional optionally pick
+  built-on o? x w v e f d q = rw (sym e ∙ f, q) (record { table = d .table; text = d .text; place = d .place; going = ap (λ (g : Bool). g || o?) (d .going) })
+
+  pub found-built : (f : Found) (x : Option Op) (w : Went) → foundOf f ≡ x → f ≡ Built op → Did (ordered (r .optional) (some op) name (itemsFrom s r) given at t) first o p t′ o′ w
+      → Did (ordered (r .optional) x name (itemsFrom s r) given at t) first o p t′ o′ w
+  unfolding foundOf
+  found-built f x w e g d = rw (sym e ∙ ap foundOf g) d
+
+pub found-unbuilt : (s : List ℕ) (r : CommandPlaces) (name : List ℕ) (given : ℕ) (at : Context) (first : Bool) (t o : List ℕ) (p : ℕ) (o′ : List ℕ) (f : Found) (x : Option Op) (w : Went)
+    → foundOf f ≡ x → f ≡ Unbuilt → Failed 443 at first o p o′ w → Did (ordered (r .optional) x name (itemsFrom s r) given at t) first o p t o′ w
+unfolding foundOf ordered actionError
+found-unbuilt s r name given at first t o p o′ f x w e g a = rw (sym e ∙ ap foundOf g) (record { table = refl; text = a .text; place = a .place; going = a .going })
+
+pub command-runs : (s : List ℕ) (i : ℕ) (r : CommandPlaces) (word name : List ℕ) (given : ℕ) (at : Context) (first : Bool) (t o : List ℕ) (p : ℕ) (t′ o′ : List ℕ) (w : Went)
+    → OfCommand s i r → word ≡ part s (r .word .from) (r .word .to) → name ≡ part s (r .name .from) (r .name .to)
+    → Did (ordered (r .optional) (opOf (r .wild) word) name (itemsFrom s r) given at t) first o p t′ o′ w
+    → Did (runCommand (commandOf s i) given at t) first o p t′ o′ w
+unfolding runCommand commandFrom
+command-runs s i r word name given at first t o p t′ o′ w f e g d = rw (command-is s i r f, ← e, ← g) d
