@@ -22,7 +22,7 @@ use Rattle.megaco.specs.declared.Property.{Property}
 use Rattle.megaco.specs.declared.Property.the-variants.{Priority, Emergency}
 use Rattle.megaco.specs.declared.Token.the-variants.{TransToken, CtxToken, PriorityToken, EmergencyToken}
 use Rattle.syntax.specs.Places.{spacedAt, joinedAt, listAt, secondAt, valueItemAt, bracesAt, headAt, itemAt, itemsAt, orderAt, orderStart, commandHeadAt, commandAt, commandsAt, contextAt, propertyAt, bodyAt, openingAt, actionAt, actionsAt, orFault400, ifNumber, numberAfter, priorityAt, braceAt, orOutside, orWithin, transactionAt, afterBraces, identifierAt, versionAt, transactionsAt, verdict}
-use Rattle.syntax.specs.Extraction.{endOf, valueIn, nextIn, pastWhite, pastSign, wordEnd, listOf, listEnd, secondEnd, equalPlace, valueEnd, valueItemEnd, headEnd, secondOf, valueItemOf, bracesOf, bracesEnd, itemOf, itemEnd, itemsOf, orderEnd, nameStart, nameEnd, commandHeadEnd, commandOf, commandEnd, commandsOf, commandsEnd, contextStart, contextOf, contextEnd, bodyStart, propertyOf, propertyEnd, propertiesOf, rest, restOf, commandsIn, bodyEnd, bodyOf, restIn, actionOf, actionEnd, actionsOf, actionsEnd, actionsStart, transactionOf, transactionEnd, transactionsOf, headerEnd, messageOf}
+use Rattle.syntax.specs.Extraction.{endOf, valueIn, nextIn, pastWhite, pastSign, wordEnd, listOf, listEnd, secondEnd, equalPlace, valueEnd, valueItemEnd, headEnd, secondOf, valueItemOf, bracesOf, bracesEnd, itemOf, itemEnd, itemsOf, orderEnd, nameStart, nameEnd, commandHeadEnd, commandOf, commandEnd, commandsOf, commandsEnd, contextStart, contextOf, contextEnd, bodyStart, propertyOf, propertyEnd, propertiesOf, rest, restOf, commandsIn, bodyEnd, bodyOf, restIn, actionOf, actionEnd, actionsOf, actionsEnd, actionsStart, transactionOf, closingEnd, transactionEnd, transactionsOf, headerEnd, messageOf}
 use Rattle.syntax.specs.declared.Braces.{Braces}
 use Rattle.syntax.specs.declared.Verdict.{Verdict}
 use Rattle.syntax.specs.declared.Verdict.the-variants.{WellFormed, Fault400, Fault403, WrongVersion406}
@@ -351,7 +351,7 @@ module _ (xs : List Transaction) where
   last-told false x v h = refl
 
 pub transactions-told : (k : ℕ) (s : List ℕ) (at : ℕ) → transactionsR k s at ≡ told (transactionsAt k s at) (transactionsOf k s at)
-unfolding transactionsR transactionsAt transactionsOf transactionOf transactionEnd transactionAt bracesThen braceAt endOr identifierAt actionsStart pastWhite afterBraces told
+unfolding transactionsR transactionsAt transactionsOf transactionOf transactionEnd closingEnd transactionAt bracesThen braceAt endOr identifierAt actionsStart pastWhite afterBraces told
 transactions-told zero s at = refl
 transactions-told (suc k) s at =
     let i : Number = identifierAt s at in

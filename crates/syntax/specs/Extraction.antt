@@ -216,8 +216,12 @@ actionsStart s at = pastWhite s (endOf (braceAt s (nextIn (identifierAt s at))))
 unfoldable pub transactionOf : List ℕ → ℕ → Transaction
 transactionOf s at = transaction (valueIn (identifierAt s at)) (actionsOf s (actionsStart s at))
 
+-- behind the closing brace of a transaction whose actions end here
+unfoldable pub closingEnd : List ℕ → ℕ → ℕ
+closingEnd s at = pastWhite s (endOf (markAt rightBrace s at))
+
 unfoldable pub transactionEnd : List ℕ → ℕ → ℕ
-transactionEnd s at = pastWhite s (endOf (markAt rightBrace s (actionsEnd s (actionsStart s at))))
+transactionEnd s at = closingEnd s (actionsEnd s (actionsStart s at))
 
 unfoldable pub transactionsOf : ℕ → List ℕ → ℕ → List Transaction
 transactionsOf zero s at = []

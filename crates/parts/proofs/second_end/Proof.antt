@@ -1,3 +1,4 @@
+use Rattle.text.proofs.TextLaws.{reads}
 use Rattle.syntax.specs.Extraction.{secondEnd, wordEnd}
 use borrow.Author.Needs.{needs}
 use Rattle.parts.proofs.second_end.Statement.{statement}
@@ -8,7 +9,7 @@ second-end-spec =
     tie.close
     (tie.spec
     (λ c κs. search needs)
-    (λ c. search laws)
+    (λ c. search reads)
     (λ c κs. search needs)
-    (λ c. unfold secondEnd wordEnd in search laws)
-    (λ c. unfold secondEnd wordEnd in search laws))
+    (λ c. unfold secondEnd wordEnd in search reads)
+    (λ c. unfold secondEnd wordEnd in search reads))
