@@ -20,7 +20,7 @@ use Rattle.megaco.specs.declared.Class.{Class}
 use Rattle.megaco.specs.Bytes.{isLetter, inClass}
 use Rattle.megaco.specs.White.{after, goesOn, insideAfter, stopAt, whiteFrom, whiteAt}
 use Rattle.megaco.specs.Tokens.{letterAt, rowFrom, rowAt}
-use Rattle.text.specs.Classes.{bitOf, OfBit}
+use Rattle.text.specs.Classes.{lowOf, highOf, OfMaps}
 
 -- ---- single bytes
 
@@ -64,25 +64,26 @@ pub ruleset reads = (lit<, next-fits, picks, after-next, after-fault)
 
 -- ---- rows: the definition from the start is the definition from here
 
-pub record RowHere (bit : ℕ) (s : List ℕ) (at i : ℕ) : Type 0 where
-  pub is : (k : Class) → bit ≡ bitOf k → rowAt k s at ≡ rowFrom k (drop i s) i
+pub record RowHere (low high : ℕ) (s : List ℕ) (at i : ℕ) : Type 0 where
+  pub is : (k : Class) → low ≡ lowOf k → high ≡ highOf k → rowAt k s at ≡ rowFrom k (drop i s) i
 
-pub row-starts : (bit : ℕ) (s : List ℕ) (at : ℕ) → RowHere bit s at at
+pub row-starts : (low high : ℕ) (s : List ℕ) (at : ℕ) → RowHere low high s at at
 unfolding rowAt
-row-starts bit s at = record { is = λ k b. refl }
+row-starts low high s at = record { is = λ k l h. refl }
 
-module _ (bit : ℕ) (s : List ℕ) (at i : ℕ) (inv : RowHere bit s at i) where
-  pub row-on : (x : Bool) → i < length s → OfBit (getD s i 0) bit x → x ≡ true → RowHere bit s at (i + 1)
+module _ (low high : ℕ) (s : List ℕ) (at i : ℕ) (inv : RowHere low high s at i) where
+  pub row-on : (x : Bool) → i < length s → OfMaps (getD s i 0) low high x → x ≡ true → RowHere low high s at (i + 1)
   unfolding rowFrom pick
-  row-on x h g t = record { is = λ k b. inv .is k b ∙ rw (drop-cons s i 0, ← g .class k b, t, add-one) }
+  row-on x n g t = record { is = λ k l h. inv .is k l h ∙ rw (drop-cons s i 0, ← g .is k l h, t, add-one) }
 
-  pub row-stop : (x : Bool) (k : Class) → i < length s → OfBit (getD s i 0) bit x → bit ≡ bitOf k → x ≡ false → i ≡ rowAt k s at
-  unfolding rowFrom pick
-  row-stop x k h g b t = sym (inv .is k b ∙ rw (drop-cons s i 0, ← g .class k b, t))
+  module _ (k : Class) (l : low ≡ lowOf k) (h : high ≡ highOf k) where
+    pub row-stop : (x : Bool) → i < length s → OfMaps (getD s i 0) low high x → x ≡ false → i ≡ rowAt k s at
+    unfolding rowFrom pick
+    row-stop x n g t = sym (inv .is k l h ∙ rw (drop-cons s i 0, ← g .is k l h, t))
 
-  pub row-end : (k : Class) → length s ≤ i → bit ≡ bitOf k → i ≡ rowAt k s at
-  unfolding rowFrom
-  row-end k h b = sym (inv .is k b ∙ rw (drop-of-length-le s h))
+    pub row-end : length s ≤ i → i ≡ rowAt k s at
+    unfolding rowFrom
+    row-end n = sym (inv .is k l h ∙ rw (drop-of-length-le s n))
 
 -- ---- white space, likewise
 

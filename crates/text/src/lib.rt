@@ -1,16 +1,17 @@
-// Leaf readers: bytes and their classes, white space, rows of bytes, given bytes, keywords.
+// Leaf readers: bytes and their classes, white space, rows of bytes, given bytes. Keywords are in keywords.rt.
 ghost use mathlib.Core.Path.{_≡_};
 ghost use Prim.Native.Nat.{_<_};
-ghost use lib.Dec.{eqb};
-ghost use Rattle.base.specs.Lists.{isAt, same};
-ghost use Rattle.megaco.specs.Bytes.{isLetter, isDigit, isLineEnd, inClass, capital, capitals};
+ghost use Rattle.base.specs.Lists.{isAt};
+ghost use Rattle.megaco.specs.Bytes.{isLetter, isDigit, isWhite, isLineEnd, isComment, inClass, capital};
 ghost use Rattle.megaco.specs.White.{goesOn, insideAfter, stopAt, whiteAt, sepAt};
-ghost use Rattle.megaco.specs.Keywords.{forms, spelt, spells};
 ghost use Rattle.megaco.specs.Tokens.{markAt, signAt, letterAt, rowAt};
-ghost use Rattle.text.specs.Classes.{OfBit, bitOf, whiteBit};
+ghost use Rattle.text.specs.Classes.{lowOf, highOf, halfOf, OfMaps};
+
+mod keywords;
+
+pub use keywords::spells;
 use megaco::Class;
 use megaco::Parsed;
-use megaco::Token;
 
 // ---- bytes
 
@@ -55,300 +56,66 @@ pub fn capital(b: u8) -> u8
 
 // ---- classes of bytes
 
-// What each byte may stand in: 1 a word, 2 a name, 4 a plain value, 8 a quoted value, 16 a domain name, 32 white space, 64 a comment
-// with its line end.
-const CLASSES: [u8; 256] = [
-    0,
-    0,
-    0,
-    0,
-    0,
-    0,
-    0,
-    0,
-    0,
-    104,
-    96,
-    0,
-    0,
-    96,
-    0,
-    0,
-    0,
-    0,
-    0,
-    0,
-    0,
-    0,
-    0,
-    0,
-    0,
-    0,
-    0,
-    0,
-    0,
-    0,
-    0,
-    0,
-    104,
-    76,
-    64,
-    72,
-    78,
-    76,
-    76,
-    76,
-    76,
-    76,
-    78,
-    76,
-    72,
-    92,
-    92,
-    78,
-    95,
-    95,
-    95,
-    95,
-    95,
-    95,
-    95,
-    95,
-    95,
-    95,
-    72,
-    104,
-    72,
-    72,
-    72,
-    76,
-    76,
-    95,
-    95,
-    95,
-    95,
-    95,
-    95,
-    95,
-    95,
-    95,
-    95,
-    95,
-    95,
-    95,
-    95,
-    95,
-    95,
-    95,
-    95,
-    95,
-    95,
-    95,
-    95,
-    95,
-    95,
-    95,
-    95,
-    72,
-    76,
-    72,
-    76,
-    79,
-    76,
-    95,
-    95,
-    95,
-    95,
-    95,
-    95,
-    95,
-    95,
-    95,
-    95,
-    95,
-    95,
-    95,
-    95,
-    95,
-    95,
-    95,
-    95,
-    95,
-    95,
-    95,
-    95,
-    95,
-    95,
-    95,
-    95,
-    72,
-    76,
-    72,
-    76,
-    0,
-    0,
-    0,
-    0,
-    0,
-    0,
-    0,
-    0,
-    0,
-    0,
-    0,
-    0,
-    0,
-    0,
-    0,
-    0,
-    0,
-    0,
-    0,
-    0,
-    0,
-    0,
-    0,
-    0,
-    0,
-    0,
-    0,
-    0,
-    0,
-    0,
-    0,
-    0,
-    0,
-    0,
-    0,
-    0,
-    0,
-    0,
-    0,
-    0,
-    0,
-    0,
-    0,
-    0,
-    0,
-    0,
-    0,
-    0,
-    0,
-    0,
-    0,
-    0,
-    0,
-    0,
-    0,
-    0,
-    0,
-    0,
-    0,
-    0,
-    0,
-    0,
-    0,
-    0,
-    0,
-    0,
-    0,
-    0,
-    0,
-    0,
-    0,
-    0,
-    0,
-    0,
-    0,
-    0,
-    0,
-    0,
-    0,
-    0,
-    0,
-    0,
-    0,
-    0,
-    0,
-    0,
-    0,
-    0,
-    0,
-    0,
-    0,
-    0,
-    0,
-    0,
-    0,
-    0,
-    0,
-    0,
-    0,
-    0,
-    0,
-    0,
-    0,
-    0,
-    0,
-    0,
-    0,
-    0,
-    0,
-    0,
-    0,
-    0,
-    0,
-    0,
-    0,
-    0,
-    0,
-    0,
-    0,
-    0,
-    0,
-    0,
-    0,
-    0,
-    0,
-    0,
-    0,
-    0,
-    0,
-];
-
-// Whether a byte's entry has a bit.
-fn has_bit(b: u8, bit: u8) -> bool
-    ensures { λ r. ⌜ OfBit b bit r ⌝ }
-{
-    CLASSES[b as usize] & bit != 0
-}
-
-fn bit_of(k: Class) -> u8
-    ensures { λ r. ⌜ r ≡ bitOf k ⌝ }
+// A class as two maps: bit n of the low one for byte n, of the high one for byte 64 + n.
+fn low_of(k: Class) -> u64
+    ensures { λ r. ⌜ r ≡ lowOf k ⌝ }
 {
     match k {
-        Class::WordByte => 1,
-        Class::NameByte => 2,
-        Class::SafeByte => 4,
-        Class::QuotedByte => 8,
-        Class::DomainByte => 16,
+        Class::WordByte => 0x03ff_0000_0000_0000,
+        Class::NameByte => 0x03ff_8410_0000_0000,
+        Class::SafeByte => 0x83ff_eff2_0000_0000,
+        Class::QuotedByte => 0xffff_fffb_0000_0200,
+        Class::DomainByte => 0x03ff_6000_0000_0000,
     }
+}
+
+fn high_of(k: Class) -> u64
+    ensures { λ r. ⌜ r ≡ highOf k ⌝ }
+{
+    match k {
+        Class::WordByte => 0x07ff_fffe_87ff_fffe,
+        Class::NameByte => 0x07ff_fffe_87ff_fffe,
+        Class::SafeByte => 0x57ff_ffff_d7ff_ffff,
+        Class::QuotedByte => 0x7fff_ffff_ffff_ffff,
+        Class::DomainByte => 0x07ff_fffe_07ff_fffe,
+    }
+}
+
+// The map that has the byte's bit.
+fn half(b: u8, low: u64, high: u64) -> u64
+    ensures { λ r. ⌜ r ≡ halfOf b low high ⌝ }
+{
+    if b < 64 {
+        return low;
+    }
+    if b < 128 {
+        return high;
+    }
+    0
+}
+
+// Whether a byte is in the class that has these maps.
+fn in_maps(b: u8, low: u64, high: u64) -> bool
+    ensures { λ r. ⌜ OfMaps b low high r ⌝ }
+{
+    (half(b, low, high) >> (b % 64)) % 2 == 1
 }
 
 pub fn in_class(k: Class, b: u8) -> bool
     ensures { λ r. ⌜ r ≡ inClass k b ⌝ }
 {
-    has_bit(b, bit_of(k))
+    in_maps(b, low_of(k), high_of(k))
 }
 
 // The end of the bytes of a class that stand here.
 pub fn row(s: &[u8], at: usize, k: Class) -> usize
     ensures { λ r. ⌜ r ≡ rowAt k (now (s .entry)) at ⌝ }
 {
-    let bit = bit_of(k);
+    let low = low_of(k);
+    let high = high_of(k);
     let mut i = at;
     while i < s.len() {
-        if has_bit(s[i], bit) {
+        if in_maps(s[i], low, high) {
             i += 1;
         } else {
             return i;
@@ -359,24 +126,36 @@ pub fn row(s: &[u8], at: usize, k: Class) -> usize
 
 // ---- white space
 
-// The bit of the bytes that white space goes on with, inside a comment or outside one.
-fn white_bit(inside: bool) -> u8
-    ensures { λ r. ⌜ r ≡ whiteBit inside ⌝ }
+fn is_white(b: u8) -> bool
+    ensures { λ r. ⌜ r ≡ isWhite b ⌝ }
 {
-    if inside { 64 } else { 32 }
+    (b == 0x20) | (b == 0x09) | (b == 0x0d) | (b == 0x0a)
 }
 
+fn is_line_end(b: u8) -> bool
+    ensures { λ r. ⌜ r ≡ isLineEnd b ⌝ }
+{
+    (b == 0x0d) | (b == 0x0a)
+}
+
+fn is_comment(b: u8) -> bool
+    ensures { λ r. ⌜ r ≡ isComment b ⌝ }
+{
+    (b == 0x09) | (0x20 <= b) & (b <= 0x7e)
+}
+
+// A byte that white space goes on with, inside a comment or outside one.
 fn goes_on(inside: bool, b: u8) -> bool
     ensures { λ r. ⌜ r ≡ goesOn inside b ⌝ }
 {
-    has_bit(b, white_bit(inside))
+    inside & (is_comment(b) | is_line_end(b)) | !inside & (is_white(b) | (b == 0x3b))
 }
 
 // A comment begins with `;` and ends with its line end.
 fn inside_after(inside: bool, b: u8) -> bool
     ensures { λ r. ⌜ r ≡ insideAfter inside b ⌝ }
 {
-    inside & !((b == 0x0d) | (b == 0x0a)) | !inside & (b == 0x3b)
+    inside & !is_line_end(b) | !inside & (b == 0x3b)
 }
 
 fn stop_at(inside: bool, i: usize) -> Parsed
@@ -456,67 +235,4 @@ pub fn sign(s: &[u8], at: usize, b: u8) -> Parsed
         return Parsed::Fault;
     };
     white(s, p)
-}
-
-// ---- keywords
-
-fn same_letter(x: u8, y: u8) -> bool
-    ensures { λ r. ⌜ r ≡ eqb (capital x) y ⌝ }
-{
-    capital(x) == y
-}
-
-// Whether a word, in any letter case, is this one.
-fn is_word(w: &[u8], form: &[u8]) -> bool
-    ensures { λ r. ⌜ r ≡ same (capitals (now (w .entry))) (now (form .entry)) ⌝ }
-{
-    if w.len() != form.len() {
-        return false;
-    }
-    let mut i = 0;
-    while i < w.len() {
-        if same_letter(w[i], form[i]) {
-            i += 1;
-        } else {
-            return false;
-        }
-    }
-    true
-}
-
-// The long or the short form.
-fn is_either(w: &[u8], long: &[u8], short: &[u8]) -> bool
-    ensures { λ r. ⌜ r ≡ spelt (forms (now (long .entry)) (now (short .entry))) (capitals (now (w .entry))) ⌝ }
-{
-    is_word(w, long) | is_word(w, short)
-}
-
-// Whether a word is the keyword, in either form and any letter case.
-pub fn spells(k: Token, w: &[u8]) -> bool
-    ensures { λ r. ⌜ r ≡ spells k (now (w .entry)) ⌝ }
-{
-    match k {
-        Token::MegacopToken => is_either(w, b"MEGACO", b"!"),
-        Token::TransToken => is_either(w, b"TRANSACTION", b"T"),
-        Token::CtxToken => is_either(w, b"CONTEXT", b"C"),
-        Token::AddToken => is_either(w, b"ADD", b"A"),
-        Token::ModifyToken => is_either(w, b"MODIFY", b"MF"),
-        Token::SubtractToken => is_either(w, b"SUBTRACT", b"S"),
-        Token::MoveToken => is_either(w, b"MOVE", b"MV"),
-        Token::MediaToken => is_either(w, b"MEDIA", b"M"),
-        Token::LocalControlToken => is_either(w, b"LOCALCONTROL", b"O"),
-        Token::TerminationStateToken => is_either(w, b"TERMINATIONSTATE", b"TS"),
-        Token::ModeToken => is_either(w, b"MODE", b"MO"),
-        Token::ServiceStatesToken => is_either(w, b"SERVICESTATES", b"SI"),
-        Token::PriorityToken => is_either(w, b"PRIORITY", b"PR"),
-        Token::EmergencyToken => is_either(w, b"EMERGENCY", b"EG"),
-        Token::InactiveToken => is_either(w, b"INACTIVE", b"IN"),
-        Token::SendonlyToken => is_either(w, b"SENDONLY", b"SO"),
-        Token::RecvonlyToken => is_either(w, b"RECEIVEONLY", b"RC"),
-        Token::SendrecvToken => is_either(w, b"SENDRECEIVE", b"SR"),
-        Token::LoopbackToken => is_either(w, b"LOOPBACK", b"LB"),
-        Token::InSvcToken => is_either(w, b"INSERVICE", b"IV"),
-        Token::OutOfSvcToken => is_either(w, b"OUTOFSERVICE", b"OS"),
-        Token::TestToken => is_either(w, b"TEST", b"TE"),
-    }
 }

@@ -1,4 +1,5 @@
 use borrow.Author.Needs.{needs}
+use Rattle.megaco.specs.White.{goesOn}
 use Rattle.text.proofs.goes_on.Statement.{statement}
 use Rattle.text.proofs.goes_on.Tie as tie
 
@@ -8,4 +9,5 @@ goes-on-spec =
     (tie.spec
     (λ c κs. search needs)
     (λ c κs. search needs)
-    (λ c. c .has-bit .ensures .white (c .before .before .args .inside) (c .before .white-bit .ensures)))
+    (λ c κs. search needs)
+    (λ c. unfold goesOn in rw (c .before .before .is-comment .ensures, c .before .is-line-end .ensures, c .is-white .ensures)))

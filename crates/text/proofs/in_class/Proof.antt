@@ -8,4 +8,5 @@ in-class-spec =
     (tie.spec
     (λ c κs. search needs)
     (λ c κs. search needs)
-    (λ c. c .has-bit .ensures .class (c .before .before .args .k) (c .before .bit-of .ensures)))
+    (λ c κs. search needs)
+    (λ c. c .in-maps .ensures .is (c .before .before .before .args .k) (c .before .before .low-of .ensures) (c .before .high-of .ensures)))

@@ -6,10 +6,10 @@ use Rattle.text.proofs.row.Statement.{statement}
 use Rattle.text.proofs.row.Tie as tie
 
 abbrev Inv-loop : tie.InvT-loop
-Inv-loop s at bit i₀ i = RowHere bit s at i
+Inv-loop s at low high i₀ i = RowHere low high s at i
 
 abbrev μ-loop : tie.MeasureT-loop
-μ-loop s at bit i₀ i = length s - i
+μ-loop s at low high i₀ i = length s - i
 
 pub row-spec : {M : Type 1} → statement M
 row-spec =
@@ -17,6 +17,7 @@ row-spec =
     (tie.spec
     Inv-loop
     μ-loop
+    (λ c κs. search needs)
     (λ c κs. search needs)
     (λ c. search row-starts)
     (λ c. search needs)

@@ -1,6 +1,6 @@
 use borrow.Author.Needs.{needs}
-use Rattle.text.proofs.same_letter.Statement.{statement}
-use Rattle.text.proofs.same_letter.Tie as tie
+use Rattle.text.proofs.keywords.same_letter.Statement.{statement}
+use Rattle.text.proofs.keywords.same_letter.Tie as tie
 
 pub same-letter-spec : {M : Type 1} → statement M
 same-letter-spec =

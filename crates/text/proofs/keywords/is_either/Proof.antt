@@ -1,7 +1,7 @@
 use borrow.Author.Needs.{needs}
 use Rattle.megaco.specs.Keywords.{spelt}
-use Rattle.text.proofs.is_either.Statement.{statement}
-use Rattle.text.proofs.is_either.Tie as tie
+use Rattle.text.proofs.keywords.is_either.Statement.{statement}
+use Rattle.text.proofs.keywords.is_either.Tie as tie
 
 pub is-either-spec : {M : Type 1} → statement M
 is-either-spec =

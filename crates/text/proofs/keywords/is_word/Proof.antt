@@ -5,8 +5,8 @@ use lib.ListN.{length, drop}
 use Rattle.base.specs.Lists.{same}
 use Rattle.megaco.specs.Bytes.{capitals}
 use Rattle.text.proofs.WordLaws.{unequal, word-on, word-no, word-end}
-use Rattle.text.proofs.is_word.Statement.{statement}
-use Rattle.text.proofs.is_word.Tie as tie
+use Rattle.text.proofs.keywords.is_word.Statement.{statement}
+use Rattle.text.proofs.keywords.is_word.Tie as tie
 
 abbrev Inv-loop : tie.InvT-loop
 Inv-loop w form i₀ i = same (capitals w) form ≡ same (capitals (drop i w)) (drop i form)
