@@ -180,7 +180,8 @@ pub fn order_start(s: &[u8], at: usize) -> usize
 pub fn is_property(w: &[u8]) -> bool
     ensures { λ r. ⌜ r ≡ isProperty (now (w .entry)) ⌝ }
 {
-    text::spells(Token::PriorityToken, w) | text::spells(Token::EmergencyToken, w)
+    text::spells(Token::PriorityToken, w)
+        | text::spells(Token::EmergencyToken, w)
 }
 
 // A command's word.
