@@ -22,7 +22,7 @@ use Rattle.syntax.specs.declared.Rest.{Rest}
 use Rattle.syntax.specs.Places.{priorityAt, braceAt, identifierAt, versionAt}
 use Rattle.syntax.specs.Extraction.{endOf, valueIn, nextIn, pastWhite, pastSign, wordEnd, listEnd, bracesEnd, commandEnd, contextStart, contextOf, contextEnd, bodyStart, propertyOf, propertyEnd, rest, restOf, restIn, bodyEnd, actionEnd, actionsStart, actionsEnd, closingEnd, transactionEnd, headerEnd}
 use Rattle.parts.specs.declared.CommandPlaces.{CommandPlaces}
-use Rattle.parts.specs.Places.{OfCommand}
+use Rattle.parts.specs.Found.{OfCommand}
 use Rattle.outline.specs.declared.ContextPlaces.{ContextPlaces}
 use Rattle.outline.specs.declared.ActionPlaces.{ActionPlaces}
 use Rattle.outline.specs.declared.PropertyPlaces.{PropertyPlaces}
