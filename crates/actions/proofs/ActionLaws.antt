@@ -19,7 +19,7 @@ use Rattle.megaco.specs.declared.Number.the-variants.{Bad}
 use Rattle.megaco.specs.declared.Class.the-variants.{WordByte}
 use Rattle.megaco.specs.declared.Token.{Token}
 use Rattle.syntax.specs.declared.Piece.{Piece}
-use Rattle.syntax.specs.Pieces.{Within}
+use Rattle.syntax.specs.Pieces.{Holds}
 use Rattle.syntax.specs.Places.{numberAfter, joinedAt, commandsAt, propertyAt, bodyAt}
 use Rattle.syntax.proofs.Onward.{property-on}
 use Rattle.syntax.proofs.ListLaws.{steps, joined-fault, joined-last, joined-cut, joined-more, comma-falls}
@@ -40,7 +40,7 @@ behind-fault x y f e n = rw (← e, n)
 pub ruleset parts = (steps, place-by, behind-next, behind-fault)
 
 -- the word that stands here
-pub here : (k : Token) (s : List ℕ) (at e : ℕ) (w : Piece) (r : Bool) → e ≡ rowAt WordByte s at → Within s at e w → r ≡ spells k (part s (w .from) (w .to)) → r ≡ spells k (wordHere s at)
+pub here : (k : Token) (s : List ℕ) (at e : ℕ) (w : Piece) (r : Bool) → e ≡ rowAt WordByte s at → Holds s at e w → r ≡ spells k (part s (w .from) (w .to)) → r ≡ spells k (wordHere s at)
 unfolding wordHere
 here k s at e w r h g f = rw (← h, ← g .bytes) f
 

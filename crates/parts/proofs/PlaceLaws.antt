@@ -17,13 +17,13 @@ use Rattle.megaco.specs.declared.Parsed.the-variants.{Next, Fault}
 use Rattle.megaco.specs.declared.Class.the-variants.{WordByte}
 use Rattle.syntax.specs.declared.Piece.{Piece}
 use Rattle.syntax.specs.Places.{orderStart}
-use Rattle.syntax.specs.Pieces.{Within}
+use Rattle.syntax.specs.Pieces.{Holds}
 use Rattle.syntax.specs.Extraction.{endOf, pastWhite, pastSign, wordEnd, secondEnd, equalPlace, valueEnd, valueItemEnd, headEnd, secondOf, valueItemOf, bracesOf, itemOf, orderEnd, nameStart, nameEnd, commandHeadEnd, commandOf}
 use Rattle.parts.specs.declared.ValuePlaces.{ValuePlaces}
 use Rattle.parts.specs.declared.ItemPlaces.{ItemPlaces}
 use Rattle.parts.specs.declared.Marks.{Marks}
 use Rattle.parts.specs.declared.CommandPlaces.{CommandPlaces}
-use Rattle.parts.specs.Places.{inQuotes, valueFrom, OfValue, OfItem, itemFrom, marksOf, OfCommand, itemsFrom, commandFrom}
+use Rattle.parts.specs.Found.{inQuotes, valueFrom, OfValue, OfItem, itemFrom, marksOf, OfCommand, itemsFrom, commandFrom}
 
 -- where a reader stopped
 pub end-next : (x : Parsed) (p : ℕ) → x ≡ Next p → p ≡ endOf x
@@ -51,7 +51,7 @@ command-is s at r h = rw (h .optional, h .wild, h .word .bytes, h .name .bytes, 
 -- ---- a value that was found
 
 module _ (s : List ℕ) (at : ℕ) (x : Bool) (g : x ≡ isAt s at equal) where
-  pub value-given : (a e z : ℕ) (v : Parsed) (q : Bool) (p : Piece) → x ≡ true → a ≡ pastSign equal s at → v ≡ valueAt s a → e ≡ endOf v → q ≡ isAt s a quote → Within s a e p
+  pub value-given : (a e z : ℕ) (v : Parsed) (q : Bool) (p : Piece) → x ≡ true → a ≡ pastSign equal s at → v ≡ valueAt s a → e ≡ endOf v → q ≡ isAt s a quote → Holds s a e p
       → z ≡ pastWhite s e → OfValue s at (record { given = true; quoted = q; plain = p; end = z })
   unfolding valueItemOf valueItemEnd valueEnd valueFrom valueOf inQuotes pick
   value-given a e z v q p t ea ev ee eq w ez =
@@ -62,13 +62,13 @@ module _ (s : List ℕ) (at : ℕ) (x : Bool) (g : x ≡ isAt s at equal) where
         end = ez ∙ rw (← g, t, ← ea, ← ev, ← ee);
       }
 
-  pub value-none : (p : Piece) (a e : ℕ) → x ≡ false → Within s a e p → OfValue s at (record { given = false; quoted = false; plain = p; end = at })
+  pub value-none : (p : Piece) (a e : ℕ) → x ≡ false → Holds s a e p → OfValue s at (record { given = false; quoted = false; plain = p; end = at })
   unfolding valueItemOf valueItemEnd valueFrom pick
   value-none p a e f w = record { tree = rw (← g, f); ordered = w .ordered; inside = w .inside; end = rw (← g, f) }
 
 -- ---- an item that was found
 
-pub item-found : (s : List ℕ) (at w u q i : ℕ) (p : Piece) (x b : Bool) (v : ValuePlaces) → w ≡ rowAt WordByte s at → Within s at w p → x ≡ isAt s w slash → u ≡ secondEnd s w
+pub item-found : (s : List ℕ) (at w u q i : ℕ) (p : Piece) (x b : Bool) (v : ValuePlaces) → w ≡ rowAt WordByte s at → Holds s at w p → x ≡ isAt s w slash → u ≡ secondEnd s w
     → q ≡ pastWhite s u → OfValue s q v → b ≡ isAt s (v .end) leftBrace → i ≡ pastSign leftBrace s (v .end)
     → OfItem s at (record { word = p; second = x; value = v; braces = b; inside = i })
 unfolding wordEnd equalPlace headEnd
@@ -91,8 +91,8 @@ pub marks-found : (s : List ℕ) (at o w : ℕ) → o ≡ prefixEnd 0x4f s at �
 unfolding marksOf orderStart
 marks-found s at o w e f = rw (prefix-told 0x4f s at o e, prefix-told 0x57 s o w f, f, e)
 
-pub command-found : (s : List ℕ) (at e f p n z i : ℕ) (m : Marks) (word name : Piece) (x : Parsed) (b : Bool) → m ≡ marksOf s at → e ≡ rowAt WordByte s (m .at) → Within s (m .at) e word
-    → p ≡ pastWhite s e → n ≡ pastSign equal s p → x ≡ terminationAt s n → f ≡ endOf x → Within s n f name → z ≡ pastWhite s f → b ≡ isAt s z leftBrace → i ≡ pastSign leftBrace s z
+pub command-found : (s : List ℕ) (at e f p n z i : ℕ) (m : Marks) (word name : Piece) (x : Parsed) (b : Bool) → m ≡ marksOf s at → e ≡ rowAt WordByte s (m .at) → Holds s (m .at) e word
+    → p ≡ pastWhite s e → n ≡ pastSign equal s p → x ≡ terminationAt s n → f ≡ endOf x → Holds s n f name → z ≡ pastWhite s f → b ≡ isAt s z leftBrace → i ≡ pastSign leftBrace s z
     → OfCommand s at (record { optional = m .optional; wild = m .wild; word = word; name = name; end = z; braces = b; inside = i })
 unfolding marksOf wordEnd orderEnd nameStart nameEnd commandHeadEnd
 command-found s at e f p n z i m word name x b em ee ew ep en ex ef ea ez eb ei =

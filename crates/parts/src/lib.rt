@@ -4,7 +4,7 @@ ghost use mathlib.Core.Path.{_≡_};
 ghost use Prim.Native.Nat.{_<_};
 ghost use Rattle.megaco.specs.Bytes.{comma, leftBrace, rightBrace};
 ghost use Rattle.syntax.specs.Extraction.{endOf, pastWhite, pastSign, secondEnd, bracesEnd};
-ghost use Rattle.parts.specs.Places.{OfValue, OfItem, marksOf, OfCommand};
+ghost use Rattle.parts.specs.Found.{OfValue, OfItem, marksOf, OfCommand};
 use megaco::Class;
 use megaco::Parsed;
 use syntax::Piece;

@@ -2,7 +2,7 @@
 ghost use mathlib.Core.Path.{_≡_};
 ghost use Prim.Native.Nat.{suc, min};
 ghost use Rattle.megaco.specs.Reading.{prefixEnd, isProperty};
-ghost use Rattle.syntax.specs.Pieces.{Within};
+ghost use Rattle.syntax.specs.Pieces.{Holds};
 ghost use Rattle.syntax.specs.Places.{spacedAt, secondAt, valueItemAt, bracesAt, headAt, itemAt, itemsAt, orderAt, orderStart, commandHeadAt, commandAt, commandsAt};
 use megaco::Parsed;
 use megaco::Token;
@@ -42,7 +42,7 @@ fn low(a: usize, b: usize) -> usize
 
 // The bytes from a place up to another, brought within the message.
 pub fn piece_of(s: &[u8], a: usize, e: usize) -> Piece
-    ensures { λ r. ⌜ Within (now (s .entry)) a e r ⌝ }
+    ensures { λ r. ⌜ Holds (now (s .entry)) a e r ⌝ }
 {
     let to = low(e, s.len());
     let from = low(a, to);

@@ -1,6 +1,6 @@
 -- The maps of the classes: one test, computed over all bytes, and what it says at each byte.
 use Prim.Native.Nat.{ℕ, zero, suc, _<_, _/_, _%_, _^_}
-use mathlib.Core.Path.{_≡_, refl, sym, _∙_}
+use mathlib.Core.Path.{_≡_, refl, sym}
 use mathlib.Core.Bool.{Bool, true, false, not, _&&_}
 use native.Mathlib.Omega.{arith}
 use borrow.Author.Tests.{eqb-true, eqb-false}

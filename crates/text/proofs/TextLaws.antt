@@ -1,10 +1,10 @@
 -- Laws of the leaf readers, in the form in which `search` uses them.
 use mir.Val.{Fits}
 use mir.Syntax.{w64}
-use Prim.Native.Nat.{ℕ, zero, suc, _^_, _+_, _-_, _<_, _≤_}
-use mathlib.Core.Path.{_≡_, refl, sym, ap, _∙_}
-use mathlib.Core.List.{List, [], _∷_}
-use mathlib.Core.Bool.{Bool, true, false, _&&_}
+use Prim.Native.Nat.{ℕ, _^_, _+_, _<_, _≤_}
+use mathlib.Core.Path.{_≡_, refl, sym, _∙_}
+use mathlib.Core.List.{List}
+use mathlib.Core.Bool.{Bool, true, false, not, _&&_, _||_, or-false}
 use native.Mathlib.Numerals.{add-one}
 use native.Mathlib.Omega.{arith}
 use native.Mathlib.Nat.{lt-of-not-le}
@@ -17,7 +17,7 @@ use Rattle.base.specs.Lists.{isAt}
 use Rattle.megaco.specs.declared.Parsed.{Parsed}
 use Rattle.megaco.specs.declared.Parsed.the-variants.{Next, Fault}
 use Rattle.megaco.specs.declared.Class.{Class}
-use Rattle.megaco.specs.Bytes.{isLetter, inClass}
+use Rattle.megaco.specs.Bytes.{semicolon, isLetter, isWhite, isLineEnd, isComment}
 use Rattle.megaco.specs.White.{after, goesOn, insideAfter, stopAt, whiteFrom, whiteAt}
 use Rattle.megaco.specs.Tokens.{letterAt, rowFrom, rowAt}
 use Rattle.text.specs.Classes.{lowOf, highOf, OfMaps}
@@ -86,6 +86,24 @@ module _ (low high : ℕ) (s : List ℕ) (at i : ℕ) (inv : RowHere low high s 
     row-end n = sym (inv .is k l h ∙ rw (drop-of-length-le s n))
 
 -- ---- white space, likewise
+
+module _ (m : Bool) (b : ℕ) (e : m ≡ true) where
+  pub goes-inside : (x y : Bool) → x ≡ isComment b → y ≡ isLineEnd b → (x || y) ≡ goesOn m b
+  unfolding goesOn
+  goes-inside x y f g = rw (e, f, g) (sym (or-false (isComment b || isLineEnd b)))
+
+  pub stays-inside : (x : Bool) → x ≡ isLineEnd b → not x ≡ insideAfter m b
+  unfolding insideAfter
+  stays-inside x f = rw (e, f) (sym (or-false (not (isLineEnd b))))
+
+module _ (m : Bool) (b : ℕ) (e : m ≡ false) where
+  pub goes-outside : (x : Bool) → x ≡ isWhite b → (x || eqb b semicolon) ≡ goesOn m b
+  unfolding goesOn
+  goes-outside x f = rw (e, f)
+
+  pub begins : eqb b semicolon ≡ insideAfter m b
+  unfolding insideAfter
+  begins = rw e
 
 module _ (s : List ℕ) (i : ℕ) (m : Bool) (q : Parsed) (inv : q ≡ whiteFrom (drop i s) i m) where
   pub white-on : (x m′ : Bool) → i < length s → x ≡ goesOn m (getD s i 0) → x ≡ true → m′ ≡ insideAfter m (getD s i 0) → q ≡ whiteFrom (drop (i + 1) s) (i + 1) m′

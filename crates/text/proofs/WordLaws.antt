@@ -2,7 +2,7 @@
 use Prim.Native.Nat.{ℕ, suc, _+_, _<_, _≤_}
 use mathlib.Core.Path.{_≡_, refl, sym, ap, _∙_}
 use mathlib.Core.List.{List, [], _∷_}
-use mathlib.Core.Bool.{Bool, true, false, _||_}
+use mathlib.Core.Bool.{Bool, true, false}
 use native.Mathlib.Numerals.{add-one}
 use native.Mathlib.Omega.{arith}
 use lib.ListN.{length, getD, drop, drop-of-length-le}
@@ -12,7 +12,7 @@ use Rattle.base.specs.Pick.{pick}
 use Rattle.base.specs.Lists.{same}
 use Rattle.megaco.specs.declared.Token.{Token}
 use Rattle.megaco.specs.Bytes.{capital, capitals}
-use Rattle.megaco.specs.Keywords.{forms, formsOf, spelt, spells}
+use Rattle.megaco.specs.Keywords.{formsOf, spelt, spells}
 
 pick-none : (t : Bool) → pick t false false ≡ false
 unfolding pick

@@ -38,6 +38,8 @@ fn is_either(w: &[u8], long: &[u8], short: &[u8]) -> bool
     is_word(w, long) | is_word(w, short)
 }
 
+// The forms of each keyword stand in a function of their own: a byte string is laid down where its function starts, and so only
+// those of the keyword that is asked for are.
 fn is_megacop(w: &[u8]) -> bool
     ensures { λ r. ⌜ r ≡ spelling "MEGACO" "!" (now (w .entry)) ⌝ }
 {

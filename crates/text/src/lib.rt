@@ -148,24 +148,28 @@ fn is_comment(b: u8) -> bool
 fn goes_on(inside: bool, b: u8) -> bool
     ensures { λ r. ⌜ r ≡ goesOn inside b ⌝ }
 {
-    inside & (is_comment(b) | is_line_end(b)) | !inside & (is_white(b) | (b == 0x3b))
+    if inside {
+        is_comment(b) | is_line_end(b)
+    } else {
+        is_white(b) | (b == 0x3b)
+    }
 }
 
 // A comment begins with `;` and ends with its line end.
 fn inside_after(inside: bool, b: u8) -> bool
     ensures { λ r. ⌜ r ≡ insideAfter inside b ⌝ }
 {
-    inside & !is_line_end(b) | !inside & (b == 0x3b)
+    if inside { !is_line_end(b) } else { b == 0x3b }
 }
 
+// White space may stop outside a comment only.
 fn stop_at(inside: bool, i: usize) -> Parsed
     ensures { λ r. ⌜ r ≡ stopAt inside i ⌝ }
 {
     if inside {
-        Parsed::Fault
-    } else {
-        Parsed::Next(i)
+        return Parsed::Fault;
     }
+    Parsed::Next(i)
 }
 
 // White space of some bytes.

@@ -1,6 +1,6 @@
 -- Laws of words, names and values, in the form in which `search` uses them.
 use Prim.Native.Nat.{ℕ, suc, _+_, _-_, _<_, _≤_}
-use mathlib.Core.Path.{_≡_, refl, sym, ap, _∙_}
+use mathlib.Core.Path.{_≡_, refl, sym, _∙_}
 use mathlib.Core.List.{List, [], _∷_}
 use mathlib.Core.Bool.{Bool, true, false, _||_}
 use native.Mathlib.Omega.{arith}
@@ -9,15 +9,14 @@ use lib.Dec.{ltb, eqb}
 use borrow.Author.Tests.{lt-ltb, le-ltb, le-leb, lt-leb}
 use lib.ListN.{length, getD, drop, length-drop, List·getD-eq-default}
 use Rattle.base.specs.Pick.{pick}
-use Rattle.base.specs.Lists.{isAt, part}
+use Rattle.base.specs.Lists.{isAt}
 use Rattle.megaco.specs.declared.Class.{Class}
 use Rattle.megaco.specs.declared.Class.the-variants.{WordByte, NameByte}
 use Rattle.megaco.specs.declared.Parsed.{Parsed}
 use Rattle.megaco.specs.declared.Parsed.the-variants.{Next, Fault}
 use Rattle.megaco.specs.declared.Number.{Number}
 use Rattle.megaco.specs.declared.Number.the-variants.{Got, Bad}
-use Rattle.megaco.specs.declared.Token.{Token}
-use Rattle.megaco.specs.Bytes.{star, dollar, isDigit, isLetter, inClass}
+use Rattle.megaco.specs.Bytes.{star, dollar, isDigit, inClass}
 use Rattle.megaco.specs.Tokens.{letterAt, rowFrom, rowAt, upTo64, wordAt, pathStart, pathNameAt, terminationAt, markAt, afterNumber, mIdAt, wholeAt, isMid}
 use Rattle.megaco.specs.White.{after}
 use Rattle.text.proofs.TextLaws.{reads, no-letter}

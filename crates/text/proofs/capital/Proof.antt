@@ -1,4 +1,3 @@
-use borrow.Author.Needs.{needs}
 use Rattle.base.specs.Pick.{picks}
 use Rattle.megaco.specs.Bytes.{capital}
 use Rattle.text.proofs.TextLaws.{small}

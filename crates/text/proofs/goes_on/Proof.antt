@@ -1,5 +1,5 @@
 use borrow.Author.Needs.{needs}
-use Rattle.megaco.specs.White.{goesOn}
+use Rattle.text.proofs.TextLaws.{goes-inside, goes-outside}
 use Rattle.text.proofs.goes_on.Statement.{statement}
 use Rattle.text.proofs.goes_on.Tie as tie
 
@@ -10,4 +10,5 @@ goes-on-spec =
     (λ c κs. search needs)
     (λ c κs. search needs)
     (λ c κs. search needs)
-    (λ c. unfold goesOn in rw (c .before .before .is-comment .ensures, c .before .is-line-end .ensures, c .is-white .ensures)))
+    (λ c. search goes-inside)
+    (λ c. search goes-outside))

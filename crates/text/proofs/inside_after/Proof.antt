@@ -1,5 +1,5 @@
 use borrow.Author.Needs.{needs}
-use Rattle.megaco.specs.White.{insideAfter}
+use Rattle.text.proofs.TextLaws.{stays-inside, begins}
 use Rattle.text.proofs.inside_after.Statement.{statement}
 use Rattle.text.proofs.inside_after.Tie as tie
 
@@ -8,4 +8,5 @@ inside-after-spec =
     tie.close
     (tie.spec
     (λ c κs. search needs)
-    (λ c. unfold insideAfter in rw (c .is-line-end .ensures)))
+    (λ c. search stays-inside)
+    (λ c. search begins))

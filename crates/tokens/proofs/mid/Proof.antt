@@ -19,4 +19,4 @@ mid-spec =
     (λ c κs. search needs)
     (λ c. unfold mIdAt in search (reads, after-by) depth 9)
     (λ c κs. search needs)
-    (λ c. unfold mIdAt in search (reads, after-by) depth 9))
+    (λ c. unfold mIdAt in search reads depth 9))

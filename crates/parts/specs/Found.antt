@@ -11,7 +11,7 @@ use Rattle.megaco.specs.Tree.{Value, plain, quoted, ItemOf, item, Items, Comman
 use Rattle.megaco.specs.Reading.{prefixAt, prefixEnd}
 use Rattle.syntax.specs.declared.Piece.{Piece}
 use Rattle.syntax.specs.Places.{orderStart}
-use Rattle.syntax.specs.Pieces.{Within}
+use Rattle.syntax.specs.Pieces.{Holds}
 use Rattle.syntax.specs.Extraction.{pastSign, wordEnd, equalPlace, valueEnd, valueItemEnd, headEnd, valueItemOf, itemsOf, orderEnd, nameStart, nameEnd, commandHeadEnd}
 use Rattle.parts.specs.declared.ValuePlaces.{ValuePlaces}
 use Rattle.parts.specs.declared.ItemPlaces.{ItemPlaces}
@@ -38,7 +38,7 @@ pub record OfValue (s : List ℕ) (at : ℕ) (r : ValuePlaces) : Type 0 where
   pub end : r .end ≡ valueItemEnd s at
 
 pub record OfItem (s : List ℕ) (at : ℕ) (r : ItemPlaces) : Type 0 where
-  pub word : Within s at (wordEnd s at) (r .word)
+  pub word : Holds s at (wordEnd s at) (r .word)
   pub second : r .second ≡ isAt s (wordEnd s at) slash
   pub value : OfValue s (equalPlace s at) (r .value)
   pub braces : r .braces ≡ isAt s (headEnd s at) leftBrace
@@ -58,8 +58,8 @@ marksOf s at = record { optional = prefixAt 0x4f s at; wild = prefixAt 0x57 s (p
 pub record OfCommand (s : List ℕ) (at : ℕ) (r : CommandPlaces) : Type 0 where
   pub optional : r .optional ≡ prefixAt 0x4f s at
   pub wild : r .wild ≡ prefixAt 0x57 s (prefixEnd 0x4f s at)
-  pub word : Within s (orderStart s at) (orderEnd s at) (r .word)
-  pub name : Within s (nameStart s at) (nameEnd s at) (r .name)
+  pub word : Holds s (orderStart s at) (orderEnd s at) (r .word)
+  pub name : Holds s (nameStart s at) (nameEnd s at) (r .name)
   pub end : r .end ≡ commandHeadEnd s at
   pub braces : r .braces ≡ isAt s (commandHeadEnd s at) leftBrace
   pub inside : r .inside ≡ pastSign leftBrace s (commandHeadEnd s at)
