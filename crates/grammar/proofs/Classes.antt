@@ -35,6 +35,10 @@ pub or-right : (x y : Bool) → y ≡ true → x || y ≡ true
 or-right true y e = refl
 or-right false y e = e
 
+pub or-only : (x y : Bool) → x || y ≡ true → y ≡ false → x ≡ true
+or-only true y e f = refl
+or-only false y e f = absurd (false≢true (sym f ∙ e))
+
 pub and-both : (x y : Bool) → x ≡ true → y ≡ true → x && y ≡ true
 and-both x y e f = rw (e, f)
 

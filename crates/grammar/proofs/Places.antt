@@ -34,6 +34,9 @@ at-head (x ∷ xs) (suc n) = at-head xs n
 pub behind : (s a rest : List ℕ) (at : ℕ) → drop at s ≡ a ++ rest → drop (at + length a) s ≡ rest
 behind s a rest at h = sym (drop-drop (length a) at s) ∙ rw h (drop-append-seam a rest)
 
+pub behind-at : (s a rest : List ℕ) (at e : ℕ) → e ≡ at + length a → drop at s ≡ a ++ rest → drop e s ≡ rest
+behind-at s a rest at e l h = rw l (behind s a rest at h)
+
 -- the part itself
 pub part-is : (s a rest : List ℕ) (at : ℕ) → drop at s ≡ a ++ rest → part s at (at + length a) ≡ a
 unfolding part
@@ -120,13 +123,16 @@ module _ (s : List ℕ) where
 
 -- ---- what a reader that succeeded went through
 
+pub fault-next : {e : ℕ} → Fault ≡ Next e → ⊥
+fault-next h = let z : _≡_ {A = ℕ} 0 1 = cc in omega arith
+
+pub next-same : {p e : ℕ} → Next p ≡ Next e → p ≡ e
+next-same h = cc
+
 pub after-next : (r : Parsed) (f : ℕ → Parsed) (e : ℕ) → after r f ≡ Next e → (p : ℕ) × (r ≡ Next p) × (f p ≡ Next e)
 unfolding after
 after-next (Next p) f e h = (p, refl, h)
 after-next Fault f e h = absurd (fault-next h)
-  where
-    fault-next : Fault ≡ Next e → ⊥
-    fault-next h = let z : _≡_ {A = ℕ} 0 1 = cc in omega arith
 
 module _ {B : Type 0} (x : B) (e : ℕ) where
   pub fault-got : fault ≡ got x e → ⊥
