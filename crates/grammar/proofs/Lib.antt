@@ -1,3 +1,4 @@
 pub mod Classes
 pub mod Places
 pub mod WhiteLaws
+pub mod RowLaws

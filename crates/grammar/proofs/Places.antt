@@ -63,6 +63,13 @@ isAt-cons s at b h e = go (drop at s) refl
     go [] f = absurd (omega (arith, rw f at is))
     go (x ∷ t) f = f ∙ rw (rw f at is, behind s (x ∷ []) t at f)
 
+-- a part of the grammar stands here, and what is behind it does not make it longer
+pub record Stands (X F : List ℕ → Type 0) (t rest : List ℕ) : Type 0 where
+  pub bytes : List ℕ
+  pub derives : X bytes
+  pub split : t ≡ bytes ++ rest
+  pub stops : F rest
+
 -- ---- what a reader that succeeds leaves
 
 -- a part that leaves nothing in the tree

@@ -17,7 +17,7 @@ use Rattle.megaco.specs.declared.Parsed.the-variants.{Next, Fault}
 use Rattle.grammar.specs.Characters.{WSP, SP, HTAB, CommentChar, Many, noMore, andThen}
 use Rattle.grammar.specs.Grammar.{EOL, CR, CRLF, LF, COMMENT, comment, Blank, blankWSP, blankCOMMENT, blankEOL, LWSP, noLWSP, moreLWSP, SEP, sep}
 use Rattle.grammar.proofs.Classes.{Tests, or-true, or-only, and-parts, comment-tests}
-use Rattle.grammar.proofs.Places.{head, behind, Finds, finds, behind-at, fault-next, next-same, after-next}
+use Rattle.grammar.proofs.Places.{head, Stands, Finds, finds, behind-at, fault-next, next-same, after-next}
 
 -- no white space stands here
 abbrev pub Solid : List ℕ → Type 0
@@ -184,19 +184,12 @@ white-from inside (b ∷ t) n e h = go (goesOn inside b) refl (λ k. white-from 
         record { bytes = b ∷ w .bytes; rest = w .rest; runs = run-more inside b (w .bytes) k (w .runs); split = ap (λ l. b ∷ l) (w .split); long = w .long ∙ omega arith; solid = w .solid }
     go false k r = here inside (rw k at h) k
 
--- white space that is read, and no more of it behind
-pub record Passed (X : List ℕ → Type 0) (t rest : List ℕ) : Type 0 where
-  pub bytes : List ℕ
-  pub derives : X bytes
-  pub split : t ≡ bytes ++ rest
-  pub solid : Solid rest
-
-passed : (s : List ℕ) (at e : ℕ) (X : List ℕ → Type 0) (w : White false (drop at s) at e) → X (w .bytes) → Passed X (drop at s) (drop e s)
+passed : (s : List ℕ) (at e : ℕ) (X : List ℕ → Type 0) (w : White false (drop at s) at e) → X (w .bytes) → Stands X Solid (drop at s) (drop e s)
 passed s at e X w x =
     let k : drop e s ≡ w .rest = behind-at s (w .bytes) (w .rest) at e (w .long) (w .split) in
-    record { bytes = w .bytes; derives = x; split = rw k (w .split); solid = rw k (w .solid) }
+    record { bytes = w .bytes; derives = x; split = rw k (w .split); stops = rw k (w .solid) }
 
-pub white-sound : (s : List ℕ) (at e : ℕ) → whiteAt s at ≡ Next e → Passed LWSP (drop at s) (drop e s)
+pub white-sound : (s : List ℕ) (at e : ℕ) → whiteAt s at ≡ Next e → Stands LWSP Solid (drop at s) (drop e s)
 unfolding whiteAt
 white-sound s at e h = let w = white-from false (drop at s) at e h in passed s at e LWSP w (w .runs)
 
@@ -204,15 +197,15 @@ long-sep : {a : List ℕ} → LWSP a → 0 < length a → SEP a
 long-sep noLWSP h = absurd (omega arith)
 long-sep (moreLWSP x w) h = sep x w
 
-pub sep-sound : (s : List ℕ) (at e : ℕ) → sepAt s at ≡ Next e → Passed SEP (drop at s) (drop e s)
+pub sep-sound : (s : List ℕ) (at e : ℕ) → sepAt s at ≡ Next e → Stands SEP Solid (drop at s) (drop e s)
 unfolding sepAt whiteAt pick
 sep-sound s at e h = go (after-next _ _ e h)
   where
-    last : (p : ℕ) (x : Bool) → whiteAt s at ≡ Next p → ltb at p ≡ x → pick x (Next p) Fault ≡ Next e → Passed SEP (drop at s) (drop e s)
+    last : (p : ℕ) (x : Bool) → whiteAt s at ≡ Next p → ltb at p ≡ x → pick x (Next p) Fault ≡ Next e → Stands SEP Solid (drop at s) (drop e s)
     last p true f k l =
         let w = white-from false (drop at s) at e (f ∙ l) in
         passed s at e SEP w (long-sep (w .runs) (omega (arith, w .long, ltb-true at p k, next-same l)))
     last p false f k l = absurd (fault-next l)
 
-    go : (p : ℕ) × (whiteAt s at ≡ Next p) × (pick (ltb at p) (Next p) Fault ≡ Next e) → Passed SEP (drop at s) (drop e s)
+    go : (p : ℕ) × (whiteAt s at ≡ Next p) × (pick (ltb at p) (Next p) Fault ≡ Next e) → Stands SEP Solid (drop at s) (drop e s)
     go (p, f, l) = last p (ltb at p) f refl l
