@@ -2,3 +2,4 @@ pub mod Classes
 pub mod Places
 pub mod WhiteLaws
 pub mod RowLaws
+pub mod FollowLaws
