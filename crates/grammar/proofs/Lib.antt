@@ -3,3 +3,4 @@ pub mod Places
 pub mod WhiteLaws
 pub mod RowLaws
 pub mod FollowLaws
+pub mod WordLaws
