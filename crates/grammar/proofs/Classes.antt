@@ -5,7 +5,7 @@ use mathlib.Core.Logic.{_⊎_, inl, inr}
 use mathlib.Core.Bool.{Bool, true, false, not, _&&_, _||_, Bool·beq, false≢true}
 use mathlib.Core.List.{List, [], _∷_}
 use lib.Dec.{leb, ltb, eqb}
-use borrow.Author.Tests.{leb-true, ltb-true, eqb-true, le-leb, eq-eqb}
+use borrow.Author.Tests.{leb-true, ltb-true, eqb-true, le-leb, eq-eqb, ne-eqb}
 use native.Mathlib.Omega.{arith}
 use native.Mathlib.Decide.{decLt}
 use Rattle.base.specs.Pick.{pick}
@@ -45,6 +45,10 @@ and-both x y e f = rw (e, f)
 pub and-parts : (x y : Bool) → x && y ≡ true → (x ≡ true) × (y ≡ true)
 and-parts true y e = (refl, e)
 and-parts false y e = absurd (false≢true e)
+
+-- a byte that passes a test is none that does not
+pub test-not : (t : ℕ → Bool) (b m : ℕ) → t m ≡ false → t b ≡ true → eqb b m ≡ false
+test-not t b m f h = ne-eqb b m (λ e. false≢true (sym f ∙ rw e at h))
 
 -- ---- letters and digits
 

@@ -4,3 +4,4 @@ pub mod WhiteLaws
 pub mod RowLaws
 pub mod FollowLaws
 pub mod WordLaws
+pub mod NameLaws

@@ -42,6 +42,9 @@ pub part-is : (s a rest : List ℕ) (at : ℕ) → drop at s ≡ a ++ rest → p
 unfolding part
 part-is s a rest at h = let n : at + length a - at ≡ length a = omega arith in rw (n, h) (take-append-seam a rest)
 
+pub part-to : (s a rest : List ℕ) (at e : ℕ) → e ≡ at + length a → drop at s ≡ a ++ rest → part s at e ≡ a
+part-to s a rest at e l h = rw l (part-is s a rest at h)
+
 -- a byte that stands at a place, and one that does not
 pub isAt-yes : (s : List ℕ) (at b : ℕ) → head (drop at s) ≡ b → isAt s at b ≡ true
 unfolding isAt
@@ -62,6 +65,10 @@ isAt-cons s at b h e = go (drop at s) refl
     go : (t : List ℕ) → drop at s ≡ t → drop at s ≡ b ∷ drop (at + 1) s
     go [] f = absurd (omega (arith, rw f at is))
     go (x ∷ t) f = f ∙ rw (rw f at is, behind s (x ∷ []) t at f)
+
+-- nothing is said of what is behind
+abbrev pub Any : List ℕ → Type 0
+Any rest = Unit {0}
 
 -- a part of the grammar stands here, and what is behind it does not make it longer
 pub record Stands (X F : List ℕ → Type 0) (t rest : List ℕ) : Type 0 where
@@ -135,6 +142,12 @@ fault-next h = let z : _≡_ {A = ℕ} 0 1 = cc in omega arith
 
 pub next-same : {p e : ℕ} → Next p ≡ Next e → p ≡ e
 next-same h = cc
+
+-- a test that holds, of a reader that did not fault
+pub pick-next : (t : Bool) (r : Parsed) (e : ℕ) → pick t r Fault ≡ Next e → (t ≡ true) × (r ≡ Next e)
+unfolding pick
+pick-next true r e h = (refl, h)
+pick-next false r e h = absurd (fault-next h)
 
 pub after-next : (r : Parsed) (f : ℕ → Parsed) (e : ℕ) → after r f ≡ Next e → (p : ℕ) × (r ≡ Next p) × (f p ≡ Next e)
 unfolding after

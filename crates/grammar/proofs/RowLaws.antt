@@ -21,7 +21,7 @@ use Rattle.megaco.specs.declared.Number.the-variants.{Got, Bad}
 use Rattle.grammar.specs.Characters.{DIGIT, Many, noMore, andThen}
 use Rattle.grammar.specs.Grammar.{LWSP, valueFrom, UINT, uint}
 use Rattle.grammar.proofs.Classes.{Tests, digit-tests}
-use Rattle.grammar.proofs.Places.{head, Stands, behind, behind-at, isAt-head, isAt-cons, Finds, Counts, finds, finds-after, fault-next, next-same, after-next}
+use Rattle.grammar.proofs.Places.{head, Stands, behind, behind-at, isAt-head, isAt-cons, Finds, Counts, finds, finds-after, fault-next, next-same, pick-next, after-next}
 use Rattle.grammar.proofs.WhiteLaws.{Solid, white-complete, white-sound}
 
 -- ---- signs
@@ -31,21 +31,24 @@ pub data After (b : ℕ) : List ℕ → Type 0 where
   afterSign : {a : List ℕ} → LWSP a → After b (b ∷ a)
 
 module _ (s : List ℕ) (at b : ℕ) where
-  pub mark-complete : (rest : List ℕ) → drop at s ≡ b ∷ rest → Finds s (markAt b s at) rest
+  pub mark-exact : (rest : List ℕ) → drop at s ≡ b ∷ rest → markAt b s at ≡ Next (at + 1)
   unfolding markAt pick
-  mark-complete rest h = finds s (b ∷ []) rest at _ h (rw (isAt-head s (b ∷ rest) at b h, eq-eqb b b refl))
+  mark-exact rest h = rw (isAt-head s (b ∷ rest) at b h, eq-eqb b b refl)
+
+  pub mark-complete : (rest : List ℕ) → drop at s ≡ b ∷ rest → Finds s (markAt b s at) rest
+  mark-complete rest h = finds s (b ∷ []) rest at _ h (mark-exact rest h)
 
   pub sign-complete : (rest : List ℕ) {a : List ℕ} → LWSP a → Solid rest → drop at s ≡ b ∷ a ++ rest → Finds s (signAt b s at) rest
   unfolding signAt
   sign-complete rest {a} w k h = finds-after s _ (whiteAt s) (mark-complete (a ++ rest) h) (λ p e. white-complete s rest p w k e)
 
   pub mark-sound : (e : ℕ) → 0 < b → markAt b s at ≡ Next e → drop at s ≡ b ∷ drop e s
-  unfolding markAt pick
-  mark-sound e z h = go (isAt s at b) refl h
-    where
-      go : (x : Bool) → isAt s at b ≡ x → pick x (Next (at + 1)) Fault ≡ Next e → drop at s ≡ b ∷ drop e s
-      go true k f = rw (← next-same f) (isAt-cons s at b z k)
-      go false k f = absurd (fault-next f)
+  unfolding markAt
+  mark-sound e z h = let p = pick-next (isAt s at b) _ e h in rw (← next-same (p .1)) (isAt-cons s at b z (p .0))
+
+  pub mark-next : (e : ℕ) → markAt b s at ≡ Next e → e ≡ at + 1
+  unfolding markAt
+  mark-next e h = sym (next-same (pick-next (isAt s at b) _ e h .1))
 
   pub sign-sound : (e : ℕ) → 0 < b → signAt b s at ≡ Next e → Stands (After b) Solid (drop at s) (drop e s)
   unfolding signAt

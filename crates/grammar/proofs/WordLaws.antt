@@ -25,18 +25,12 @@ use Rattle.megaco.proofs.Tests.{same-is, pick-both}
 use Rattle.grammar.specs.Characters.{Spelling, long, short, Keyword, ALPHA, lower, AlphaDigitOr, orAlpha, Many, noMore, andThen}
 use Rattle.grammar.specs.Grammar.{NAME, name}
 use Rattle.grammar.proofs.Classes.{Tests, or-true, or-right, and-parts, letter-passes, letter-tells, word-tests}
-use Rattle.grammar.proofs.Places.{head, at-head, Stands, Finds, finds, behind-at, part-is, fault-next, next-same, after-next}
+use Rattle.grammar.proofs.Places.{head, at-head, Stands, Finds, finds, behind-at, part-is, fault-next, next-same, pick-next, after-next}
 use Rattle.grammar.proofs.RowLaws.{Stops, Row, row, row-is, up-to-64, within-64}
 
 pub letter-at : (s t : List ℕ) (at : ℕ) → drop at s ≡ t → letterAt s at ≡ isLetter (head t)
 unfolding letterAt
 letter-at s t at h = rw (at-head s at, h)
-
--- a test that holds, of a reader that did not fault
-pub pick-next : (t : Bool) (r : Parsed) (e : ℕ) → pick t r Fault ≡ Next e → (t ≡ true) × (r ≡ Next e)
-unfolding pick
-pick-next true r e h = (refl, h)
-pick-next false r e h = absurd (fault-next h)
 
 -- ---- rows: the whole row stands from a place to its end
 
