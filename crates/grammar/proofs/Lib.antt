@@ -5,3 +5,4 @@ pub mod RowLaws
 pub mod FollowLaws
 pub mod WordLaws
 pub mod NameLaws
+pub mod MidLaws

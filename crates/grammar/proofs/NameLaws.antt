@@ -87,6 +87,12 @@ path-bytes (path {a} {b} {c} x n m l) = record {
 path-short : {t : List ℕ} → pathNAME t → length t ≤ 64
 path-short (path x n m l) = l
 
+-- a path name begins with a byte of its class
+pub path-first : {t : List ℕ} (rest : List ℕ) → pathNAME t → inClass NameByte (head (t ++ rest)) ≡ true
+unfolding has pick
+path-first rest (path noStar (name {b} h m k) n l) = name-tests .passes b (orAlpha h)
+path-first rest (path withStar (name h m k) n l) = name-tests .passes star (orMark refl)
+
 pub path-complete : (s rest : List ℕ) {t : List ℕ} (at : ℕ) → pathNAME t → Stops (inClass NameByte) rest → drop at s ≡ t ++ rest
     → (letterAt s (pathStart s at) ≡ true) × (pathNameAt s at ≡ Next (at + length t))
 path-complete s rest {t} at x k h =
@@ -199,9 +205,9 @@ value-sound s at e h = go (isAt s at quote) refl h
     safe noMore o l = absurd (omega arith)
     safe (andThen x m) o l = safeChars x m (omega arith)
 
-    inQuotes : (p : ℕ) × (upTo64 (at + 1) (rowAt QuotedByte s (at + 1)) ≡ Next p) × (markAt quote s p ≡ Next e) → drop at s ≡ quote ∷ drop (at + 1) s
+    inQuotes : (p : ℕ) → drop at s ≡ quote ∷ drop (at + 1) s → upTo64 (at + 1) (rowAt QuotedByte s (at + 1)) ≡ Next p → markAt quote s p ≡ Next e
         → Stands (λ a. VALUE a (quoted (part s (at + 1) (e - 1)))) Any (drop at s) (drop e s)
-    inQuotes (p, u, m) d =
+    inQuotes p d u m =
         let q = up-to-64 (at + 1) (rowAt QuotedByte s (at + 1)) p u in
         let r = row-stands QuotedByte quoted-tests s (at + 1) p (q .0) in
         let k : e - 1 ≡ p = omega (arith, mark-next s p quote e m) in
@@ -221,5 +227,5 @@ value-sound s at e h = go (isAt s at quote) refl h
         record { bytes = r .bytes; derives = rw (r .derives .is) (safe (r .derives .many) (omega (arith, r .derives .long)) (omega (arith, r .derives .long, q .0, q .1))); split = r .split; stops = tt }
 
     go : (t : Bool) → isAt s at quote ≡ t → pick t (quotedAt s at) (plainAt s at) ≡ Next e → Stands (λ a. VALUE a (pick t (quoted (part s (at + 1) (e - 1))) (plain (part s at e)))) Any (drop at s) (drop e s)
-    go true i f = inQuotes (after-next _ _ e f) (isAt-cons s at quote (omega arith) i)
+    go true i f = after-next _ _ e f (λ p. inQuotes p (isAt-cons s at quote (omega arith) i))
     go false i f = bare (pick-next _ _ e f)

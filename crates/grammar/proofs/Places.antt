@@ -11,11 +11,26 @@ use native.Mathlib.Omega.{arith}
 use Rattle.base.specs.Pick.{pick}
 use Rattle.base.specs.Lists.{isAt, part}
 use Rattle.megaco.specs.White.{after}
+use Rattle.megaco.specs.Tokens.{afterNumber}
 use Rattle.megaco.specs.Reading.{Read, got, fault, bind, skip, reading, readNumber}
 use Rattle.megaco.specs.declared.Parsed.{Parsed}
 use Rattle.megaco.specs.declared.Parsed.the-variants.{Next, Fault}
 use Rattle.megaco.specs.declared.Number.{Number}
 use Rattle.megaco.specs.declared.Number.the-variants.{Got, Bad}
+
+-- ---- parts one after another
+
+pub regroup3 : (a b c r : List ℕ) → (a ++ b ++ c) ++ r ≡ a ++ (b ++ (c ++ r))
+regroup3 a b c r = simp append-assoc
+
+pub regroup4 : (a b c d r : List ℕ) → (a ++ b ++ c ++ d) ++ r ≡ a ++ (b ++ (c ++ (d ++ r)))
+regroup4 a b c d r = simp append-assoc
+
+pub regroup5 : (a b c d e r : List ℕ) → (a ++ b ++ c ++ d ++ e) ++ r ≡ a ++ (b ++ (c ++ (d ++ (e ++ r))))
+regroup5 a b c d e r = simp append-assoc
+
+pub regroup6 : (a b c d e f r : List ℕ) → (a ++ b ++ c ++ d ++ e ++ f) ++ r ≡ a ++ (b ++ (c ++ (d ++ (e ++ (f ++ r)))))
+regroup6 a b c d e f r = simp append-assoc
 
 -- ---- bytes from a place on
 
@@ -135,7 +150,10 @@ module _ (s : List ℕ) where
   unfolding reading
   gets-part a rest at r f h e = record { end = at + length a; is = rw (e, part-is s a rest at h); leaves = behind s a rest at h }
 
--- ---- what a reader that succeeded went through
+-- ---- what a reader that succeeded went through: the rest of the proof takes it by names
+
+pub given : {A C : Type 0} → A → (A → C) → C
+given a f = f a
 
 pub fault-next : {e : ℕ} → Fault ≡ Next e → ⊥
 fault-next h = let z : _≡_ {A = ℕ} 0 1 = cc in omega arith
@@ -149,31 +167,39 @@ unfolding pick
 pick-next true r e h = (refl, h)
 pick-next false r e h = absurd (fault-next h)
 
-pub after-next : (r : Parsed) (f : ℕ → Parsed) (e : ℕ) → after r f ≡ Next e → (p : ℕ) × (r ≡ Next p) × (f p ≡ Next e)
+pub after-next : {C : Type 0} (r : Parsed) (f : ℕ → Parsed) (e : ℕ) → after r f ≡ Next e → ((p : ℕ) → r ≡ Next p → f p ≡ Next e → C) → C
 unfolding after
-after-next (Next p) f e h = (p, refl, h)
-after-next Fault f e h = absurd (fault-next h)
+after-next (Next p) f e h k = k p refl h
+after-next Fault f e h k = absurd (fault-next h)
+
+pub number-next : {C : Type 0} (r : Number) (f : ℕ → Parsed) (e : ℕ) → afterNumber r f ≡ Next e → ((v p : ℕ) → r ≡ Got v p → f p ≡ Next e → C) → C
+unfolding afterNumber
+number-next (Got v p) f e h k = k v p refl h
+number-next Bad f e h k = absurd (fault-next h)
 
 module _ {B : Type 0} (x : B) (e : ℕ) where
   pub fault-got : fault ≡ got x e → ⊥
   fault-got h = let z : _≡_ {A = ℕ} 0 1 = cc in omega arith
 
-  pub skip-got : (r : Parsed) (f : ℕ → Read B) → skip r f ≡ got x e → (p : ℕ) × (r ≡ Next p) × (f p ≡ got x e)
+  pub got-same : {a : B} {p : ℕ} → got a p ≡ got x e → (a ≡ x) × (p ≡ e)
+  got-same h = ((cc), (cc))
+
+  pub skip-got : {C : Type 0} (r : Parsed) (f : ℕ → Read B) → skip r f ≡ got x e → ((p : ℕ) → r ≡ Next p → f p ≡ got x e → C) → C
   unfolding skip
-  skip-got (Next p) f h = (p, refl, h)
-  skip-got Fault f h = absurd (fault-got h)
+  skip-got (Next p) f h k = k p refl h
+  skip-got Fault f h k = absurd (fault-got h)
 
-  pub bind-got : {A : Type 0} (r : Read A) (f : A → ℕ → Read B) → bind r f ≡ got x e → (y : A) × (p : ℕ) × (r ≡ got y p) × (f y p ≡ got x e)
+  pub bind-got : {A C : Type 0} (r : Read A) (f : A → ℕ → Read B) → bind r f ≡ got x e → ((y : A) (p : ℕ) → r ≡ got y p → f y p ≡ got x e → C) → C
   unfolding bind
-  bind-got (got y p) f h = (y, p, refl, h)
-  bind-got fault f h = absurd (fault-got h)
+  bind-got (got y p) f h k = k y p refl h
+  bind-got fault f h k = absurd (fault-got h)
 
-  pub number-got : (r : Number) (f : ℕ → B) → readNumber r f ≡ got x e → (v : ℕ) × (r ≡ Got v e) × (x ≡ f v)
+  pub number-got : {C : Type 0} (r : Number) (f : ℕ → B) → readNumber r f ≡ got x e → ((v : ℕ) → r ≡ Got v e → f v ≡ x → C) → C
   unfolding readNumber
-  number-got (Got v p) f h = (v, (cc), (cc))
-  number-got Bad f h = absurd (fault-got h)
+  number-got (Got v p) f h k = k v (cc) (cc)
+  number-got Bad f h k = absurd (fault-got h)
 
-  pub reading-got : (r : Parsed) (f : ℕ → B) → reading r f ≡ got x e → (r ≡ Next e) × (x ≡ f e)
+  pub reading-got : (r : Parsed) (f : ℕ → B) → reading r f ≡ got x e → (r ≡ Next e) × (f e ≡ x)
   unfolding reading
   reading-got (Next p) f h = ((cc), (cc))
   reading-got Fault f h = absurd (fault-got h)

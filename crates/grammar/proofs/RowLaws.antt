@@ -52,12 +52,9 @@ module _ (s : List ℕ) (at b : ℕ) where
 
   pub sign-sound : (e : ℕ) → 0 < b → signAt b s at ≡ Next e → Stands (After b) Solid (drop at s) (drop e s)
   unfolding signAt
-  sign-sound e z h = go (after-next _ _ e h)
-    where
-      go : (p : ℕ) × (markAt b s at ≡ Next p) × (whiteAt s p ≡ Next e) → Stands (After b) Solid (drop at s) (drop e s)
-      go (p, m, l) =
-          let w = white-sound s p e l in
-          record { bytes = b ∷ w .bytes; derives = afterSign (w .derives); split = mark-sound p z m ∙ ap (λ t. b ∷ t) (w .split); stops = w .stops }
+  sign-sound e z h = after-next _ _ e h (λ p m l.
+      let w = white-sound s p e l in
+      record { bytes = b ∷ w .bytes; derives = afterSign (w .derives); split = mark-sound p z m ∙ ap (λ t. b ∷ t) (w .split); stops = w .stops })
 
 -- ---- rows of a class
 

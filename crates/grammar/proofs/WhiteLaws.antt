@@ -17,7 +17,7 @@ use Rattle.megaco.specs.declared.Parsed.the-variants.{Next, Fault}
 use Rattle.grammar.specs.Characters.{WSP, SP, HTAB, CommentChar, Many, noMore, andThen}
 use Rattle.grammar.specs.Grammar.{EOL, CR, CRLF, LF, COMMENT, comment, Blank, blankWSP, blankCOMMENT, blankEOL, LWSP, noLWSP, moreLWSP, SEP, sep}
 use Rattle.grammar.proofs.Classes.{Tests, or-true, or-only, and-parts, comment-tests}
-use Rattle.grammar.proofs.Places.{head, Stands, Finds, finds, behind-at, fault-next, next-same, after-next}
+use Rattle.grammar.proofs.Places.{head, Stands, Finds, finds, behind-at, fault-next, next-same, pick-next, after-next}
 
 -- no white space stands here
 abbrev pub Solid : List ℕ → Type 0
@@ -198,14 +198,8 @@ long-sep noLWSP h = absurd (omega arith)
 long-sep (moreLWSP x w) h = sep x w
 
 pub sep-sound : (s : List ℕ) (at e : ℕ) → sepAt s at ≡ Next e → Stands SEP Solid (drop at s) (drop e s)
-unfolding sepAt whiteAt pick
-sep-sound s at e h = go (after-next _ _ e h)
-  where
-    last : (p : ℕ) (x : Bool) → whiteAt s at ≡ Next p → ltb at p ≡ x → pick x (Next p) Fault ≡ Next e → Stands SEP Solid (drop at s) (drop e s)
-    last p true f k l =
-        let w = white-from false (drop at s) at e (f ∙ l) in
-        passed s at e SEP w (long-sep (w .runs) (omega (arith, w .long, ltb-true at p k, next-same l)))
-    last p false f k l = absurd (fault-next l)
-
-    go : (p : ℕ) × (whiteAt s at ≡ Next p) × (pick (ltb at p) (Next p) Fault ≡ Next e) → Stands SEP Solid (drop at s) (drop e s)
-    go (p, f, l) = last p (ltb at p) f refl l
+unfolding sepAt whiteAt
+sep-sound s at e h = after-next _ _ e h (λ p f l.
+    let k = pick-next (ltb at p) (Next p) e l in
+    let w = white-from false (drop at s) at e (f ∙ k .1) in
+    passed s at e SEP w (long-sep (w .runs) (omega (arith, w .long, ltb-true at p (k .0), next-same (k .1)))))

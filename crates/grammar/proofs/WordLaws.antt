@@ -113,14 +113,11 @@ keyword-complete k s rest {a} at x n w h =
 
 pub keyword-sound : (k : Token) (s : List ℕ) (at e : ℕ) → keywordAt k s at ≡ Next e → Stands (Keyword k) (Stops (inClass WordByte)) (drop at s) (drop e s)
 unfolding keywordAt
-keyword-sound k s at e h = go (after-next _ _ e h)
-  where
-    go : (p : ℕ) × (wordAt s at ≡ Next p) × (pick (spells k (part s at p)) (Next p) Fault ≡ Next e) → Stands (Keyword k) (Stops (inClass WordByte)) (drop at s) (drop e s)
-    go (p, w, l) =
-        let q = pick-next (spells k (part s at p)) (Next p) e l in
-        let r = word-sound s at e (w ∙ q .1) in
-        let z : part s at p ≡ r .bytes = ap (part s at) (next-same (q .1)) ∙ r .derives .1 in
-        record { bytes = r .bytes; derives = spells-keyword k (r .bytes) (rw z at (q .0)); split = r .split; stops = r .stops }
+keyword-sound k s at e h = after-next _ _ e h (λ p w l.
+    let q = pick-next (spells k (part s at p)) (Next p) e l in
+    let r = word-sound s at e (w ∙ q .1) in
+    let z : part s at p ≡ r .bytes = ap (part s at) (next-same (q .1)) ∙ r .derives .1 in
+    record { bytes = r .bytes; derives = spells-keyword k (r .bytes) (rw z at (q .0)); split = r .split; stops = r .stops })
 
 -- ---- a keyword of letters is a word
 
