@@ -6,3 +6,4 @@ pub mod FollowLaws
 pub mod WordLaws
 pub mod NameLaws
 pub mod MidLaws
+pub mod ListLaws

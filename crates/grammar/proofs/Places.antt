@@ -152,6 +152,10 @@ module _ (s : List ℕ) where
 
 -- ---- what a reader that succeeded went through: the rest of the proof takes it by names
 
+pub whether : {C : Type 0} (t : Bool) → (t ≡ true → C) → (t ≡ false → C) → C
+whether true f g = f refl
+whether false f g = g refl
+
 pub given : {A C : Type 0} → A → (A → C) → C
 given a f = f a
 
