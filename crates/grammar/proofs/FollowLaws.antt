@@ -13,6 +13,7 @@ use Rattle.megaco.specs.White.{goesOn}
 use Rattle.megaco.specs.declared.Class.the-variants.{WordByte, NameByte, SafeByte}
 use Rattle.grammar.specs.Characters.{WSP, SP, HTAB}
 use Rattle.grammar.specs.Grammar.{EOL, CR, CRLF, LF, COMMENT, comment, Blank, blankWSP, blankCOMMENT, blankEOL, LWSP, noLWSP, moreLWSP, SEP, sep}
+use Rattle.grammar.proofs.Classes.{test-not}
 use Rattle.grammar.proofs.Places.{head}
 use Rattle.grammar.proofs.WhiteLaws.{Solid}
 use Rattle.grammar.proofs.RowLaws.{Stops}
@@ -96,3 +97,21 @@ ends-safe = follow-not (inClass SafeByte) refl
 pub ends-digit : {rest : List ℕ} → Follow ends rest → Stops isDigit rest
 unfolding every has pick isDigit
 ends-digit = follow-not isDigit refl
+
+-- ---- a byte that passes a test which no white space passes begins no white space
+
+solid-of : (t : ℕ → Bool) (b : ℕ) → t 0x20 ≡ false → t 0x09 ≡ false → t 0x0d ≡ false → t 0x0a ≡ false → t 0x3b ≡ false → t b ≡ true → goesOn false b ≡ false
+unfolding goesOn isWhite
+solid-of t b sp tab cr lf co h = rw (test-not t b 0x20 sp h, test-not t b 0x09 tab h, test-not t b 0x0d cr h, test-not t b 0x0a lf h, test-not t b 0x3b co h)
+
+pub letter-solid : (b : ℕ) → isLetter b ≡ true → goesOn false b ≡ false
+unfolding isLetter
+letter-solid b h = solid-of isLetter b refl refl refl refl refl h
+
+pub digit-solid : (b : ℕ) → isDigit b ≡ true → goesOn false b ≡ false
+unfolding isDigit
+digit-solid b h = solid-of isDigit b refl refl refl refl refl h
+
+pub safe-solid : (b : ℕ) → inClass SafeByte b ≡ true → goesOn false b ≡ false
+unfolding inClass isSafe isLetter isDigit
+safe-solid b h = solid-of (inClass SafeByte) b refl refl refl refl refl h

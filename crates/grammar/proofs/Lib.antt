@@ -7,3 +7,4 @@ pub mod WordLaws
 pub mod NameLaws
 pub mod MidLaws
 pub mod ListLaws
+pub mod ItemLaws

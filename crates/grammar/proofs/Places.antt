@@ -32,6 +32,10 @@ regroup5 a b c d e r = simp append-assoc
 pub regroup6 : (a b c d e f r : List ℕ) → (a ++ b ++ c ++ d ++ e ++ f) ++ r ≡ a ++ (b ++ (c ++ (d ++ (e ++ (f ++ r)))))
 regroup6 a b c d e f r = simp append-assoc
 
+-- a part between two signs that have white space before them
+pub regroup-braces : (u a b v c r : List ℕ) → ((u ++ a) ++ b ++ (v ++ c)) ++ r ≡ u ++ (a ++ (b ++ (v ++ (c ++ r))))
+regroup-braces u a b v c r = simp append-assoc
+
 -- ---- bytes from a place on
 
 -- the first byte, 0 if there is none
