@@ -42,6 +42,10 @@ or-only false y e f = absurd (false≢true (sym f ∙ e))
 pub and-both : (x y : Bool) → x ≡ true → y ≡ true → x && y ≡ true
 and-both x y e f = rw (e, f)
 
+pub and-no : (x y : Bool) → y ≡ false → x && y ≡ false
+and-no true y e = e
+and-no false y e = refl
+
 pub and-parts : (x y : Bool) → x && y ≡ true → (x ≡ true) × (y ≡ true)
 and-parts true y e = (refl, e)
 and-parts false y e = absurd (false≢true e)

@@ -115,3 +115,7 @@ digit-solid b h = solid-of isDigit b refl refl refl refl refl h
 pub safe-solid : (b : ℕ) → inClass SafeByte b ≡ true → goesOn false b ≡ false
 unfolding inClass isSafe isLetter isDigit
 safe-solid b h = solid-of (inClass SafeByte) b refl refl refl refl refl h
+
+pub path-solid : (b : ℕ) → inClass NameByte b ≡ true → goesOn false b ≡ false
+unfolding inClass isName isWord isLetter isDigit
+path-solid b h = solid-of (inClass NameByte) b refl refl refl refl refl h

@@ -8,3 +8,4 @@ pub mod NameLaws
 pub mod MidLaws
 pub mod ListLaws
 pub mod ItemLaws
+pub mod CommandLaws

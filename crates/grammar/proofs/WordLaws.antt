@@ -121,7 +121,7 @@ keyword-sound k s at e h = after-next _ _ e h (λ p w l.
 
 -- ---- a keyword of letters is a word
 
-capital-letter : (b : ℕ) → isLetter (capital b) ≡ true → ALPHA b
+pub capital-letter : (b : ℕ) → isLetter (capital b) ≡ true → ALPHA b
 unfolding capital pick
 capital-letter b h = go (leb 0x61 b && leb b 0x7a) refl h
   where
