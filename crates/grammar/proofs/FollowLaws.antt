@@ -12,7 +12,7 @@ use Rattle.megaco.specs.Bytes.{isLetter, isDigit, isWhite, isWord, isName, isSa
 use Rattle.megaco.specs.White.{goesOn}
 use Rattle.megaco.specs.declared.Class.the-variants.{WordByte, NameByte, SafeByte}
 use Rattle.grammar.specs.Characters.{WSP, SP, HTAB}
-use Rattle.grammar.specs.Grammar.{EOL, CR, CRLF, LF, COMMENT, comment, Blank, blankWSP, blankCOMMENT, blankEOL, LWSP, noLWSP, moreLWSP, SEP, sep}
+use Rattle.grammar.specs.Grammar.{EOL, CR, CRLF, LF, COMMENT, comment, Blank, blankWSP, blankCOMMENT, blankEOL, LWSP, noLWSP, moreLWSP, SEP, sep, Around, around}
 use Rattle.grammar.proofs.Classes.{test-not}
 use Rattle.grammar.proofs.Places.{head}
 use Rattle.grammar.proofs.WhiteLaws.{Solid}
@@ -79,6 +79,9 @@ blank-ends rest (blankEOL LF) = record { first = refl }
 pub white-ends : {a rest : List ℕ} → LWSP a → Follow ends rest → Follow ends (a ++ rest)
 white-ends noLWSP h = h
 white-ends {rest} (moreLWSP {a} {b} x w) h = rw (append-assoc a b rest) (blank-ends (b ++ rest) x)
+
+pub around-ends : {sign : ℕ} {a : List ℕ} (rest : List ℕ) → has sign ends ≡ true → Around sign a → Follow ends (a ++ rest)
+around-ends {sign} rest k (around {a} {b} v w) = rw (append-assoc a (sign ∷ b) rest) (white-ends v (record { first = k }))
 
 -- ---- what ends a part belongs to no row
 

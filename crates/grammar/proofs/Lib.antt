@@ -9,3 +9,4 @@ pub mod MidLaws
 pub mod ListLaws
 pub mod ItemLaws
 pub mod CommandLaws
+pub mod PropertyLaws

@@ -22,7 +22,7 @@ use Rattle.grammar.specs.Grammar.{LWSP, noLWSP, Around, around, EQUAL, C
 use Rattle.grammar.proofs.Places.{regroup3, head, Any, Stands, Finds, Gets, finds, gets-here, finds-after, gets-skip, gets-bind, gets-part, behind, isAt-head, isAt-cons, whether, given, fault-got, got-same, skip-got, bind-got, reading-got, after-next}
 use Rattle.grammar.proofs.WhiteLaws.{Solid, white-complete, white-sound}
 use Rattle.grammar.proofs.RowLaws.{Stops, After, afterSign, sign-complete, sign-sound}
-use Rattle.grammar.proofs.FollowLaws.{Follow, ends, signs, closing, follow-not, signs-solid, signs-ends, closing-signs, brace-closing, white-ends, ends-word}
+use Rattle.grammar.proofs.FollowLaws.{Follow, ends, signs, closing, follow-not, signs-solid, signs-ends, closing-signs, brace-closing, around-ends, ends-word}
 use Rattle.grammar.proofs.WordLaws.{word-exact, word-sound, keyword-complete, keyword-sound}
 
 -- ---- a part, and white space after it
@@ -79,9 +79,8 @@ around-sound s b at e z h = after-next _ _ e h (λ p m l.
 
 pub key-complete : (k : Token) (s rest : List ℕ) {a b : List ℕ} (at : ℕ) → Keyword k a → NAME a → EQUAL b → Solid rest → drop at s ≡ a ++ (b ++ rest) → Finds s (keyAt k s at) rest
 unfolding keyAt has pick goesOn isWhite
-key-complete k s rest at x n (around {a} {b} v w) l h =
-    let f : Follow ends (a ++ (equal ∷ b) ++ rest) = rw (append-assoc a (equal ∷ b) rest) (white-ends v (record { first = refl })) in
-    finds-after s _ _ (keyword-complete k s (a ++ (equal ∷ b) ++ rest) at x n (ends-word f) h) (λ p m. around-complete s rest equal p (around v w) refl l m)
+key-complete k s rest at x n y l h =
+    finds-after s _ _ (keyword-complete k s _ at x n (ends-word (around-ends rest refl y)) h) (λ p m. around-complete s rest equal p y refl l m)
 
 pub key-sound : (k : Token) (s : List ℕ) (at e : ℕ) → keyAt k s at ≡ Next e → (a b : List ℕ) × Keyword k a × EQUAL b × (drop at s ≡ a ++ (b ++ drop e s))
 unfolding keyAt
