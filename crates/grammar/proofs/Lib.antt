@@ -10,3 +10,4 @@ pub mod ListLaws
 pub mod ItemLaws
 pub mod CommandLaws
 pub mod PropertyLaws
+pub mod ActionLaws

@@ -1,0 +1,181 @@
+-- Actions are read exactly as the grammar derives them.
+use Prim.Native.Nat.{ℕ, zero, suc, _+_, _-_, _<_, _≤_}
+use mathlib.Core.Path.{_≡_, refl, sym, ap, _∙_}
+use mathlib.Core.Bool.{Bool, true, false, _||_, false≢true}
+use mathlib.Core.List.{List, [], _∷_, _++_, append-assoc}
+use lib.ListN.{length, drop, length-append, length-drop}
+use lib.Dec.{eqb}
+use native.Mathlib.Omega.{arith}
+use Rattle.base.specs.Pick.{pick}
+use Rattle.base.specs.Lists.{isAt, part, every, has, same}
+use Rattle.base.specs.Bytes.{text}
+use Rattle.megaco.specs.Bytes.{comma, leftBrace, rightBrace, dash, dollar, star, isLetter, isDigit, isWord, isWhite, inClass, capital, capitals}
+use Rattle.megaco.specs.White.{goesOn}
+use Rattle.megaco.specs.Keywords.{formsOf, spelt, spells}
+use Rattle.megaco.specs.Tokens.{signAt, numberAt}
+use Rattle.megaco.specs.Tree.{Command, Action, action}
+use Rattle.megaco.specs.Reading.{Read, got, fault, bind, skip, readNumber, spaced, listR, unlimited, keyAt, isProperty, commandR, contextR, wordHere, propertyR, Body, body, withProperty, propertyThen, bodyR, actionOf, actionR}
+use Rattle.megaco.specs.declared.Token.the-variants.{CtxToken, PriorityToken, EmergencyToken}
+use Rattle.megaco.specs.declared.Context.{Context}
+use Rattle.megaco.specs.declared.Context.the-variants.{Null, Numbered, Choose, All}
+use Rattle.megaco.specs.declared.Property.{Property}
+use Rattle.megaco.specs.declared.Class.the-variants.{WordByte}
+use Rattle.megaco.specs.declared.Parsed.the-variants.{Next, Fault}
+use Rattle.grammar.specs.Characters.{Keyword, orAlpha, Many, noMore, andThen}
+use Rattle.grammar.specs.Grammar.{LWSP, noLWSP, Around, around, COMMA, LBRKT, RBRKT, Commas, single, joined, AtMost, atMost, UINT, uint, NAME, name, Prefix, noPrefix, withPrefix, commandRequest, ammRequest, commandRequestList, contextProperty, contextProperties, ContextID, contextNumber, contextAll, contextNull, contextChoose, actionBody, properties, propertiesCommands, commands, actionRequest, inContext}
+use Rattle.grammar.proofs.Classes.{Tests, test-not, digit-tests}
+use Rattle.grammar.proofs.Places.{regroup3, regroup6, regroup-braces, head, Gets, gets-here, gets-skip, gets-bind, gets-number, behind, isAt-head, isAt-cons, whether, given, fault-got, got-same, skip-got, bind-got, number-got}
+use Rattle.grammar.proofs.WhiteLaws.{Solid, white-append, white-sound}
+use Rattle.grammar.proofs.RowLaws.{Stops, After, afterSign, sign-complete, sign-sound, number-complete, number-sound}
+use Rattle.grammar.proofs.FollowLaws.{Follow, ends, signs, closing, follow-not, signs-solid, signs-ends, closing-signs, brace-closing, white-ends, around-ends, ends-word, ends-digit, digit-solid}
+use Rattle.grammar.proofs.WordLaws.{capital-letter, context-name}
+use Rattle.grammar.proofs.ListLaws.{Spaced, gets-spaced, spaced-got, key-complete, key-sound, Complete, Sound, list-complete, list-sound}
+use Rattle.grammar.proofs.ItemLaws.{name-solid}
+use Rattle.grammar.proofs.CommandLaws.{no-property, command-complete, command-sound}
+use Rattle.grammar.proofs.PropertyLaws.{word-here, property-complete, property-word, property-sound}
+
+-- ---- what stands in an action's braces, from its start on
+
+data Listed : List ℕ → List Property → List Command → Type 0 where
+  lastProperty : {a : List ℕ} {p : Property} → contextProperty a p → Listed a (p ∷ []) []
+  nextProperty : {a b c : List ℕ} {p : Property} {ps : List Property} {cs : List Command} → contextProperty a p → COMMA b → Listed c ps cs → Listed (a ++ b ++ c) (p ∷ ps) cs
+  onlyCommands : {a : List ℕ} {cs : List Command} → commandRequestList a cs → Listed a [] cs
+
+listed-properties : {a : List ℕ} {ps : List Property} → contextProperties a ps → Listed a ps []
+listed-properties (single x) = lastProperty x
+listed-properties (joined x c xs) = nextProperty x c (listed-properties xs)
+
+regrouped : (a b c d e : List ℕ) → a ++ b ++ c ++ d ++ e ≡ a ++ b ++ (c ++ d ++ e)
+regrouped a b c d e = simp append-assoc
+
+listed-both : {a b c : List ℕ} {ps : List Property} {cs : List Command} → contextProperties a ps → COMMA b → commandRequestList c cs → Listed (a ++ b ++ c) ps cs
+listed-both (single x) k ys = nextProperty x k (onlyCommands ys)
+listed-both {b} {c} (joined {a} {b = d} {c = e} x i xs) k ys = rw (regrouped a d e b c) (nextProperty x i (listed-both xs k ys))
+
+listed : {a : List ℕ} {ps : List Property} {cs : List Command} → actionBody a ps cs → Listed a ps cs
+listed (properties xs) = listed-properties xs
+listed (propertiesCommands xs k ys) = listed-both xs k ys
+listed (commands ys) = onlyCommands ys
+
+unlisted-next : {a b c : List ℕ} {p : Property} {ps : List Property} {cs : List Command} → contextProperty a p → COMMA b → actionBody c ps cs → actionBody (a ++ b ++ c) (p ∷ ps) cs
+unlisted-next x k (properties xs) = properties (joined x k xs)
+unlisted-next {a} {b} x k (propertiesCommands {a = d} {b = e} {c = f} xs l ys) = rw (← (regrouped a b d e f)) (propertiesCommands (joined x k xs) l ys)
+unlisted-next x k (commands ys) = propertiesCommands (single x) k ys
+
+unlisted : {a : List ℕ} {ps : List Property} {cs : List Command} → Listed a ps cs → actionBody a ps cs
+unlisted (lastProperty x) = properties (single x)
+unlisted (nextProperty x k ys) = unlisted-next x k (unlisted ys)
+unlisted (onlyCommands ys) = commands ys
+
+-- each property takes its comma's room, so there is room for all in the message
+steps : {a : List ℕ} {ps : List Property} {cs : List Command} → Listed a ps cs → ℕ
+steps (lastProperty x) = 1
+steps (nextProperty x k ys) = suc (steps ys)
+steps (onlyCommands ys) = 1
+
+steps-fit : {a : List ℕ} {ps : List Property} {cs : List Command} (y : Listed a ps cs) → steps y ≤ length a + 1
+unfolding steps
+steps-fit (lastProperty x) = omega arith
+steps-fit (nextProperty {a} {c} x (around {a = u} {b = o} i j) ys) =
+    rw (length-append (a ++ (u ++ comma ∷ o)) c, length-append a (u ++ comma ∷ o), length-append u (comma ∷ o)) (omega (arith, steps-fit ys))
+steps-fit (onlyCommands ys) = omega arith
+
+-- ---- a command does not begin with a property's word
+
+prefix-word : (s t : List ℕ) (at b letter : ℕ) → isLetter letter ≡ true → spelt (formsOf PriorityToken) (letter ∷ []) || spelt (formsOf EmergencyToken) (letter ∷ []) ≡ false → capital b ≡ letter → drop at s ≡ b ∷ dash ∷ t → isProperty (wordHere s at) ≡ false
+unfolding inClass isWord isLetter isDigit isProperty spells capitals
+prefix-word s t at b letter l k e h = rw (word-here s (dash ∷ t) at (name (capital-letter b (rw e l)) noMore (omega arith)) refl h, e) k
+
+command-word : (s t : List ℕ) {a : List ℕ} {x : Command} (at : ℕ) → commandRequest a x → drop at s ≡ a ++ t → isProperty (wordHere s at) ≡ false
+unfolding has pick formsOf spelt same isLetter
+command-word s t at (ammRequest {a} {b} {c} {d} {e} {f} (withPrefix {b = g} m) i n np ne j r z) h = prefix-word s _ at g 0x4f refl refl m (h ∙ regroup6 a b c d e f t)
+command-word s t at (ammRequest {a} {b} {c} {d} {e} {f} noPrefix (withPrefix {b = g} m) n np ne j r z) h = prefix-word s _ at g 0x57 refl refl m (h ∙ regroup6 a b c d e f t)
+command-word s t at (ammRequest {a} {b} {c} {d} {e} {f} noPrefix noPrefix n np ne j r z) h =
+    rw (word-here s _ at n (ends-word (around-ends (e ++ (f ++ t)) refl j)) (h ∙ regroup6 a b c d e f t)) (no-property c np ne)
+
+-- ---- the body of an action: complete
+
+module _ (s : List ℕ) where
+  listed-solid : {a : List ℕ} {ps : List Property} {cs : List Command} (t : List ℕ) → Listed a ps cs → Solid (a ++ t)
+  listed-solid t (lastProperty {a} {p} x) = property-complete s .solid a t p x
+  listed-solid t (nextProperty {a} {b} {c} {p} x k ys) = rw (regroup3 a b c t) (property-complete s .solid a (b ++ (c ++ t)) p x)
+  listed-solid t (onlyCommands {a} {cs} ys) = list-complete commandRequest s (commandR s) (command-complete s) 64 .solid a t cs ys
+
+  commands-word : {a : List ℕ} {cs : List Command} (t : List ℕ) (at : ℕ) → commandRequestList a cs → drop at s ≡ a ++ t → isProperty (wordHere s at) ≡ false
+  commands-word t at (atMost (single x) l) h = command-word s t at x h
+  commands-word t at (atMost (joined {a} {b} {c} x k ys) l) h = command-word s _ at x (h ∙ regroup3 a b c t)
+
+  body-reads : (k : ℕ) {a : List ℕ} {ps : List Property} {cs : List Command} (y : Listed a ps cs) → steps y ≤ k → (w rest : List ℕ) (at : ℕ) → LWSP w → Follow (text "}") rest
+      → drop at s ≡ a ++ (w ++ rest) → Gets s (bodyR k s at) (body ps cs) rest
+  unfolding bodyR propertyThen withProperty steps every has pick
+  body-reads zero (lastProperty x) l w rest at v f h = absurd (omega arith)
+  body-reads zero (nextProperty x k ys) l w rest at v f h = absurd (omega arith)
+  body-reads zero (onlyCommands ys) l w rest at v f h = absurd (omega arith)
+  body-reads (suc k) (lastProperty {a} {p} x) l w rest at v f h =
+      rw (property-word s (w ++ rest) at x (white-ends v (signs-ends (closing-signs (brace-closing f)))) h) (
+      gets-bind s p (propertyR s at) _ (property-complete s .reads a w rest p at x v (brace-closing f) h) (λ q m.
+      rw (isAt-head s rest q comma m, follow-not (λ b. eqb b comma) refl f) (gets-here s (body (p ∷ []) []) q rest m)))
+  body-reads (suc k) (nextProperty {a} {c} {p} {ps} {cs} x (around {a = u} {b = o} i j) ys) l w rest at v f h =
+      let t = c ++ (w ++ rest) in
+      let g : drop at s ≡ a ++ (u ++ (comma ∷ o ++ t)) = h ∙ regroup3 a (u ++ comma ∷ o) c (w ++ rest) ∙ ap (λ z. a ++ z) (append-assoc u (comma ∷ o) t) in
+      rw (property-word s _ at x (white-ends i (record { first = refl })) g) (
+      gets-bind s p (propertyR s at) _ (property-complete s .reads a u (comma ∷ o ++ t) p at x i (record { first = refl }) g) (λ q m.
+      rw (isAt-head s (comma ∷ o ++ t) q comma m) (
+      gets-skip s (signAt comma s q) _ (sign-complete s q comma t j (listed-solid (w ++ rest) ys) m) (λ q m.
+      gets-bind s (body ps cs) (bodyR k s q) _ (body-reads k ys (omega arith) w rest q v f m) (λ q m. gets-here s (body (p ∷ ps) cs) q rest m)))))
+  body-reads (suc k) (onlyCommands {a} {cs} ys) l w rest at v f h =
+      rw (commands-word (w ++ rest) at ys h) (
+      gets-bind s cs (listR (commandR s) s 64 at) _ (list-complete commandRequest s (commandR s) (command-complete s) 64 .reads a w rest cs at ys v f h) (λ q m. gets-here s (body [] cs) q rest m))
+
+-- ---- and sound
+
+data BodyOf : List ℕ → Body → Type 0 where
+  bodyOf : {a : List ℕ} {ps : List Property} {cs : List Command} → Listed a ps cs → BodyOf a (body ps cs)
+
+next-body : {a u o c : List ℕ} {x : Property} {b d : Body} → contextProperty a x → LWSP u → After comma o → BodyOf c b → withProperty x b ≡ d → BodyOf (a ++ (u ++ o) ++ c) d
+unfolding withProperty
+next-body x i (afterSign j) (bodyOf y) z = rw (← z) (bodyOf (nextProperty x (around i j) y))
+
+module _ (s : List ℕ) where
+  body-finds : (k : ℕ) (b : Body) (at e : ℕ) → bodyR k s at ≡ got b e → Spaced (λ a. BodyOf a b) (drop at s) (drop e s)
+  unfolding bodyR propertyThen pick
+  body-finds zero b at e h = absurd (fault-got b e h)
+  body-finds (suc k) b at e h = whether (isProperty (wordHere s at))
+      (λ t. bind-got b e (propertyR s at) _ (rw t at h) (λ x p m l. given (property-sound s .finds x at p m) (λ y. whether (isAt s p comma)
+      (λ i. skip-got b e (signAt comma s p) _ (rw i at l) (λ q n l. bind-got b e (bodyR k s q) _ l (λ d f o l. given (got-same b e l) (λ z.
+      given (sign-sound s p comma q (omega arith) n) (λ g. given (body-finds k d q e (o ∙ ap (got d) (z .1))) (λ r. record {
+        bytes = y .bytes ++ (y .white ++ g .bytes) ++ r .bytes;
+        white = r .white;
+        isWhite = r .isWhite;
+        derives = next-body (y .derives) (y .isWhite) (g .derives) (r .derives) (z .0);
+        split = y .split ∙ rw (g .split, r .split) (simp append-assoc);
+      }))))))
+      (λ i. given (got-same b e (rw i at l)) (λ z. record {
+        bytes = y .bytes;
+        white = y .white;
+        isWhite = y .isWhite;
+        derives = rw (← (z .0)) (bodyOf (lastProperty (y .derives)));
+        split = rw (← (z .1)) (y .split);
+      })))))
+      (λ t. bind-got b e (listR (commandR s) s 64 at) _ (rw t at h) (λ cs p m l. given (got-same b e l) (λ z. given (list-sound commandRequest s (commandR s) (command-sound s) 64 .finds cs at p m) (λ y. record {
+        bytes = y .bytes;
+        white = y .white;
+        isWhite = y .isWhite;
+        derives = rw (← (z .0)) (bodyOf (onlyCommands (y .derives)));
+        split = rw (← (z .1)) (y .split);
+      }))))
+
+-- ---- the context
+
+digit-no : (b : ℕ) → isDigit b ≡ true → (eqb b dash ≡ false) × (eqb b dollar ≡ false) × (eqb b star ≡ false)
+unfolding isDigit
+digit-no b h = (test-not isDigit b dash refl h, test-not isDigit b dollar refl h, test-not isDigit b star refl h)
+
+module _ (s : List ℕ) where
+  context-gets : (t : List ℕ) {a : List ℕ} {x : Context} (at : ℕ) → ContextID a x → Stops isDigit t → drop at s ≡ a ++ t → Gets s (contextR s at) x t
+  unfolding contextR pick
+  context-gets t at (contextNumber {n} (uint {b} {bs} d ds m l)) k h = given (digit-no b (digit-tests .passes b d)) (λ q.
+      rw (isAt-head s _ at dash h, isAt-head s _ at dollar h, isAt-head s _ at star h, q .0, q .1, q .2) (gets-number s n _ Numbered (number-complete s t at 10 4294967295 (uint d ds m l) k h)))
+  context-gets t at contextAll k h = rw (isAt-head s _ at dash h, isAt-head s _ at dollar h, isAt-head s _ at star h) (gets-here s All (at + 1) t (behind s (star ∷ []) t at h))
+  context-gets t at contextNull k h = rw (isAt-head s _ at dash h) (gets-here s Null (at + 1) t (behind s (dash ∷ []) t at h))
+  context-gets t at contextChoose k h = rw (isAt-head s _ at dash h, isAt-head s _ at dollar h) (gets-here s Choose (at + 1) t (behind s (dollar ∷ []) t at h))
