@@ -22,9 +22,9 @@ use Rattle.megaco.specs.declared.Property.{Property}
 use Rattle.megaco.specs.declared.Class.the-variants.{WordByte}
 use Rattle.megaco.specs.declared.Parsed.the-variants.{Next, Fault}
 use Rattle.grammar.specs.Characters.{Keyword, orAlpha, Many, noMore, andThen}
-use Rattle.grammar.specs.Grammar.{LWSP, noLWSP, Around, around, COMMA, LBRKT, RBRKT, Commas, single, joined, AtMost, atMost, UINT, uint, NAME, name, Prefix, noPrefix, withPrefix, commandRequest, ammRequest, commandRequestList, contextProperty, contextProperties, ContextID, contextNumber, contextAll, contextNull, contextChoose, actionBody, properties, propertiesCommands, commands, actionRequest, inContext}
+use Rattle.grammar.specs.Grammar.{LWSP, noLWSP, Around, around, EQUAL, COMMA, LBRKT, RBRKT, Commas, single, joined, AtMost, atMost, UINT, uint, NAME, name, Prefix, noPrefix, withPrefix, commandRequest, ammRequest, commandRequestList, contextProperty, contextProperties, ContextID, contextNumber, contextAll, contextNull, contextChoose, actionBody, properties, propertiesCommands, commands, actionRequest, inContext}
 use Rattle.grammar.proofs.Classes.{Tests, test-not, digit-tests}
-use Rattle.grammar.proofs.Places.{regroup3, regroup6, regroup-braces, head, Gets, gets-here, gets-skip, gets-bind, gets-number, behind, isAt-head, isAt-cons, whether, given, fault-got, got-same, skip-got, bind-got, number-got}
+use Rattle.grammar.proofs.Places.{regroup3, regroup6, regroup-request, head, Any, Stands, Gets, gets-here, gets-skip, gets-bind, gets-number, behind, part-fits, isAt-head, isAt-cons, whether, given, fault-got, got-same, skip-got, bind-got, number-got}
 use Rattle.grammar.proofs.WhiteLaws.{Solid, white-append, white-sound}
 use Rattle.grammar.proofs.RowLaws.{Stops, After, afterSign, sign-complete, sign-sound, number-complete, number-sound}
 use Rattle.grammar.proofs.FollowLaws.{Follow, ends, signs, closing, follow-not, signs-solid, signs-ends, closing-signs, brace-closing, white-ends, around-ends, ends-word, ends-digit, digit-solid}
@@ -32,7 +32,7 @@ use Rattle.grammar.proofs.WordLaws.{capital-letter, context-name}
 use Rattle.grammar.proofs.ListLaws.{Spaced, gets-spaced, spaced-got, key-complete, key-sound, Complete, Sound, list-complete, list-sound}
 use Rattle.grammar.proofs.ItemLaws.{name-solid}
 use Rattle.grammar.proofs.CommandLaws.{no-property, command-complete, command-sound}
-use Rattle.grammar.proofs.PropertyLaws.{word-here, property-complete, property-word, property-sound}
+use Rattle.grammar.proofs.PropertyLaws.{word-here, uint-solid, property-complete, property-word, property-sound}
 
 -- ---- what stands in an action's braces, from its start on
 
@@ -179,3 +179,71 @@ module _ (s : List ℕ) where
   context-gets t at contextAll k h = rw (isAt-head s _ at dash h, isAt-head s _ at dollar h, isAt-head s _ at star h) (gets-here s All (at + 1) t (behind s (star ∷ []) t at h))
   context-gets t at contextNull k h = rw (isAt-head s _ at dash h) (gets-here s Null (at + 1) t (behind s (dash ∷ []) t at h))
   context-gets t at contextChoose k h = rw (isAt-head s _ at dash h, isAt-head s _ at dollar h) (gets-here s Choose (at + 1) t (behind s (dollar ∷ []) t at h))
+
+  context-solid : {a : List ℕ} {x : Context} (t : List ℕ) → ContextID a x → Solid (a ++ t)
+  unfolding goesOn isWhite
+  context-solid t (contextNumber d) = uint-solid t d
+  context-solid t contextAll = refl
+  context-solid t contextNull = refl
+  context-solid t contextChoose = refl
+
+  context-sound : (x : Context) (at e : ℕ) → contextR s at ≡ got x e → Stands (λ a. ContextID a x) Any (drop at s) (drop e s)
+  unfolding contextR pick
+  context-sound x at e h = whether (isAt s at dash) (λ t. one dash Null (omega arith) contextNull t (rw t at h)) (λ t.
+      given (rw t at h) (λ h. whether (isAt s at dollar) (λ t. one dollar Choose (omega arith) contextChoose t (rw t at h)) (λ t.
+      given (rw t at h) (λ h. whether (isAt s at star) (λ t. one star All (omega arith) contextAll t (rw t at h)) (λ t.
+      number-got x e (numberAt s at 10 4294967295) Numbered (rw t at h) (λ v m z. given (number-sound s at 10 4294967295 v e m) (λ y. record {
+        bytes = y .bytes;
+        derives = rw (← z) (contextNumber (y .derives));
+        split = y .split;
+        stops = tt;
+      })))))))
+    where
+      one : (b : ℕ) (y : Context) → 0 < b → ContextID (b ∷ []) y → isAt s at b ≡ true → got y (at + 1) ≡ got x e → Stands (λ a. ContextID a x) Any (drop at s) (drop e s)
+      one b y z d t l = given (got-same x e l) (λ q. record { bytes = b ∷ []; derives = rw (q .0) at d; split = rw (← (q .1)) (isAt-cons s at b z t); stops = tt })
+
+  -- ---- actions
+
+  action-reads : (w rest : List ℕ) {a : List ℕ} {x : Action} (at : ℕ) → actionRequest a x → LWSP w → Follow closing rest → drop at s ≡ a ++ (w ++ rest) → Gets s (actionR s at) x rest
+  unfolding actionR actionOf unlimited has pick goesOn isWhite
+  action-reads w rest at (inContext {a} {b} {c} {e} {x} {ps} {cs} k q d (around {a = u₁} {b = v₁} i₁ j₁) y (around {a = u₂} {b = v₂} i₂ j₂)) v f h =
+      let t₃ = rightBrace ∷ v₂ ++ (w ++ rest) in
+      let t₂ = e ++ (u₂ ++ t₃) in
+      let t₁ = leftBrace ∷ v₁ ++ t₂ in
+      let g : drop at s ≡ a ++ (b ++ (c ++ (u₁ ++ t₁))) = h ∙ regroup-request a b c u₁ (leftBrace ∷ v₁) e u₂ (rightBrace ∷ v₂) (w ++ rest) in
+      gets-skip s (keyAt CtxToken s at) _ (key-complete CtxToken s (c ++ (u₁ ++ t₁)) at k (context-name k) q (context-solid (u₁ ++ t₁) d) g) (λ p m.
+      gets-bind s x _ _ (gets-spaced s {w = u₁} _ (context-gets (u₁ ++ t₁) p d (ends-digit (white-ends i₁ (record { first = refl }))) m) i₁ refl) (λ p m.
+      gets-skip s (signAt leftBrace s p) _ (sign-complete s p leftBrace t₂ j₁ (listed-solid s (u₂ ++ t₃) (listed y)) m) (λ p m.
+      gets-bind s (body ps cs) (bodyR (length s + 1) s p) _ (body-reads s (length s + 1) (listed y) (omega (arith, steps-fit (listed y), part-fits s e (u₂ ++ t₃) p m)) u₂ t₃ p i₂ (record { first = refl }) m) (λ p m.
+      gets-skip s (signAt rightBrace s p) _ (sign-complete s p rightBrace rest (white-append j₂ v) (signs-solid (closing-signs f)) (m ∙ sym (append-assoc (rightBrace ∷ v₂) w rest))) (λ p m.
+      gets-here s (action x ps cs) p rest m)))))
+
+  action-solid : {a : List ℕ} {x : Action} (t : List ℕ) → actionRequest a x → Solid (a ++ t)
+  action-solid t (inContext {a} {b} {c} {d} {e} {f} k q i l y r) = rw (regroup6 a b c d e f t) (name-solid _ (context-name k))
+
+  pub action-complete : Complete actionRequest closing s (actionR s)
+  action-complete = record { solid = λ a t x y. action-solid t y; reads = λ a w rest x at y v f h. action-reads w rest at y v f h }
+
+  action-of : {a b c u d e v f : List ℕ} {x : Context} {y : Body} {z : Action} → Keyword CtxToken a → EQUAL b → ContextID c x → LWSP u → After leftBrace d → BodyOf e y → LWSP v → After rightBrace f
+      → actionOf x y ≡ z → actionRequest (a ++ b ++ c ++ (u ++ d) ++ e ++ (v ++ f)) z
+  unfolding actionOf
+  action-of k q i u (afterSign d) (bodyOf y) v (afterSign f) z = rw (← z) (inContext k q i (around u d) (unlisted y) (around v f))
+
+  pub action-sound : Sound actionRequest s (actionR s)
+  unfolding actionR
+  action-sound = record {
+    finds = λ x at e h.
+        skip-got x e (keyAt CtxToken s at) _ h (λ p m l. bind-got x e _ _ l (λ c q n l. skip-got x e (signAt leftBrace s q) _ l (λ r o l. bind-got x e (bodyR (unlimited s) s r) _ l (λ b t g l.
+        skip-got x e (signAt rightBrace s t) _ l (λ f k l. given (got-same x e l) (λ z.
+        given (key-sound CtxToken s at p m) (λ y₁.
+        spaced-got s c q _ n (λ n w d. given (context-sound c p n w) (λ y₂. given (white-sound s n q d) (λ y₃.
+        given (sign-sound s q leftBrace r (omega arith) o) (λ y₄.
+        given (body-finds s (unlimited s) b r t g) (λ y₅.
+        given (sign-sound s t rightBrace e (omega arith) (k ∙ ap Next (z .1))) (λ y₆. record {
+          bytes = y₁ .0 ++ y₁ .1 ++ y₂ .bytes ++ (y₃ .bytes ++ y₄ .bytes) ++ y₅ .bytes ++ (y₅ .white ++ y₆ .bytes);
+          white = [];
+          derives = action-of (y₁ .2) (y₁ .3) (y₂ .derives) (y₃ .derives) (y₄ .derives) (y₅ .derives) (y₅ .isWhite) (y₆ .derives) (z .0);
+          isWhite = noLWSP;
+          split = y₁ .4 ∙ rw (y₂ .split, y₃ .split, y₄ .split, y₅ .split, y₆ .split) (simp append-assoc);
+        })))))))))))));
+  }

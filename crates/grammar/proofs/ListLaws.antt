@@ -19,7 +19,7 @@ use Rattle.megaco.specs.declared.Parsed.{Parsed}
 use Rattle.megaco.specs.declared.Parsed.the-variants.{Next, Fault}
 use Rattle.grammar.specs.Characters.{Keyword}
 use Rattle.grammar.specs.Grammar.{LWSP, noLWSP, Around, around, EQUAL, COMMA, Commas, single, joined, AtMost, atMost, NAME}
-use Rattle.grammar.proofs.Places.{regroup3, head, Any, Stands, Finds, Gets, finds, gets-here, finds-after, gets-skip, gets-bind, gets-part, behind, isAt-head, isAt-cons, whether, given, fault-got, got-same, skip-got, bind-got, reading-got, after-next}
+use Rattle.grammar.proofs.Places.{regroup3, head, Any, Stands, Finds, Gets, finds, gets-here, finds-after, gets-skip, gets-bind, gets-part, part-fits, isAt-head, isAt-cons, whether, given, fault-got, got-same, skip-got, bind-got, reading-got, after-next}
 use Rattle.grammar.proofs.WhiteLaws.{Solid, white-complete, white-sound}
 use Rattle.grammar.proofs.RowLaws.{Stops, After, afterSign, sign-complete, sign-sound}
 use Rattle.grammar.proofs.FollowLaws.{Follow, ends, signs, closing, follow-not, signs-solid, signs-ends, closing-signs, brace-closing, around-ends, ends-word}
@@ -142,8 +142,7 @@ module _ {A : Type 0} (X : List ℕ → A → Type 0) (s : List ℕ) (r : ℕ �
   list-complete-all c = record {
     solid = λ a t xs ys. commas-solid c t ys;
     reads = λ a w rest xs at ys v f h.
-        let n : length s - at ≡ length a + length (w ++ rest) = sym (length-drop at s) ∙ ap length h ∙ length-append a (w ++ rest) in
-        list-reads c (length s + 1) ys (omega (arith, commas-long ys)) w rest at v f h;
+        list-reads c (length s + 1) ys (omega (arith, commas-long ys, part-fits s a (w ++ rest) at h)) w rest at v f h;
   }
 
   -- ---- and back

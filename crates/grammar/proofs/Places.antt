@@ -3,7 +3,7 @@ use Prim.Native.Nat.{ℕ, zero, suc, _+_, _-_, _<_, _≤_}
 use mathlib.Core.Path.{_≡_, refl, sym, ap, _∙_}
 use mathlib.Core.Bool.{Bool, true, false}
 use mathlib.Core.List.{List, [], _∷_, _++_, append-assoc}
-use lib.ListN.{length, getD, take, drop}
+use lib.ListN.{length, getD, take, drop, length-append, length-drop}
 use lib.Seq.{drop-drop, drop-append-seam, take-append-seam}
 use lib.Dec.{eqb}
 use borrow.Author.Tests.{eqb-true, eq-eqb, ne-eqb}
@@ -36,6 +36,10 @@ regroup6 a b c d e f r = simp append-assoc
 pub regroup-braces : (u a b v c r : List ℕ) → ((u ++ a) ++ b ++ (v ++ c)) ++ r ≡ u ++ (a ++ (b ++ (v ++ (c ++ r))))
 regroup-braces u a b v c r = simp append-assoc
 
+-- a keyword, `=` and a part before them
+pub regroup-request : (a b c u d e v f r : List ℕ) → (a ++ b ++ c ++ (u ++ d) ++ e ++ (v ++ f)) ++ r ≡ a ++ (b ++ (c ++ (u ++ (d ++ (e ++ (v ++ (f ++ r)))))))
+regroup-request a b c u d e v f r = simp append-assoc
+
 -- ---- bytes from a place on
 
 -- the first byte, 0 if there is none
@@ -55,6 +59,10 @@ behind s a rest at h = sym (drop-drop (length a) at s) ∙ rw h (drop-append-sea
 
 pub behind-at : (s a rest : List ℕ) (at e : ℕ) → e ≡ at + length a → drop at s ≡ a ++ rest → drop e s ≡ rest
 behind-at s a rest at e l h = rw l (behind s a rest at h)
+
+-- a part is no longer than the message
+pub part-fits : (s a t : List ℕ) (at : ℕ) → drop at s ≡ a ++ t → length a ≤ length s
+part-fits s a t at h = omega (arith, sym (length-drop at s) ∙ ap length h ∙ length-append a t)
 
 -- the part itself
 pub part-is : (s a rest : List ℕ) (at : ℕ) → drop at s ≡ a ++ rest → part s at (at + length a) ≡ a

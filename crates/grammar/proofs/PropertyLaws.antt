@@ -57,7 +57,7 @@ priority-only a x = spelling-apart (formsOf EmergencyToken) x refl
 
 -- ---- complete
 
-uint-solid : {most limit v : ℕ} {a : List ℕ} (t : List ℕ) → UINT most limit a v → Solid (a ++ t)
+pub uint-solid : {most limit v : ℕ} {a : List ℕ} (t : List ℕ) → UINT most limit a v → Solid (a ++ t)
 uint-solid t (uint {b} d ds m l) = digit-solid b (digit-tests .passes b d)
 
 module _ (s : List ℕ) where
