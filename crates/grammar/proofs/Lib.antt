@@ -11,3 +11,4 @@ pub mod ItemLaws
 pub mod CommandLaws
 pub mod PropertyLaws
 pub mod ActionLaws
+pub mod HeaderLaws

@@ -1,2 +1,3 @@
 pub mod Characters
 pub mod Grammar
+pub mod Faults
