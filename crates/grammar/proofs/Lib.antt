@@ -12,3 +12,4 @@ pub mod CommandLaws
 pub mod PropertyLaws
 pub mod ActionLaws
 pub mod HeaderLaws
+pub mod TransactionLaws
