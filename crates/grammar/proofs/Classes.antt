@@ -12,6 +12,7 @@ use Rattle.base.specs.Pick.{pick}
 use Rattle.base.specs.Lists.{every, has}
 use Rattle.base.specs.Bytes.{text}
 use Rattle.megaco.specs.Bytes.{isLetter, isDigit, isWhite, isLineEnd, isComment, isWord, isName, isSafe, isRest, isQuoted, isDomain, inClass}
+use Rattle.megaco.specs.White.{goesOn}
 use Rattle.megaco.specs.declared.Class.{Class}
 use Rattle.megaco.specs.declared.Class.the-variants.{WordByte, NameByte, SafeByte, QuotedByte, DomainByte}
 use Rattle.grammar.specs.Characters.{ALPHA, upper, lower, DIGIT, digit, AlphaDigitOr, orAlpha, orDigit, orMark, SafeChar, RestChar, restMark, WSP, SP, HTAB, QuotedChar, quotedSafe, quotedRest, quotedWSP, CommentChar, commentChar, commentQuote}
@@ -261,3 +262,15 @@ comment-tests = record { passes = is; tells = λ b h. so b (or-true _ _ (sym (sa
     so : (b : ℕ) → (isQuoted b ≡ true) ⊎ (eqb b 0x22 ≡ true) → CommentChar b
     so b (inl h) = commentChar (quoted-tests .tells b h)
     so b (inr h) = rw (eqb-true b 0x22 h) commentQuote
+
+-- the bytes that a digit, and white space or a comment, begin with
+pub digit-has : (b : ℕ) → isDigit b ≡ has b (text "0123456789")
+unfolding isDigit has every pick
+digit-has = agree isDigit (λ b. has b (text "0123456789")) low-digit (λ b. low-has (text "0123456789") b refl) refl
+
+pub white-has : (b : ℕ) → goesOn false b ≡ has b (text " \t\r\n;")
+unfolding goesOn isWhite has every pick
+white-has = agree (goesOn false) (λ b. has b (text " \t\r\n;")) low-white (λ b. low-has (text " \t\r\n;") b refl) refl
+  where
+    low-white : Low (goesOn false)
+    low-white b = mark b 0x20 (omega arith) or mark b 0x09 (omega arith) or mark b 0x0d (omega arith) or mark b 0x0a (omega arith) or mark b 0x3b (omega arith)

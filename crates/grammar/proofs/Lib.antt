@@ -13,3 +13,4 @@ pub mod PropertyLaws
 pub mod ActionLaws
 pub mod HeaderLaws
 pub mod TransactionLaws
+pub mod OutcomeLaws

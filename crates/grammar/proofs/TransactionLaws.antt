@@ -35,7 +35,7 @@ use Rattle.grammar.proofs.ActionLaws.{action-complete, action-sound}
 
 -- ---- from behind the opening brace through the closing one
 
-closed-split : (a b c t : List ℕ) → (a ++ b ++ (c ++ rightBrace ∷ [])) ++ t ≡ a ++ (b ++ (c ++ rightBrace ∷ t))
+pub closed-split : (a b c t : List ℕ) → (a ++ b ++ (c ++ rightBrace ∷ [])) ++ t ≡ a ++ (b ++ (c ++ rightBrace ∷ t))
 closed-split a b c t = regroup3 a b (c ++ rightBrace ∷ []) t ∙ ap (λ r. a ++ (b ++ r)) (append-assoc c (rightBrace ∷ []) t)
 
 module _ (s : List ℕ) where
