@@ -14,3 +14,4 @@ pub mod ActionLaws
 pub mod HeaderLaws
 pub mod TransactionLaws
 pub mod OutcomeLaws
+pub mod FaultLaws

@@ -64,7 +64,7 @@ module _ (t : ℕ → Bool) (bytes : List ℕ) (same : (b : ℕ) → t b ≡ has
   without-stops ended = ends
   without-stops (begun {b} h) = same b ∙ h
 
-digit-0 : isDigit 0 ≡ false
+pub digit-0 : isDigit 0 ≡ false
 unfolding isDigit
 digit-0 = refl
 
@@ -96,7 +96,7 @@ outcome-next y other = other
 outcome-last : {k : ℕ} {from : List ℕ} {x : Transaction} → Stands (λ a. transactionRequest a x) Solid from [] → Outcome (suc k) from (wellFormed (x ∷ []))
 outcome-last {k} y = rw (y .split, append-nil) (reads {k = suc k} (lastRequest (y .derives)) (omega arith))
 
-opening-split : (a b c d t : List ℕ) → a ++ b ++ c ++ (d ++ leftBrace ∷ []) ++ t ≡ a ++ (b ++ (c ++ (d ++ leftBrace ∷ t)))
+pub opening-split : (a b c d t : List ℕ) → a ++ b ++ c ++ (d ++ leftBrace ∷ []) ++ t ≡ a ++ (b ++ (c ++ (d ++ leftBrace ∷ t)))
 opening-split a b c d t = regroup4 a b c (d ++ leftBrace ∷ []) t ∙ ap (λ r. a ++ (b ++ (c ++ r))) (append-assoc d (leftBrace ∷ []) t)
 
 pub outcome : (s : List ℕ) (k at : ℕ) → Outcome k (drop at s) (transactionsR k s at)

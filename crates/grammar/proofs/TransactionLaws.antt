@@ -105,7 +105,7 @@ transaction-complete s t at (withActions {a} {b} {c} {e} {id} {xs} k q n (around
 pub trans-solid : {a : List ℕ} {x : Transaction} (t : List ℕ) → transactionRequest a x → Solid (a ++ t)
 trans-solid t (withActions {a} {b} {c} {d} {e} {f} k q n i y j) = rw (regroup6 a b c d e f t) (name-solid _ (trans-name k))
 
-trans-long : {a : List ℕ} {x : Transaction} (t : List ℕ) → transactionRequest a x → 0 < length (a ++ t)
+pub trans-long : {a : List ℕ} {x : Transaction} (t : List ℕ) → transactionRequest a x → 0 < length (a ++ t)
 trans-long t (withActions {a} {b} {c} {d} {e} {f} k q n i y j) = rw (regroup6 a b c d e f t) (long _ (trans-name k))
   where
     long : {a : List ℕ} (t : List ℕ) → NAME a → 0 < length (a ++ t)
