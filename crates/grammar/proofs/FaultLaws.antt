@@ -57,17 +57,18 @@ bad-complete s k at (zeroIdentifier {a} {b} {c} {t} x e n w) h =
     given (number-complete s t (p .end) 10 4294967295 n (without-stops isDigit (text "0123456789") digit-has digit-0 w) (p .leaves)) (λ q.
     rw (p .is, q .is)))
 
+-- whole transactions and a bad one
+pub whole-solid : {n id : ℕ} {w c : List ℕ} → Whole n w → BadTransaction c id → Solid (w ++ c)
+whole-solid noneWhole x = bad-solid x
+whole-solid {c} (oneMore {a} {b} y w) x = rw (append-assoc a b c) (trans-solid (b ++ c) y)
+
+whole-long : {n id : ℕ} {w c : List ℕ} → Whole n w → BadTransaction c id → 0 < length (w ++ c)
+whole-long noneWhole x = bad-long x
+whole-long {c} (oneMore {a} {b} y w) x = rw (append-assoc a b c) (trans-long (b ++ c) y)
+
 pub whole-bad : (s : List ℕ) (k : ℕ) {n id : ℕ} {w c : List ℕ} (at : ℕ) → Whole n w → n < k → BadTransaction c id → drop at s ≡ w ++ c → transactionsR k s at ≡ fault403 id
 unfolding endOr followed pick
 whole-bad s zero at w l x h = absurd (omega arith)
 whole-bad s (suc k) at noneWhole l x h = bad-complete s k at x h
 whole-bad s (suc k) {c} at (oneMore {a} {b} y w) l x h = given (transaction-complete s (b ++ c) at y (whole-solid w x) (h ∙ append-assoc a b c)) (λ r.
     r .is k ∙ rw (more-of s (b ++ c) (r .end) (r .leaves) (whole-long w x), whole-bad s k (r .end) w (omega arith) x (r .leaves)))
-  where
-    whole-solid : {n id : ℕ} {w c : List ℕ} → Whole n w → BadTransaction c id → Solid (w ++ c)
-    whole-solid noneWhole x = bad-solid x
-    whole-solid {c} (oneMore {a} {b} y w) x = rw (append-assoc a b c) (trans-solid (b ++ c) y)
-
-    whole-long : {n id : ℕ} {w c : List ℕ} → Whole n w → BadTransaction c id → 0 < length (w ++ c)
-    whole-long noneWhole x = bad-long x
-    whole-long {c} (oneMore {a} {b} y w) x = rw (append-assoc a b c) (trans-long (b ++ c) y)

@@ -15,3 +15,4 @@ pub mod HeaderLaws
 pub mod TransactionLaws
 pub mod OutcomeLaws
 pub mod FaultLaws
+pub mod Theorems

@@ -111,7 +111,7 @@ trans-long t (withActions {a} {b} {c} {d} {e} {f} k q n i y j) = rw (regroup6 a 
     long : {a : List ℕ} (t : List ℕ) → NAME a → 0 < length (a ++ t)
     long t (name h m l) = omega arith
 
-list-solid : {a : List ℕ} {xs : List Transaction} → transactionList a xs → Solid a
+pub list-solid : {a : List ℕ} {xs : List Transaction} → transactionList a xs → Solid a
 list-solid (lastRequest {a} x) = rw append-nil at (trans-solid [] x)
 list-solid (nextRequest {b} x xs) = trans-solid b x
 
