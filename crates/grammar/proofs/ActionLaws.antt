@@ -1,33 +1,32 @@
 -- Actions are read exactly as the grammar derives them.
-use Prim.Native.Nat.{ℕ, zero, suc, _+_, _-_, _<_, _≤_}
+use Prim.Native.Nat.{ℕ, zero, suc, _+_, _<_, _≤_}
 use mathlib.Core.Path.{_≡_, refl, sym, ap, _∙_}
-use mathlib.Core.Bool.{Bool, true, false, _||_, false≢true}
+use mathlib.Core.Bool.{true, false, _||_}
 use mathlib.Core.List.{List, [], _∷_, _++_, append-assoc}
-use lib.ListN.{length, drop, length-append, length-drop}
+use lib.ListN.{length, drop, length-append}
 use lib.Dec.{eqb}
 use native.Mathlib.Omega.{arith}
 use Rattle.base.specs.Pick.{pick}
-use Rattle.base.specs.Lists.{isAt, part, every, has, same}
+use Rattle.base.specs.Lists.{isAt, every, has, same}
 use Rattle.base.specs.Bytes.{text}
 use Rattle.megaco.specs.Bytes.{comma, leftBrace, rightBrace, dash, dollar, star, isLetter, isDigit, isWord, isWhite, inClass, capital, capitals}
 use Rattle.megaco.specs.White.{goesOn}
 use Rattle.megaco.specs.Keywords.{formsOf, spelt, spells}
 use Rattle.megaco.specs.Tokens.{signAt, numberAt}
 use Rattle.megaco.specs.Tree.{Command, Action, action}
-use Rattle.megaco.specs.Reading.{Read, got, fault, bind, skip, readNumber, spaced, listR, unlimited, keyAt, isProperty, commandR, contextR, wordHere, propertyR, Body, body, withProperty, propertyThen, bodyR, actionOf, actionR}
+use Rattle.megaco.specs.Reading.{got, listR, unlimited, keyAt, isProperty, commandR, contextR, wordHere, propertyR, Body, body, withProperty, propertyThen, bodyR, actionOf, actionR}
 use Rattle.megaco.specs.declared.Token.the-variants.{CtxToken, PriorityToken, EmergencyToken}
 use Rattle.megaco.specs.declared.Context.{Context}
 use Rattle.megaco.specs.declared.Context.the-variants.{Null, Numbered, Choose, All}
 use Rattle.megaco.specs.declared.Property.{Property}
-use Rattle.megaco.specs.declared.Class.the-variants.{WordByte}
-use Rattle.megaco.specs.declared.Parsed.the-variants.{Next, Fault}
-use Rattle.grammar.specs.Characters.{Keyword, orAlpha, Many, noMore, andThen}
-use Rattle.grammar.specs.Grammar.{LWSP, noLWSP, Around, around, EQUAL, COMMA, LBRKT, RBRKT, Commas, single, joined, AtMost, atMost, UINT, uint, NAME, name, Prefix, noPrefix, withPrefix, commandRequest, ammRequest, commandRequestList, contextProperty, contextProperties, ContextID, contextNumber, contextAll, contextNull, contextChoose, actionBody, properties, propertiesCommands, commands, actionRequest, inContext}
-use Rattle.grammar.proofs.Classes.{Tests, test-not, digit-tests}
-use Rattle.grammar.proofs.Places.{regroup3, regroup6, regroup-request, head, Any, Stands, Gets, gets-here, gets-skip, gets-bind, gets-number, behind, part-fits, isAt-head, isAt-cons, whether, given, fault-got, got-same, skip-got, bind-got, number-got}
+use Rattle.megaco.specs.declared.Parsed.the-variants.{Next}
+use Rattle.grammar.specs.Characters.{Keyword, noMore}
+use Rattle.grammar.specs.Grammar.{LWSP, noLWSP, around, EQUAL, COMMA, single, joined, atMost, uint, name, noPrefix, withPrefix, commandRequest, ammRequest, commandRequestList, contextProperty, contextProperties, ContextID, contextNumber, contextAll, contextNull, contextChoose, actionBody, properties, propertiesCommands, commands, actionRequest, inContext}
+use Rattle.grammar.proofs.Classes.{test-not, digit-tests}
+use Rattle.grammar.proofs.Places.{regroup3, regroup6, regroup-request, Any, Stands, Gets, gets-here, gets-skip, gets-bind, gets-number, behind, part-fits, isAt-head, isAt-cons, whether, given, fault-got, got-same, skip-got, bind-got, number-got}
 use Rattle.grammar.proofs.WhiteLaws.{Solid, white-append, white-sound}
 use Rattle.grammar.proofs.RowLaws.{Stops, After, afterSign, sign-complete, sign-sound, number-complete, number-sound}
-use Rattle.grammar.proofs.FollowLaws.{Follow, ends, signs, closing, follow-not, signs-solid, signs-ends, closing-signs, brace-closing, white-ends, around-ends, ends-word, ends-digit, digit-solid}
+use Rattle.grammar.proofs.FollowLaws.{Follow, closing, follow-not, signs-solid, signs-ends, closing-signs, brace-closing, white-ends, around-ends, ends-word, ends-digit}
 use Rattle.grammar.proofs.WordLaws.{capital-letter, context-name}
 use Rattle.grammar.proofs.ListLaws.{Spaced, gets-spaced, spaced-got, key-complete, key-sound, Complete, Sound, list-complete, list-sound}
 use Rattle.grammar.proofs.ItemLaws.{name-solid}

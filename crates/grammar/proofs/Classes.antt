@@ -1,21 +1,20 @@
 -- The characters of the grammar are those that reading tests for: Annex B's lists of marks against the ranges of the definition.
-use Prim.Native.Nat.{ℕ, zero, suc, _<_, _≤_}
+use Prim.Native.Nat.{ℕ, zero, suc, _<_}
 use mathlib.Core.Path.{_≡_, refl, sym, _∙_}
 use mathlib.Core.Logic.{_⊎_, inl, inr}
-use mathlib.Core.Bool.{Bool, true, false, not, _&&_, _||_, Bool·beq, false≢true}
+use mathlib.Core.Bool.{Bool, true, false, _&&_, _||_, Bool·beq, false≢true}
 use mathlib.Core.List.{List, [], _∷_}
 use lib.Dec.{leb, ltb, eqb}
-use borrow.Author.Tests.{leb-true, ltb-true, eqb-true, le-leb, eq-eqb, ne-eqb}
+use borrow.Author.Tests.{leb-true, ltb-true, eqb-true, le-leb, ne-eqb}
 use native.Mathlib.Omega.{arith}
 use native.Mathlib.Decide.{decLt}
 use Rattle.base.specs.Pick.{pick}
 use Rattle.base.specs.Lists.{every, has}
 use Rattle.base.specs.Bytes.{text}
-use Rattle.megaco.specs.Bytes.{isLetter, isDigit, isWhite, isLineEnd, isComment, isWord, isName, isSafe, isRest, isQuoted, isDomain, inClass}
+use Rattle.megaco.specs.Bytes.{isLetter, isDigit, isWhite, isComment, isWord, isName, isSafe, isRest, isQuoted, isDomain, inClass}
 use Rattle.megaco.specs.White.{goesOn}
-use Rattle.megaco.specs.declared.Class.{Class}
 use Rattle.megaco.specs.declared.Class.the-variants.{WordByte, NameByte, SafeByte, QuotedByte, DomainByte}
-use Rattle.grammar.specs.Characters.{ALPHA, upper, lower, DIGIT, digit, AlphaDigitOr, orAlpha, orDigit, orMark, SafeChar, RestChar, restMark, WSP, SP, HTAB, QuotedChar, quotedSafe, quotedRest, quotedWSP, CommentChar, commentChar, commentQuote}
+use Rattle.grammar.specs.Characters.{ALPHA, upper, lower, DIGIT, digit, AlphaDigitOr, orAlpha, orDigit, orMark, SafeChar, RestChar, restMark, SP, HTAB, QuotedChar, quotedSafe, quotedRest, quotedWSP, CommentChar, commentChar, commentQuote}
 
 -- a test that tells the characters of a kind
 pub record Tests (X : ℕ → Type 0) (t : ℕ → Bool) : Type 0 where

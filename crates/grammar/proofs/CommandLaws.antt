@@ -1,39 +1,37 @@
 -- Commands are read exactly as the grammar derives them.
-use Prim.Native.Nat.{ℕ, zero, suc, _+_, _-_, _<_, _≤_}
+use Prim.Native.Nat.{ℕ, _+_}
 use mathlib.Core.Path.{_≡_, refl, sym, ap, _∙_}
-use mathlib.Core.Bool.{Bool, true, false, _&&_, _||_, false≢true}
+use mathlib.Core.Bool.{Bool, true, false, _&&_, false≢true}
 use mathlib.Core.List.{List, [], _∷_, _++_, append-assoc}
-use mathlib.Core.Option.{Option, none, some}
-use lib.ListN.{length, getD, drop}
+use lib.ListN.{drop}
 use lib.Seq.{drop-drop}
 use lib.Dec.{eqb}
 use borrow.Author.Tests.{eqb-true, eq-eqb}
 use native.Mathlib.Omega.{arith}
-use native.Mathlib.Nat.{add-assoc}
 use Rattle.base.specs.Pick.{pick}
-use Rattle.base.specs.Lists.{isAt, part, every, has}
+use Rattle.base.specs.Lists.{part, every, has}
 use Rattle.base.specs.Bytes.{text}
-use Rattle.megaco.specs.Bytes.{equal, dash, dollar, star, isLetter, isDigit, isWord, isWhite, inClass, capital}
-use Rattle.megaco.specs.White.{goesOn, whiteAt}
+use Rattle.megaco.specs.Bytes.{equal, dash, isLetter, isDigit, isWord, isWhite, inClass, capital}
+use Rattle.megaco.specs.White.{goesOn}
 use Rattle.megaco.specs.Keywords.{spells}
 use Rattle.megaco.specs.Tokens.{signAt, terminationAt}
-use Rattle.megaco.specs.Tree.{Items, Command, command}
-use Rattle.megaco.specs.Reading.{Read, got, fault, bind, skip, reading, spaced, wordR, bracesR, itemsR, prefixAt, prefixEnd, isProperty, orderR, commandR}
+use Rattle.megaco.specs.Tree.{Command}
+use Rattle.megaco.specs.Reading.{got, reading, spaced, wordR, bracesR, itemsR, prefixAt, prefixEnd, isProperty, orderR, commandR}
 use Rattle.megaco.specs.declared.Token.{Token}
 use Rattle.megaco.specs.declared.Token.the-variants.{PriorityToken, EmergencyToken}
-use Rattle.megaco.specs.declared.Class.the-variants.{WordByte, NameByte}
+use Rattle.megaco.specs.declared.Class.the-variants.{WordByte}
 use Rattle.megaco.proofs.Tests.{or-false}
-use Rattle.grammar.specs.Characters.{Keyword, Many, noMore, andThen}
-use Rattle.grammar.specs.Grammar.{LWSP, around, EQUAL, NAME, name, TerminationID, root, named, chooseOne, allOf, Braces, ammParameters, Prefix, noPrefix, withPrefix, commandRequest, ammRequest}
-use Rattle.grammar.proofs.Classes.{Tests, and-no, and-parts, test-not, letter-passes, word-tests}
-use Rattle.grammar.proofs.Places.{regroup6, head, at-head, Gets, gets-here, gets-skip, gets-bind, gets-part, behind, isAt-head, isAt-cons, whether, given, fault-got, got-same, skip-got, bind-got, reading-got}
+use Rattle.grammar.specs.Characters.{Keyword, noMore, andThen}
+use Rattle.grammar.specs.Grammar.{LWSP, around, EQUAL, NAME, name, TerminationID, root, named, chooseOne, allOf, ammParameters, Prefix, noPrefix, withPrefix, commandRequest, ammRequest}
+use Rattle.grammar.proofs.Classes.{and-no, and-parts, test-not, letter-passes, word-tests}
+use Rattle.grammar.proofs.Places.{regroup6, head, at-head, Gets, gets-here, gets-skip, gets-bind, gets-part, behind, isAt-head, whether, given, fault-got, got-same, skip-got, bind-got, reading-got}
 use Rattle.grammar.proofs.WhiteLaws.{Solid, white-sound}
-use Rattle.grammar.proofs.RowLaws.{Stops, After, afterSign, sign-complete, sign-sound}
+use Rattle.grammar.proofs.RowLaws.{After, afterSign, sign-complete, sign-sound}
 use Rattle.grammar.proofs.FollowLaws.{Follow, ends, closing, follow-not, follow-in, signs, signs-solid, white-ends, ends-word, ends-name, letter-solid, path-solid}
 use Rattle.grammar.proofs.WordLaws.{capital-letter, letters-name, keyword-spells, spells-keyword}
 use Rattle.grammar.proofs.NameLaws.{path-first, termination-exact, termination-sound}
-use Rattle.grammar.proofs.ListLaws.{Spaced, gets-spaced, spaced-got, gets-word, word-got, Complete, Sound}
-use Rattle.grammar.proofs.ItemLaws.{Led, name-solid, braces-led, led-ends, items-complete, braces-sound, items-sound}
+use Rattle.grammar.proofs.ListLaws.{gets-spaced, spaced-got, gets-word, word-got, Complete, Sound}
+use Rattle.grammar.proofs.ItemLaws.{name-solid, braces-led, led-ends, items-complete, braces-sound, items-sound}
 
 -- ---- `O-` and `W-`
 

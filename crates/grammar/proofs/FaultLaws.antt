@@ -1,30 +1,26 @@
 -- A transaction that the grammar calls bad is found bad: 403 with its identifier, behind whole transactions too.
-use Prim.Native.Nat.{ℕ, zero, suc, _+_, _-_, _<_, _≤_}
-use mathlib.Core.Path.{_≡_, refl, sym, ap, _∙_}
-use mathlib.Core.Bool.{Bool, true, false, false≢true}
-use mathlib.Core.List.{List, [], _∷_, _++_, append-assoc}
+use Prim.Native.Nat.{ℕ, zero, suc, _<_}
+use mathlib.Core.Path.{_≡_, refl, _∙_}
+use mathlib.Core.List.{List, _++_, append-assoc}
 use lib.ListN.{length, drop}
-use lib.Dec.{eqb, ltb}
 use native.Mathlib.Omega.{arith}
 use Rattle.base.specs.Pick.{pick}
 use Rattle.base.specs.Bytes.{text}
-use Rattle.megaco.specs.Bytes.{leftBrace, isDigit}
-use Rattle.megaco.specs.Tokens.{numberAt}
-use Rattle.megaco.specs.Tree.{Action, Transaction, Message, fault403}
+use Rattle.megaco.specs.Bytes.{isDigit}
+use Rattle.megaco.specs.Tree.{Action, Message, fault403}
 use Rattle.megaco.specs.Reading.{Read, got, fault, actionsR, elsewhere, numbered, inside, followed, endOr, transactionsR}
 use Rattle.megaco.specs.declared.Token.the-variants.{TransToken}
-use Rattle.grammar.specs.Characters.{Keyword}
-use Rattle.grammar.specs.Grammar.{NAME, name, transactionRequest}
-use Rattle.grammar.specs.Faults.{Without, Whole, noneWhole, oneMore, Closed, BadTransaction, unclosed, zeroIdentifier}
+use Rattle.grammar.specs.Grammar.{NAME, name}
+use Rattle.grammar.specs.Faults.{Whole, noneWhole, oneMore, Closed, BadTransaction, unclosed, zeroIdentifier}
 use Rattle.grammar.proofs.Classes.{digit-has}
-use Rattle.grammar.proofs.Places.{regroup3, regroup4, Finds, Counts, given}
+use Rattle.grammar.proofs.Places.{regroup3, given}
 use Rattle.grammar.proofs.WhiteLaws.{Solid}
 use Rattle.grammar.proofs.RowLaws.{number-complete}
 use Rattle.grammar.proofs.WordLaws.{trans-name}
 use Rattle.grammar.proofs.ListLaws.{key-complete}
 use Rattle.grammar.proofs.ItemLaws.{name-solid}
 use Rattle.grammar.proofs.PropertyLaws.{uint-solid}
-use Rattle.grammar.proofs.TransactionLaws.{actions-sound, Opens, opening-complete, Comes, transaction-complete, trans-solid, trans-long, more-of}
+use Rattle.grammar.proofs.TransactionLaws.{actions-sound, opening-complete, transaction-complete, trans-solid, trans-long, more-of}
 use Rattle.grammar.proofs.OutcomeLaws.{without-stops, digit-0, opening-split}
 
 name-long : {a : List ℕ} (t : List ℕ) → NAME a → 0 < length (a ++ t)

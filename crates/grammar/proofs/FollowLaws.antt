@@ -1,6 +1,6 @@
 -- What may stand behind a part: the first byte of the rest is one of a few.
 use Prim.Native.Nat.{ℕ}
-use mathlib.Core.Path.{_≡_, refl, sym, _∙_}
+use mathlib.Core.Path.{_≡_, refl}
 use mathlib.Core.Bool.{Bool, true, false, not, false≢true}
 use mathlib.Core.List.{List, [], _∷_, _++_, append-assoc}
 use lib.Dec.{eqb}
@@ -11,8 +11,8 @@ use Rattle.base.specs.Bytes.{text}
 use Rattle.megaco.specs.Bytes.{isLetter, isDigit, isWhite, isWord, isName, isSafe, inClass}
 use Rattle.megaco.specs.White.{goesOn}
 use Rattle.megaco.specs.declared.Class.the-variants.{WordByte, NameByte, SafeByte}
-use Rattle.grammar.specs.Characters.{WSP, SP, HTAB}
-use Rattle.grammar.specs.Grammar.{EOL, CR, CRLF, LF, COMMENT, comment, Blank, blankWSP, blankCOMMENT, blankEOL, LWSP, noLWSP, moreLWSP, SEP, sep, Around, around}
+use Rattle.grammar.specs.Characters.{SP, HTAB}
+use Rattle.grammar.specs.Grammar.{CR, CRLF, LF, comment, Blank, blankWSP, blankCOMMENT, blankEOL, LWSP, noLWSP, moreLWSP, Around, around}
 use Rattle.grammar.proofs.Classes.{test-not}
 use Rattle.grammar.proofs.Places.{head}
 use Rattle.grammar.proofs.WhiteLaws.{Solid}

@@ -1,39 +1,36 @@
 -- The header is read exactly as the grammar derives it.
-use Prim.Native.Nat.{ℕ, zero, suc, _+_, _-_, _<_, _≤_}
+use Prim.Native.Nat.{ℕ, _+_}
 use mathlib.Core.Path.{_≡_, refl, sym, ap, _∙_}
 use mathlib.Core.Logic.{_⊎_, inl, inr}
-use mathlib.Core.Bool.{Bool, true, false, _&&_, false≢true}
+use mathlib.Core.Bool.{false, _&&_}
 use mathlib.Core.List.{List, [], _∷_, _++_, append-assoc}
-use lib.ListN.{length, drop}
-use lib.Dec.{eqb, leb}
-use borrow.Author.Tests.{eqb-true, leb-true}
+use lib.ListN.{drop}
+use lib.Dec.{leb}
+use borrow.Author.Tests.{leb-true}
 use native.Mathlib.Omega.{arith}
 use Rattle.base.specs.Pick.{pick}
-use Rattle.base.specs.Lists.{isAt, every, has}
+use Rattle.base.specs.Lists.{isAt, every}
 use Rattle.base.specs.Bytes.{text}
 use Rattle.megaco.specs.Bytes.{slash, isLetter, isDigit, isWord, isWhite, inClass, capital, capitals}
-use Rattle.megaco.specs.White.{goesOn, after, whiteAt, sepAt}
-use Rattle.megaco.specs.Keywords.{Forms, forms, formsOf}
+use Rattle.megaco.specs.White.{goesOn, whiteAt, sepAt}
+use Rattle.megaco.specs.Keywords.{forms, formsOf}
 use Rattle.megaco.specs.Tokens.{markAt, keywordAt, numberAt, mIdAt}
 use Rattle.megaco.specs.Reading.{startAt, senderAt}
 use Rattle.megaco.specs.declared.Token.the-variants.{MegacopToken}
-use Rattle.megaco.specs.declared.Class.the-variants.{WordByte, NameByte}
 use Rattle.megaco.specs.declared.Parsed.{Parsed}
-use Rattle.megaco.specs.declared.Parsed.the-variants.{Next, Fault}
-use Rattle.megaco.specs.declared.Number.{Number}
-use Rattle.megaco.specs.declared.Number.the-variants.{Got, Bad}
+use Rattle.megaco.specs.declared.Parsed.the-variants.{Next}
+use Rattle.megaco.specs.declared.Number.the-variants.{Got}
 use Rattle.grammar.specs.Characters.{Spelling, long, short, Keyword}
-use Rattle.grammar.specs.Grammar.{LWSP, Blank, SEP, sep, UINT, NAME, name, mId, byAddress, byDomain, deviceName, domainAddress, IPv4address, domainName, domain, Header, header}
-use Rattle.grammar.proofs.Classes.{Tests, and-parts, test-not, letter-passes}
-use Rattle.grammar.proofs.Places.{regroup6, head, Any, Stands, Finds, Counts, finds, finds-here, finds-after, behind, isAt-head, isAt-cons, whether, given, fault-next, next-same, after-next}
+use Rattle.grammar.specs.Grammar.{SEP, sep, NAME, mId, byAddress, byDomain, deviceName, IPv4address, domain, Header, header}
+use Rattle.grammar.proofs.Classes.{and-parts, test-not}
+use Rattle.grammar.proofs.Places.{regroup6, head, Any, Stands, Finds, finds-here, finds-after, behind, isAt-head, isAt-cons, whether, given, next-same, after-next}
 use Rattle.grammar.proofs.WhiteLaws.{Solid, white-complete, white-sound, sep-complete, sep-sound}
-use Rattle.grammar.proofs.RowLaws.{Stops, mark-complete, mark-sound, number-complete, number-sound}
-use Rattle.grammar.proofs.FollowLaws.{Follow, ends, blank-ends, ends-word, ends-digit, path-solid}
+use Rattle.grammar.proofs.RowLaws.{mark-complete, mark-sound, number-complete, number-sound}
+use Rattle.grammar.proofs.FollowLaws.{Follow, ends, blank-ends, ends-digit, path-solid}
 use Rattle.grammar.proofs.WordLaws.{name-letter, keyword-complete, keyword-sound, letters-name}
 use Rattle.grammar.proofs.NameLaws.{path-first}
 use Rattle.grammar.proofs.MidLaws.{mId-complete, mId-sound}
 use Rattle.grammar.proofs.ItemLaws.{name-solid}
-use Rattle.grammar.proofs.PropertyLaws.{uint-solid}
 
 -- ---- the keyword, in its long form a word, in its short one a mark
 

@@ -1,29 +1,28 @@
 -- Items of every level are read exactly as the grammar derives them.
-use Prim.Native.Nat.{ℕ, zero, suc, _+_, _-_, _<_, _≤_}
+use Prim.Native.Nat.{ℕ, zero, suc, _+_}
 use mathlib.Core.Path.{_≡_, refl, sym, ap, _∙_}
-use mathlib.Core.Bool.{Bool, true, false, false≢true}
+use mathlib.Core.Bool.{true}
 use mathlib.Core.List.{List, [], _∷_, _++_, append-assoc}
 use mathlib.Core.Option.{Option, none, some}
 use lib.ListN.{length, drop}
 use lib.Dec.{eqb}
 use native.Mathlib.Omega.{arith}
 use Rattle.base.specs.Pick.{pick}
-use Rattle.base.specs.Lists.{isAt, part, every, has}
+use Rattle.base.specs.Lists.{isAt, every, has}
 use Rattle.base.specs.Bytes.{text}
-use Rattle.megaco.specs.Bytes.{equal, leftBrace, rightBrace, slash, isLetter, isDigit, isWord, isSafe, isWhite, inClass}
-use Rattle.megaco.specs.White.{goesOn, whiteAt}
+use Rattle.megaco.specs.Bytes.{equal, leftBrace, rightBrace, slash, isLetter, isDigit, isWord, isWhite, inClass}
+use Rattle.megaco.specs.White.{goesOn}
 use Rattle.megaco.specs.Tokens.{signAt, valueAt}
-use Rattle.megaco.specs.Tree.{Value, plain, quoted, ItemOf, item, Item}
-use Rattle.megaco.specs.Reading.{Read, got, fault, bind, skip, reading, spaced, wordR, secondR, valueOf, valueR, bracesR, itemR, itemsR}
+use Rattle.megaco.specs.Tree.{Value, ItemOf, item}
+use Rattle.megaco.specs.Reading.{Read, got, reading, spaced, wordR, secondR, valueOf, valueR, bracesR, itemR, itemsR}
 use Rattle.megaco.specs.declared.Class.the-variants.{WordByte, SafeByte}
-use Rattle.megaco.specs.declared.Parsed.{Parsed}
-use Rattle.megaco.specs.declared.Parsed.the-variants.{Next, Fault}
-use Rattle.grammar.specs.Grammar.{LWSP, noLWSP, Around, around, EQUAL, LBRKT, RBRKT, Commas, NAME, name, VALUE, quotedString, safeChars, ItemID, noItemID, itemID, parmValue, noValue, withValue, Braces, noBraces, withBraces, ammParameter, parameter, ammParameters}
-use Rattle.grammar.proofs.Classes.{Tests, test-not, letter-passes, safe-tests}
-use Rattle.grammar.proofs.Places.{regroup3, regroup4, regroup-braces, head, Any, Stands, Finds, Gets, gets-here, gets-skip, gets-bind, behind, isAt-head, isAt-cons, whether, given, fault-got, got-same, skip-got, bind-got, reading-got}
-use Rattle.grammar.proofs.WhiteLaws.{Solid, white-append, white-complete, white-sound}
+use Rattle.megaco.specs.declared.Parsed.the-variants.{Next}
+use Rattle.grammar.specs.Grammar.{LWSP, noLWSP, around, NAME, name, VALUE, quotedString, safeChars, ItemID, noItemID, itemID, parmValue, noValue, withValue, Braces, noBraces, withBraces, ammParameter, parameter, ammParameters}
+use Rattle.grammar.proofs.Classes.{letter-passes, safe-tests}
+use Rattle.grammar.proofs.Places.{regroup3, regroup4, regroup-braces, Gets, gets-here, gets-skip, gets-bind, behind, isAt-head, isAt-cons, whether, given, fault-got, got-same, skip-got, bind-got, reading-got}
+use Rattle.grammar.proofs.WhiteLaws.{Solid, white-append, white-sound}
 use Rattle.grammar.proofs.RowLaws.{Stops, After, afterSign, sign-complete, sign-sound}
-use Rattle.grammar.proofs.FollowLaws.{Follow, ends, signs, closing, follow-not, follow-in, signs-solid, signs-ends, closing-signs, white-ends, ends-word, ends-safe, letter-solid, safe-solid}
+use Rattle.grammar.proofs.FollowLaws.{Follow, ends, signs, closing, follow-not, follow-in, signs-solid, closing-signs, white-ends, ends-word, ends-safe, letter-solid, safe-solid}
 use Rattle.grammar.proofs.NameLaws.{value-exact, value-sound}
 use Rattle.grammar.proofs.ListLaws.{Spaced, gets-spaced, spaced-got, gets-word, word-got, Complete, Sound, list-complete-all, list-sound-all}
 

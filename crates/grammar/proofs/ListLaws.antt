@@ -1,9 +1,9 @@
 -- Parts with white space after them, and the one law of every list joined by commas.
-use Prim.Native.Nat.{ℕ, zero, suc, _+_, _-_, _<_, _≤_}
+use Prim.Native.Nat.{ℕ, zero, suc, _+_, _<_, _≤_}
 use mathlib.Core.Path.{_≡_, refl, sym, ap, _∙_}
-use mathlib.Core.Bool.{Bool, true, false, false≢true}
+use mathlib.Core.Bool.{false}
 use mathlib.Core.List.{List, [], _∷_, _++_, append-assoc}
-use lib.ListN.{length, drop, length-append, length-drop}
+use lib.ListN.{length, drop, length-append}
 use lib.Dec.{eqb}
 use native.Mathlib.Omega.{arith}
 use Rattle.base.specs.Pick.{pick}
@@ -11,18 +11,17 @@ use Rattle.base.specs.Lists.{isAt, every, has}
 use Rattle.base.specs.Bytes.{text}
 use Rattle.megaco.specs.Bytes.{equal, comma, isWhite, inClass}
 use Rattle.megaco.specs.White.{goesOn, after, whiteAt}
-use Rattle.megaco.specs.Tokens.{signAt, keywordAt}
-use Rattle.megaco.specs.Reading.{Read, got, fault, bind, skip, reading, spaced, listR, unlimited, keyAt, wordR}
+use Rattle.megaco.specs.Tokens.{signAt}
+use Rattle.megaco.specs.Reading.{Read, got, spaced, listR, unlimited, keyAt, wordR}
 use Rattle.megaco.specs.declared.Token.{Token}
 use Rattle.megaco.specs.declared.Class.the-variants.{WordByte}
-use Rattle.megaco.specs.declared.Parsed.{Parsed}
-use Rattle.megaco.specs.declared.Parsed.the-variants.{Next, Fault}
+use Rattle.megaco.specs.declared.Parsed.the-variants.{Next}
 use Rattle.grammar.specs.Characters.{Keyword}
-use Rattle.grammar.specs.Grammar.{LWSP, noLWSP, Around, around, EQUAL, COMMA, Commas, single, joined, AtMost, atMost, NAME}
-use Rattle.grammar.proofs.Places.{regroup3, head, Any, Stands, Finds, Gets, finds, gets-here, finds-after, gets-skip, gets-bind, gets-part, part-fits, isAt-head, isAt-cons, whether, given, fault-got, got-same, skip-got, bind-got, reading-got, after-next}
+use Rattle.grammar.specs.Grammar.{LWSP, Around, around, EQUAL, Commas, single, joined, AtMost, atMost, NAME}
+use Rattle.grammar.proofs.Places.{regroup3, Stands, Finds, Gets, finds, gets-here, finds-after, gets-skip, gets-bind, gets-part, part-fits, isAt-head, whether, given, fault-got, got-same, skip-got, bind-got, reading-got, after-next}
 use Rattle.grammar.proofs.WhiteLaws.{Solid, white-complete, white-sound}
 use Rattle.grammar.proofs.RowLaws.{Stops, After, afterSign, sign-complete, sign-sound}
-use Rattle.grammar.proofs.FollowLaws.{Follow, ends, signs, closing, follow-not, signs-solid, signs-ends, closing-signs, brace-closing, around-ends, ends-word}
+use Rattle.grammar.proofs.FollowLaws.{Follow, closing, follow-not, brace-closing, around-ends, ends-word}
 use Rattle.grammar.proofs.WordLaws.{word-exact, word-sound, keyword-complete, keyword-sound}
 
 -- ---- a part, and white space after it

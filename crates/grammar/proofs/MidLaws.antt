@@ -1,5 +1,5 @@
 -- The message identifier is read exactly as the grammar derives it.
-use Prim.Native.Nat.{ℕ, suc, _+_, _-_, _<_, _≤_}
+use Prim.Native.Nat.{ℕ, _+_, _<_, _≤_}
 use mathlib.Core.Path.{_≡_, refl, sym, ap, _∙_}
 use mathlib.Core.Bool.{Bool, true, false, _||_, false≢true}
 use mathlib.Core.List.{List, [], _∷_, _++_, append-assoc}
@@ -7,21 +7,21 @@ use lib.ListN.{length, getD, drop}
 use lib.Dec.{eqb}
 use native.Mathlib.Omega.{arith}
 use Rattle.base.specs.Pick.{pick}
-use Rattle.base.specs.Lists.{isAt, part, every, has}
+use Rattle.base.specs.Lists.{isAt, every, has}
 use Rattle.base.specs.Bytes.{text}
 use Rattle.megaco.specs.Bytes.{colon, dot, isLetter, isDigit, isWord, isName, isDomain, inClass}
 use Rattle.megaco.specs.White.{after}
-use Rattle.megaco.specs.Tokens.{markAt, rowAt, upTo64, pathNameAt, numberAt, afterNumber, portAt, octetAt, addressAt, domainAt, mIdAt}
+use Rattle.megaco.specs.Tokens.{markAt, rowAt, pathNameAt, numberAt, afterNumber, portAt, octetAt, addressAt, domainAt, mIdAt}
 use Rattle.megaco.specs.declared.Class.the-variants.{NameByte, DomainByte}
 use Rattle.megaco.specs.declared.Parsed.{Parsed}
-use Rattle.megaco.specs.declared.Parsed.the-variants.{Next, Fault}
+use Rattle.megaco.specs.declared.Parsed.the-variants.{Next}
 use Rattle.megaco.specs.declared.Number.{Number}
-use Rattle.megaco.specs.declared.Number.the-variants.{Got, Bad}
+use Rattle.megaco.specs.declared.Number.the-variants.{Got}
 use Rattle.grammar.specs.Characters.{AlphaDigitOr, orAlpha, orDigit, orMark, Many, noMore, andThen}
-use Rattle.grammar.specs.Grammar.{UINT, V4hex, domainAddress, IPv4address, domainName, domain, Port, noPort, port, mId, byAddress, byDomain, deviceName, pathNAME}
-use Rattle.grammar.proofs.Classes.{Tests, test-not, domain-tests, letter-digit-tests}
-use Rattle.grammar.proofs.Places.{regroup5, head, at-head, Any, Stands, Finds, Counts, finds, finds-here, finds-after, behind, behind-at, isAt-head, isAt-cons, fault-next, next-same, pick-next, given, after-next, number-next}
-use Rattle.grammar.proofs.RowLaws.{Stops, row-is, up-to-64, within-64, mark-exact, mark-complete, mark-sound, number-complete, number-sound}
+use Rattle.grammar.specs.Grammar.{V4hex, domainAddress, IPv4address, domainName, domain, Port, noPort, port, mId, byAddress, byDomain, deviceName}
+use Rattle.grammar.proofs.Classes.{test-not, domain-tests, letter-digit-tests}
+use Rattle.grammar.proofs.Places.{regroup5, head, at-head, Any, Stands, Finds, Counts, finds, finds-here, finds-after, behind, isAt-head, isAt-cons, next-same, pick-next, given, after-next, number-next}
+use Rattle.grammar.proofs.RowLaws.{Stops, row-is, up-to-64, within-64, mark-complete, mark-sound, number-complete, number-sound}
 use Rattle.grammar.proofs.FollowLaws.{Follow, ends, follow-not, ends-name, ends-digit}
 use Rattle.grammar.proofs.WordLaws.{row-stands}
 use Rattle.grammar.proofs.NameLaws.{path-first, path-complete, path-sound}

@@ -1,29 +1,28 @@
 -- Path names, terminations and values are read exactly as the grammar derives them.
-use Prim.Native.Nat.{ℕ, zero, suc, _+_, _-_, _<_, _≤_}
+use Prim.Native.Nat.{ℕ, suc, _+_, _-_, _<_, _≤_}
 use mathlib.Core.Path.{_≡_, refl, sym, ap, _∙_}
 use mathlib.Core.Logic.{_⊎_, inl, inr}
 use mathlib.Core.Bool.{Bool, true, false, _||_, false≢true}
 use mathlib.Core.List.{List, [], _∷_, _++_, append-assoc}
 use lib.ListN.{length, drop, length-append}
 use lib.Dec.{eqb, ltb}
-use borrow.Author.Tests.{eqb-true, eq-eqb, ltb-true, lt-ltb}
+use borrow.Author.Tests.{ltb-true, lt-ltb}
 use native.Mathlib.Omega.{arith}
 use native.Mathlib.Nat.{add-zero}
 use Rattle.base.specs.Pick.{pick}
 use Rattle.base.specs.Lists.{isAt, part, every, has}
 use Rattle.base.specs.Bytes.{text}
-use Rattle.megaco.specs.Bytes.{quote, star, dollar, isLetter, isDigit, isWord, isName, isSafe, isRest, isQuoted, inClass, capitals}
+use Rattle.megaco.specs.Bytes.{quote, star, dollar, isLetter, isDigit, isSafe, isRest, isQuoted, inClass}
 use Rattle.megaco.specs.White.{after}
 use Rattle.megaco.specs.Tokens.{markAt, letterAt, rowAt, upTo64, pathStart, pathNameAt, terminationAt, quotedAt, plainAt, valueAt}
 use Rattle.megaco.specs.Tree.{Value, plain, quoted}
 use Rattle.megaco.specs.Reading.{valueOf}
-use Rattle.megaco.specs.declared.Class.the-variants.{WordByte, NameByte, SafeByte, QuotedByte}
-use Rattle.megaco.specs.declared.Parsed.{Parsed}
+use Rattle.megaco.specs.declared.Class.the-variants.{NameByte, SafeByte, QuotedByte}
 use Rattle.megaco.specs.declared.Parsed.the-variants.{Next, Fault}
 use Rattle.grammar.specs.Characters.{AlphaDigitOr, orAlpha, orDigit, orMark, SafeChar, Many, noMore, andThen}
 use Rattle.grammar.specs.Grammar.{NAME, name, VALUE, quotedString, safeChars, Star, noStar, withStar, pathNAME, path, TerminationID, root, named, chooseOne, allOf}
-use Rattle.grammar.proofs.Classes.{Tests, or-true, or-left, or-right, test-not, letter-tells, name-tests, safe-tests, quoted-tests}
-use Rattle.grammar.proofs.Places.{head, Any, Stands, Finds, finds, behind, behind-at, part-is, part-to, isAt-head, isAt-cons, fault-next, next-same, pick-next, after-next}
+use Rattle.grammar.proofs.Classes.{or-true, test-not, letter-tells, name-tests, safe-tests, quoted-tests}
+use Rattle.grammar.proofs.Places.{head, Any, Stands, behind, part-is, part-to, isAt-head, isAt-cons, next-same, pick-next, after-next}
 use Rattle.grammar.proofs.RowLaws.{Stops, row-is, up-to-64, within-64, mark-exact, mark-sound, mark-next}
 use Rattle.grammar.proofs.FollowLaws.{every-has}
 use Rattle.grammar.proofs.WordLaws.{letter-at, row-stands, name-many, name-letter, letters-name}

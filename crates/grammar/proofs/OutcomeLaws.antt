@@ -1,19 +1,19 @@
 -- What transactions read as, in the words of the grammar: transactions that it derives, a fault in one of them, or a fault elsewhere.
-use Prim.Native.Nat.{ℕ, zero, suc, _+_, _-_, _<_, _≤_}
+use Prim.Native.Nat.{ℕ, zero, suc, _<_, _≤_}
 use mathlib.Core.Path.{_≡_, refl, sym, ap, _∙_}
-use mathlib.Core.Bool.{Bool, true, false, false≢true}
+use mathlib.Core.Bool.{Bool, true, false}
 use mathlib.Core.List.{List, [], _∷_, _++_, append-assoc, append-nil}
-use lib.ListN.{length, drop, length-drop, drop-of-length-le}
+use lib.ListN.{length, drop, drop-of-length-le}
 use lib.Dec.{eqb, ltb}
 use borrow.Author.Tests.{eqb-true, eqb-false, ltb-false}
 use native.Mathlib.Omega.{arith}
 use Rattle.base.specs.Pick.{pick}
-use Rattle.base.specs.Lists.{every, has}
+use Rattle.base.specs.Lists.{has}
 use Rattle.base.specs.Bytes.{text}
 use Rattle.megaco.specs.Bytes.{leftBrace, rightBrace, isDigit}
 use Rattle.megaco.specs.White.{after, whiteAt}
 use Rattle.megaco.specs.Tokens.{markAt, numberAt}
-use Rattle.megaco.specs.Tree.{Action, Transaction, transaction, Message, wellFormed, fault400, fault403, fault406}
+use Rattle.megaco.specs.Tree.{Action, Transaction, transaction, Message, wellFormed, fault400, fault403}
 use Rattle.megaco.specs.Reading.{Read, got, fault, keyAt, actionsR, elsewhere, numbered, inside, followed, endOr, bracesThen, transactionsR}
 use Rattle.megaco.specs.declared.Token.the-variants.{TransToken}
 use Rattle.megaco.specs.declared.Parsed.{Parsed}
@@ -21,10 +21,10 @@ use Rattle.megaco.specs.declared.Parsed.the-variants.{Next, Fault}
 use Rattle.megaco.specs.declared.Number.{Number}
 use Rattle.megaco.specs.declared.Number.the-variants.{Got, Bad}
 use Rattle.grammar.specs.Characters.{Keyword}
-use Rattle.grammar.specs.Grammar.{LWSP, around, EQUAL, UINT32, TransactionID, identifier, transactionRequest, withActions, transactionList, lastRequest, nextRequest}
+use Rattle.grammar.specs.Grammar.{LWSP, around, EQUAL, TransactionID, identifier, transactionRequest, withActions, transactionList, lastRequest, nextRequest}
 use Rattle.grammar.specs.Faults.{Without, ended, begun, Whole, noneWhole, oneMore, Closed, closed, BadTransaction, unclosed, zeroIdentifier}
 use Rattle.grammar.proofs.Classes.{digit-has}
-use Rattle.grammar.proofs.Places.{regroup4, regroup-request, head, Stands, whether, given, fault-got, after-next}
+use Rattle.grammar.proofs.Places.{regroup4, regroup-request, Stands, given, fault-got, after-next}
 use Rattle.grammar.proofs.WhiteLaws.{Solid, white-sound}
 use Rattle.grammar.proofs.RowLaws.{Stops, mark-sound, number-sound}
 use Rattle.grammar.proofs.ListLaws.{key-sound}

@@ -1,33 +1,28 @@
 -- A context's properties are read exactly as the grammar derives them.
-use Prim.Native.Nat.{ℕ, zero, suc, _+_, _-_, _<_, _≤_}
-use mathlib.Core.Path.{_≡_, refl, sym, ap, _∙_}
-use mathlib.Core.Bool.{Bool, true, false, not, _&&_, _||_, false≢true}
-use mathlib.Core.List.{List, [], _∷_, _++_, append-assoc}
-use lib.ListN.{length, drop}
-use lib.Dec.{eqb}
+use Prim.Native.Nat.{ℕ}
+use mathlib.Core.Path.{_≡_, refl, ap, _∙_}
+use mathlib.Core.Bool.{Bool, true, false, not, _&&_}
+use mathlib.Core.List.{List, _++_, append-assoc}
+use lib.ListN.{drop}
 use borrow.Author.Tests.{not-true}
-use native.Mathlib.Omega.{arith}
 use Rattle.base.specs.Pick.{pick}
-use Rattle.base.specs.Lists.{part, every, has, same}
-use Rattle.base.specs.Bytes.{text}
-use Rattle.megaco.specs.Bytes.{equal, inClass, isDigit, capitals}
-use Rattle.megaco.specs.White.{goesOn, whiteAt}
+use Rattle.base.specs.Lists.{part, has, same}
+use Rattle.megaco.specs.Bytes.{inClass, capitals}
 use Rattle.megaco.specs.Keywords.{Forms, forms, formsOf, spelt, spells}
 use Rattle.megaco.specs.Tokens.{letterAt, rowAt, wordAt, numberAt}
-use Rattle.megaco.specs.Reading.{Read, got, fault, bind, skip, reading, readNumber, spaced, keyAt, isProperty, wordHere, propertyR}
-use Rattle.megaco.specs.declared.Token.{Token}
+use Rattle.megaco.specs.Reading.{got, keyAt, isProperty, wordHere, propertyR}
 use Rattle.megaco.specs.declared.Token.the-variants.{PriorityToken, EmergencyToken}
 use Rattle.megaco.specs.declared.Property.{Property}
 use Rattle.megaco.specs.declared.Property.the-variants.{Priority, Emergency}
 use Rattle.megaco.specs.declared.Class.the-variants.{WordByte}
-use Rattle.megaco.specs.declared.Parsed.the-variants.{Next, Fault}
+use Rattle.megaco.specs.declared.Parsed.the-variants.{Next}
 use Rattle.grammar.specs.Characters.{Spelling, long, short, Keyword}
-use Rattle.grammar.specs.Grammar.{LWSP, around, EQUAL, UINT, uint, NAME, contextProperty, priority, emergency}
-use Rattle.grammar.proofs.Classes.{Tests, or-left, or-right, and-parts, word-tests, digit-tests}
-use Rattle.grammar.proofs.Places.{regroup3, head, Gets, gets-skip, gets-part, gets-number, part-is, pick-next, whether, given, got-same, skip-got, number-got, reading-got}
+use Rattle.grammar.specs.Grammar.{LWSP, UINT, uint, NAME, contextProperty, priority, emergency}
+use Rattle.grammar.proofs.Classes.{or-left, or-right, and-parts, word-tests, digit-tests}
+use Rattle.grammar.proofs.Places.{regroup3, Gets, gets-skip, gets-part, gets-number, part-is, pick-next, whether, given, skip-got, number-got, reading-got}
 use Rattle.grammar.proofs.WhiteLaws.{Solid, white-sound}
 use Rattle.grammar.proofs.RowLaws.{Stops, row-is, up-to-64, number-complete, number-sound}
-use Rattle.grammar.proofs.FollowLaws.{Follow, ends, signs, closing, signs-solid, signs-ends, closing-signs, white-ends, around-ends, ends-word, ends-digit, digit-solid}
+use Rattle.grammar.proofs.FollowLaws.{Follow, ends, closing, signs-solid, signs-ends, closing-signs, white-ends, around-ends, ends-word, ends-digit, digit-solid}
 use Rattle.grammar.proofs.WordLaws.{name-many, word-exact, word-sound, keyword-spells, spells-keyword, priority-name, emergency-name}
 use Rattle.grammar.proofs.ListLaws.{Spaced, gets-spaced, spaced-got, key-complete, key-sound, Complete, Sound}
 use Rattle.grammar.proofs.ItemLaws.{name-solid}

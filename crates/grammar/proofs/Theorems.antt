@@ -1,11 +1,11 @@
 -- Reading is the grammar's only derivation: a message is well-formed, with its tree, exactly when the grammar admits it with version 1; no text
 -- has two trees; and each fault is told exactly where the grammar calls for it.
-use Prim.Native.Nat.{ℕ, zero, suc, _+_, _<_, _≤_}
-use mathlib.Core.Path.{_≡_, refl, sym, ap, _∙_}
+use Prim.Native.Nat.{ℕ}
+use mathlib.Core.Path.{_≡_, refl, _∙_}
 use mathlib.Core.Logic.{_↔_}
-use mathlib.Core.Bool.{Bool, true, false, false≢true}
-use mathlib.Core.List.{List, [], _∷_, _++_, append-assoc}
-use lib.ListN.{length, drop}
+use mathlib.Core.Bool.{false}
+use mathlib.Core.List.{List, _++_, append-assoc}
+use lib.ListN.{drop}
 use lib.Dec.{eqb}
 use borrow.Author.Tests.{eqb-true, eqb-false, ne-eqb}
 use native.Mathlib.Omega.{arith}
@@ -15,12 +15,8 @@ use Rattle.megaco.specs.White.{goesOn}
 use Rattle.megaco.specs.Tokens.{numberAt}
 use Rattle.megaco.specs.Tree.{Transaction, Message, wellFormed, fault400, fault403, fault406}
 use Rattle.megaco.specs.Reading.{elsewhere, numbered, startAt, senderAt, transactionsR, messageR}
-use Rattle.megaco.specs.declared.Parsed.{Parsed}
-use Rattle.megaco.specs.declared.Parsed.the-variants.{Next, Fault}
-use Rattle.megaco.specs.declared.Number.{Number}
-use Rattle.megaco.specs.declared.Number.the-variants.{Got, Bad}
-use Rattle.grammar.specs.Grammar.{AtMost, atMost, transactionList, Header, megacoMessage, message}
-use Rattle.grammar.specs.Faults.{Without, Fault406, otherVersion, Whole, BadTransaction, Fault403, badTransaction}
+use Rattle.grammar.specs.Grammar.{atMost, Header, megacoMessage, message}
+use Rattle.grammar.specs.Faults.{Fault406, otherVersion, Fault403, badTransaction}
 use Rattle.grammar.proofs.Classes.{white-has}
 use Rattle.grammar.proofs.Places.{Stands, given}
 use Rattle.grammar.proofs.WhiteLaws.{Solid, solid-end}

@@ -1,34 +1,31 @@
 -- Transactions are read exactly as the grammar derives them.
-use Prim.Native.Nat.{ℕ, zero, suc, _+_, _-_, _<_, _≤_}
+use Prim.Native.Nat.{ℕ, zero, suc, _-_, _<_, _≤_}
 use mathlib.Core.Path.{_≡_, refl, sym, ap, _∙_}
-use mathlib.Core.Bool.{Bool, true, false, false≢true}
+use mathlib.Core.Bool.{true, false}
 use mathlib.Core.List.{List, [], _∷_, _++_, append-assoc, append-nil}
 use lib.ListN.{length, drop, length-drop}
 use lib.Dec.{eqb, ltb}
-use borrow.Author.Tests.{ne-eqb, eqb-false, lt-ltb, le-ltb, ltb-false}
+use borrow.Author.Tests.{ne-eqb, lt-ltb, le-ltb}
 use native.Mathlib.Omega.{arith}
 use Rattle.base.specs.Pick.{pick}
-use Rattle.base.specs.Lists.{every, has}
+use Rattle.base.specs.Lists.{has}
 use Rattle.base.specs.Bytes.{text}
-use Rattle.megaco.specs.Bytes.{leftBrace, rightBrace, isDigit, isWhite}
-use Rattle.megaco.specs.White.{goesOn, after, whiteAt}
-use Rattle.megaco.specs.Tokens.{markAt, numberAt}
-use Rattle.megaco.specs.Tree.{Action, Transaction, transaction, Message, wellFormed, fault400, fault403, fault406}
-use Rattle.megaco.specs.Reading.{Read, got, fault, bind, skip, listR, keyAt, actionR, actionsR, elsewhere, numbered, inside, followed, endOr, bracesThen, transactionsR}
+use Rattle.megaco.specs.Bytes.{leftBrace, rightBrace, isWhite}
+use Rattle.megaco.specs.White.{goesOn, whiteAt}
+use Rattle.megaco.specs.Tokens.{markAt}
+use Rattle.megaco.specs.Tree.{Action, Transaction, transaction, Message, wellFormed}
+use Rattle.megaco.specs.Reading.{got, listR, actionR, actionsR, elsewhere, numbered, inside, followed, endOr, bracesThen, transactionsR}
 use Rattle.megaco.specs.declared.Token.the-variants.{TransToken}
-use Rattle.megaco.specs.declared.Parsed.{Parsed}
-use Rattle.megaco.specs.declared.Parsed.the-variants.{Next, Fault}
-use Rattle.megaco.specs.declared.Number.{Number}
-use Rattle.megaco.specs.declared.Number.the-variants.{Got, Bad}
+use Rattle.megaco.specs.declared.Parsed.the-variants.{Next}
 use Rattle.grammar.specs.Characters.{Keyword}
-use Rattle.grammar.specs.Grammar.{LWSP, noLWSP, around, EQUAL, Commas, AtMost, atMost, UINT, uint, UINT32, NAME, name, actionRequest, TransactionID, identifier, transactionRequest, withActions, transactionList, lastRequest, nextRequest}
-use Rattle.grammar.specs.Faults.{Without, ended, begun, Whole, noneWhole, oneMore, Closed, closed, BadTransaction, unclosed, zeroIdentifier}
-use Rattle.grammar.proofs.Places.{regroup3, regroup6, regroup-request, head, Any, Stands, Finds, Gets, Counts, gets-here, gets-skip, gets-bind, finds-after, behind, whether, given, fault-next, fault-got, got-same, skip-got, bind-got, after-next}
+use Rattle.grammar.specs.Grammar.{LWSP, around, EQUAL, Commas, AtMost, NAME, name, actionRequest, TransactionID, identifier, transactionRequest, withActions, transactionList, lastRequest, nextRequest}
+use Rattle.grammar.specs.Faults.{Closed, closed}
+use Rattle.grammar.proofs.Places.{regroup3, regroup6, regroup-request, Any, Stands, Gets, gets-here, gets-skip, gets-bind, finds-after, given, got-same, skip-got, bind-got}
 use Rattle.grammar.proofs.WhiteLaws.{Solid, solid-end, white-complete, white-sound}
-use Rattle.grammar.proofs.RowLaws.{mark-complete, mark-sound, number-complete, number-sound}
-use Rattle.grammar.proofs.FollowLaws.{Follow, ends, white-ends, ends-digit}
+use Rattle.grammar.proofs.RowLaws.{mark-complete, mark-sound, number-complete}
+use Rattle.grammar.proofs.FollowLaws.{white-ends, ends-digit}
 use Rattle.grammar.proofs.WordLaws.{trans-name}
-use Rattle.grammar.proofs.ListLaws.{Spaced, key-complete, key-sound, Complete, Sound, list-complete, list-sound}
+use Rattle.grammar.proofs.ListLaws.{key-complete, Complete, list-complete, list-sound}
 use Rattle.grammar.proofs.ItemLaws.{name-solid}
 use Rattle.grammar.proofs.PropertyLaws.{uint-solid}
 use Rattle.grammar.proofs.ActionLaws.{action-complete, action-sound}

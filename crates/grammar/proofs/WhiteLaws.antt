@@ -1,22 +1,21 @@
 -- White space is read exactly as the grammar derives it, and read whole.
-use Prim.Native.Nat.{ℕ, zero, suc, _+_, _-_, _<_, _≤_}
+use Prim.Native.Nat.{ℕ, suc, _+_, _<_}
 use mathlib.Core.Path.{_≡_, refl, sym, ap, _∙_}
 use mathlib.Core.Logic.{_⊎_, inl, inr}
-use mathlib.Core.Bool.{Bool, true, false, not, _&&_, _||_, false≢true}
+use mathlib.Core.Bool.{Bool, true, false, not, _&&_, _||_}
 use mathlib.Core.List.{List, [], _∷_, _++_, append-assoc}
 use lib.ListN.{length, drop, length-append}
 use lib.Dec.{eqb, ltb, leb}
-use borrow.Author.Tests.{eqb-true, eqb-false, ne-eqb, leb-true, lt-ltb, ltb-true}
+use borrow.Author.Tests.{eqb-true, ne-eqb, leb-true, lt-ltb, ltb-true}
 use native.Mathlib.Omega.{arith}
 use native.Mathlib.Nat.{add-zero, add-assoc}
 use Rattle.base.specs.Pick.{pick}
 use Rattle.megaco.specs.Bytes.{semicolon, isWhite, isLineEnd, isComment}
 use Rattle.megaco.specs.White.{after, goesOn, insideAfter, stopAt, whiteFrom, whiteAt, sepAt}
-use Rattle.megaco.specs.declared.Parsed.{Parsed}
-use Rattle.megaco.specs.declared.Parsed.the-variants.{Next, Fault}
-use Rattle.grammar.specs.Characters.{WSP, SP, HTAB, CommentChar, Many, noMore, andThen}
-use Rattle.grammar.specs.Grammar.{EOL, CR, CRLF, LF, COMMENT, comment, Blank, blankWSP, blankCOMMENT, blankEOL, LWSP, noLWSP, moreLWSP, SEP, sep}
-use Rattle.grammar.proofs.Classes.{Tests, or-true, or-only, and-parts, comment-tests}
+use Rattle.megaco.specs.declared.Parsed.the-variants.{Next}
+use Rattle.grammar.specs.Characters.{SP, HTAB, CommentChar, Many, noMore, andThen}
+use Rattle.grammar.specs.Grammar.{EOL, CR, CRLF, LF, comment, Blank, blankWSP, blankCOMMENT, blankEOL, LWSP, noLWSP, moreLWSP, SEP, sep}
+use Rattle.grammar.proofs.Classes.{or-true, or-only, and-parts, comment-tests}
 use Rattle.grammar.proofs.Places.{head, Stands, Finds, finds, behind-at, fault-next, next-same, pick-next, after-next}
 
 -- no white space stands here

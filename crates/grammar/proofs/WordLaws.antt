@@ -1,12 +1,12 @@
 -- Words and keywords are read exactly as the grammar derives them.
-use Prim.Native.Nat.{ℕ, zero, suc, _+_, _-_, _<_, _≤_}
+use Prim.Native.Nat.{ℕ, suc, _+_, _-_, _<_, _≤_}
 use mathlib.Core.Path.{_≡_, refl, sym, ap, _∙_}
 use mathlib.Core.Logic.{_⊎_, inl, inr}
-use mathlib.Core.Bool.{Bool, true, false, _&&_, _||_, false≢true}
+use mathlib.Core.Bool.{Bool, true, false, _&&_, false≢true}
 use mathlib.Core.List.{List, [], _∷_, _++_}
-use lib.ListN.{length, getD, drop}
-use lib.Dec.{eqb, ltb, leb}
-use borrow.Author.Tests.{eqb-true, eq-eqb, leb-true, ltb-true}
+use lib.ListN.{length, drop}
+use lib.Dec.{ltb, leb}
+use borrow.Author.Tests.{eq-eqb, leb-true, ltb-true}
 use native.Mathlib.Omega.{arith}
 use Rattle.base.specs.Pick.{pick}
 use Rattle.base.specs.Lists.{part, every, same}
@@ -14,18 +14,17 @@ use Rattle.base.specs.Bytes.{text}
 use Rattle.megaco.specs.Bytes.{isLetter, inClass, capital, capitals}
 use Rattle.megaco.specs.White.{after}
 use Rattle.megaco.specs.Keywords.{Forms, forms, formsOf, spelt, spells}
-use Rattle.megaco.specs.Tokens.{letterAt, rowAt, upTo64, wordAt, keywordAt}
+use Rattle.megaco.specs.Tokens.{letterAt, rowAt, wordAt, keywordAt}
 use Rattle.megaco.specs.declared.Token.{Token}
 use Rattle.megaco.specs.declared.Token.the-variants.{TransToken, CtxToken, PriorityToken, EmergencyToken}
 use Rattle.megaco.specs.declared.Class.{Class}
 use Rattle.megaco.specs.declared.Class.the-variants.{WordByte}
-use Rattle.megaco.specs.declared.Parsed.{Parsed}
-use Rattle.megaco.specs.declared.Parsed.the-variants.{Next, Fault}
+use Rattle.megaco.specs.declared.Parsed.the-variants.{Next}
 use Rattle.megaco.proofs.Tests.{same-is, pick-both}
 use Rattle.grammar.specs.Characters.{Spelling, long, short, Keyword, ALPHA, lower, AlphaDigitOr, orAlpha, Many, noMore, andThen}
 use Rattle.grammar.specs.Grammar.{NAME, name}
 use Rattle.grammar.proofs.Classes.{Tests, or-true, or-right, and-parts, letter-passes, letter-tells, word-tests}
-use Rattle.grammar.proofs.Places.{head, at-head, Stands, Finds, finds, behind-at, part-is, fault-next, next-same, pick-next, after-next}
+use Rattle.grammar.proofs.Places.{head, at-head, Stands, Finds, finds, behind-at, part-is, next-same, pick-next, after-next}
 use Rattle.grammar.proofs.RowLaws.{Stops, Row, row, row-is, up-to-64, within-64}
 
 pub letter-at : (s t : List ℕ) (at : ℕ) → drop at s ≡ t → letterAt s at ≡ isLetter (head t)

@@ -1,7 +1,7 @@
 -- Characters and keywords of the grammar (Annex B.2 of RFC 3525), each as Annex B writes it.
 use Prim.Native.Nat.{ℕ, _≤_}
 use mathlib.Core.Path.{_≡_}
-use mathlib.Core.Bool.{Bool, true}
+use mathlib.Core.Bool.{true}
 use mathlib.Core.List.{List, [], _∷_}
 use Rattle.base.specs.Lists.{has}
 use Rattle.base.specs.Bytes.{text}

@@ -1,7 +1,7 @@
 -- What the grammar says of a message that it does not admit with version 1 (document 01, 'The text'): 406, 403 with its identifier; all else is 400.
 use Prim.Native.Nat.{ℕ, zero, suc, _≤_}
 use mathlib.Core.Path.{_≡_}
-use mathlib.Core.Bool.{Bool, true, false}
+use mathlib.Core.Bool.{false}
 use mathlib.Core.List.{List, [], _∷_, _++_}
 use Rattle.base.specs.Lists.{has}
 use Rattle.base.specs.Bytes.{text}

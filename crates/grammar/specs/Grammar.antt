@@ -11,7 +11,7 @@ use mathlib.Core.Option.{Option, none, some}
 use lib.ListN.{length}
 use Rattle.base.specs.Bytes.{text}
 use Rattle.megaco.specs.Bytes.{equal, comma, leftBrace, rightBrace, slash, colon, dot, quote, semicolon, dash, dollar, star, capital, capitals}
-use Rattle.grammar.specs.Characters.{Keyword, ALPHA, DIGIT, AlphaDigitOr, SafeChar, RestChar, WSP, QuotedChar, CommentChar, Many}
+use Rattle.grammar.specs.Characters.{Keyword, ALPHA, DIGIT, AlphaDigitOr, SafeChar, WSP, QuotedChar, CommentChar, Many}
 use Rattle.megaco.specs.Tree.{Value, plain, quoted, ItemOf, item, Item, Items, Command, command, Action, action, Transaction, transaction}
 use Rattle.megaco.specs.declared.Token.the-variants.{MegacopToken, TransToken, CtxToken, PriorityToken, EmergencyToken}
 use Rattle.megaco.specs.declared.Context.{Context}
