@@ -16,3 +16,4 @@ pub mod TransactionLaws
 pub mod OutcomeLaws
 pub mod FaultLaws
 pub mod Theorems
+pub mod Samples
