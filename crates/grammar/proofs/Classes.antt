@@ -175,7 +175,8 @@ low-safe : Low isSafe
 unfolding isSafe
 low-safe b =
     low-letter b or low-digit b or mark b 0x21 (omega arith) or range b 0x24 0x2b (omega arith) or range b 0x2d 0x2f (omega arith)
-    or range b 0x3f 0x40 (omega arith) or mark b 0x5c (omega arith) or range b 0x5e 0x60 (omega arith) or mark b 0x7c (omega arith) or mark b 0x7e (omega arith)
+    or range b 0x3f 0x40 (omega arith) or mark b 0x5c (omega arith) or range b 0x5e 0x60 (omega arith) or mark b 0x7c (omega arith) or mark b 0x7e
+    (omega arith)
 
 low-rest : Low isRest
 unfolding isRest
@@ -191,7 +192,9 @@ word-tests = marked (text "_") refl isWord low-word refl refl
 -- pathNAME's ("/" / "*"/ ALPHA / DIGIT /"_" / "$" )
 pub name-tests : Tests (AlphaDigitOr (text "/*_$")) (inClass NameByte)
 unfolding inClass isName isWord isLetter isDigit has every pick
-name-tests = marked (text "/*_$") refl isName (λ b. low-word b or mark b 0x2f (omega arith) or mark b 0x2a (omega arith) or mark b 0x24 (omega arith)) refl refl
+name-tests =
+    marked (text "/*_$") refl isName (λ b. low-word b or mark b 0x2f (omega arith) or mark b 0x2a (omega arith) or mark b 0x24
+    (omega arith)) refl refl
 
 -- domainName's (ALPHA / DIGIT / "-" / ".")
 pub domain-tests : Tests (AlphaDigitOr (text "-.")) (inClass DomainByte)
@@ -272,4 +275,5 @@ unfolding goesOn isWhite has every pick
 white-has = agree (goesOn false) (λ b. has b (text " \t\r\n;")) low-white (λ b. low-has (text " \t\r\n;") b refl) refl
   where
     low-white : Low (goesOn false)
-    low-white b = mark b 0x20 (omega arith) or mark b 0x09 (omega arith) or mark b 0x0d (omega arith) or mark b 0x0a (omega arith) or mark b 0x3b (omega arith)
+    low-white b =
+        mark b 0x20 (omega arith) or mark b 0x09 (omega arith) or mark b 0x0d (omega arith) or mark b 0x0a (omega arith) or mark b 0x3b (omega arith)

@@ -63,7 +63,8 @@ prefix-complete letter s t at (withPrefix {b} c) k h =
     let e : prefixAt letter s at ≡ true = prefix-at letter s _ at h ∙ rw (eq-eqb (capital b) letter c) in
     (e, rw e (behind s (b ∷ dash ∷ []) t at h))
 
-prefix-sound : (letter : ℕ) (s : List ℕ) (at : ℕ) → (a : List ℕ) × Prefix letter a (prefixAt letter s at) × (drop at s ≡ a ++ drop (prefixEnd letter s at) s)
+prefix-sound : (letter : ℕ) (s : List ℕ) (at : ℕ)
+    → (a : List ℕ) × Prefix letter a (prefixAt letter s at) × (drop at s ≡ a ++ drop (prefixEnd letter s at) s)
 unfolding prefixEnd pick
 prefix-sound letter s at = go (prefixAt letter s at) refl
   where
@@ -84,7 +85,8 @@ prefix-sound letter s at = go (prefixAt letter s at) refl
 name-bare : (letter : ℕ) {a : List ℕ} (t : List ℕ) → NAME a → Follow ends t → Bare letter (a ++ t)
 unfolding inClass isWord isLetter isDigit every has pick
 name-bare letter t (name {b} h noMore l) f = and-no (eqb (capital b) letter) _ (follow-not (λ c. eqb c dash) refl f)
-name-bare letter t (name {b} h (andThen {b = c} x m) l) f = and-no (eqb (capital b) letter) _ (test-not (inClass WordByte) c dash refl (word-tests .passes c x))
+name-bare letter t (name {b} h (andThen {b = c} x m) l) f =
+    and-no (eqb (capital b) letter) _ (test-not (inClass WordByte) c dash refl (word-tests .passes c x))
 
 prefix-bare : {a : List ℕ} {x : Bool} (t : List ℕ) → Prefix 0x57 a x → Bare 0x4f t → Bare 0x4f (a ++ t)
 prefix-bare t noPrefix k = k
@@ -126,20 +128,23 @@ module _ (s : List ℕ) where
       (λ i. absurd (fault-got w e (rw i at l)))
       (λ i. given (got-same w e (rw i at l)) (λ z. (rw (z .0) at (y .0), rw (z .0) at i, y .1 ∙ rw (z .0, z .1))))))
 
-  command-reads : (w rest : List ℕ) {a : List ℕ} {x : Command} (at : ℕ) → commandRequest a x → LWSP w → Follow closing rest → drop at s ≡ a ++ (w ++ rest) → Gets s (commandR s at) x rest
+  command-reads : (w rest : List ℕ) {a : List ℕ} {x : Command} (at : ℕ) → commandRequest a x → LWSP w → Follow closing rest
+      → drop at s ≡ a ++ (w ++ rest) → Gets s (commandR s at) x rest
   unfolding commandR every has pick goesOn isWhite
   command-reads w rest at (ammRequest {a} {b} {c} {d} {e} {f} {optional} {wild} {is} o i n np ne (around {a = u} {b = v} j k) t z) g y h =
       let t₃ = f ++ (w ++ rest) in
       let t₂ = e ++ t₃ in
       let t₁ = u ++ (equal ∷ v ++ t₂) in
-      let q : drop at s ≡ a ++ (b ++ (c ++ t₁)) = h ∙ regroup6 a b c d e f (w ++ rest) ∙ ap (λ r. a ++ (b ++ (c ++ r))) (append-assoc u (equal ∷ v) t₂) in
+      let q : drop at s ≡ a ++ (b ++ (c ++ t₁)) =
+      h ∙ regroup6 a b c d e f (w ++ rest) ∙ ap (λ r. a ++ (b ++ (c ++ r))) (append-assoc u (equal ∷ v) t₂) in
       let m : Follow ends t₁ = white-ends j (record { first = refl }) in
       given (prefix-complete 0x4f s (b ++ (c ++ t₁)) at o (prefix-bare (c ++ t₁) i (name-bare 0x4f t₁ n m)) q) (λ q₁.
       given (prefix-complete 0x57 s (c ++ t₁) (prefixEnd 0x4f s at) i (name-bare 0x57 t₁ n m) (q₁ .1)) (λ q₂.
       given (braces-led s (items-complete s 8) z g y) (λ l. rw (q₁ .0, q₂ .0) (
       gets-bind s c _ _ (gets-spaced s {w = u} _ (order-gets t₁ _ n (no-property c np ne) m (q₂ .1)) j refl) (λ p r.
       gets-skip s (signAt equal s p) _ (sign-complete s p equal t₂ k (termination-solid t₃ t) r) (λ p r.
-      gets-bind s e _ _ (gets-spaced s {w = l .white} _ (rw (← l .split) (gets-part s e t₃ p (terminationAt s p) (λ x. x) r (termination-exact s t₃ p t (ends-name (led-ends s refl l)) r)))
+      gets-bind s e _ _ (gets-spaced s {w = l .white} _
+      (rw (← l .split) (gets-part s e t₃ p (terminationAt s p) (λ x. x) r (termination-exact s t₃ p t (ends-name (led-ends s refl l)) r)))
       (l .isWhite) (signs-solid (follow-in signs refl (l .sign)))) (λ p r.
       gets-bind s is (bracesR (itemsR 8 s) s p) _ (l .reads p r) (λ p r. gets-here s _ p rest r))))))))
 
@@ -159,11 +164,13 @@ module _ (s : List ℕ) where
   equal-of i (afterSign j) = around i j
 
   -- a command's word and a termination, each with white space behind it
-  order-spaced : (a : List ℕ) (at e : ℕ) → spaced s (orderR s at) ≡ got a e → (w : List ℕ) × NAME a × (isProperty a ≡ false) × LWSP w × (drop at s ≡ a ++ (w ++ drop e s))
+  order-spaced : (a : List ℕ) (at e : ℕ) → spaced s (orderR s at) ≡ got a e
+      → (w : List ℕ) × NAME a × (isProperty a ≡ false) × LWSP w × (drop at s ≡ a ++ (w ++ drop e s))
   order-spaced a at e h = spaced-got s a e _ h (λ p m l. given (order-got a at p m) (λ y. given (white-sound s p e l) (λ v.
       (v .bytes, y .0, y .1, v .derives, y .2 ∙ ap (λ t. a ++ t) (v .split)))))
 
-  termination-spaced : (a : List ℕ) (at e : ℕ) → spaced s (reading (terminationAt s at) (part s at)) ≡ got a e → (w : List ℕ) × TerminationID a × LWSP w × (drop at s ≡ a ++ (w ++ drop e s))
+  termination-spaced : (a : List ℕ) (at e : ℕ) → spaced s (reading (terminationAt s at) (part s at)) ≡ got a e
+      → (w : List ℕ) × TerminationID a × LWSP w × (drop at s ≡ a ++ (w ++ drop e s))
   termination-spaced a at e h = spaced-got s a e _ h (λ p m l. given (reading-got a p (terminationAt s at) (part s at) m) (λ z.
       given (termination-sound s at p (z .0)) (λ y. given (white-sound s p e l) (λ v. given (sym (y .derives .1) ∙ z .1) (λ i.
       (v .bytes, rw i at (y .derives .0), v .derives, y .split ∙ rw (i, v .split)))))))
@@ -172,7 +179,8 @@ module _ (s : List ℕ) where
   unfolding commandR
   command-sound = record {
     finds = λ x at e h.
-        bind-got x e _ _ h (λ c p m l. skip-got x e (signAt equal s p) _ l (λ q n l. bind-got x e _ _ l (λ t r k l. bind-got x e (bracesR (itemsR 8 s) s r) _ l (λ is f g l.
+        bind-got x e _ _ h (λ c p m l. skip-got x e (signAt equal s p) _ l
+        (λ q n l. bind-got x e _ _ l (λ t r k l. bind-got x e (bracesR (itemsR 8 s) s r) _ l (λ is f g l.
         given (got-same x e l) (λ z.
         given (prefix-sound 0x4f s at) (λ y₁.
         given (prefix-sound 0x57 s (prefixEnd 0x4f s at)) (λ y₂.
@@ -182,7 +190,9 @@ module _ (s : List ℕ) where
         given (braces-sound s (ammParameters 8) (itemsR 8 s) (items-sound s 8) is r e (y₅ .2) (g ∙ ap (got is) (z .1))) (λ y₆. record {
           bytes = y₁ .0 ++ y₂ .0 ++ c ++ (y₃ .0 ++ y₄ .bytes) ++ t ++ y₆ .bytes;
           white = y₆ .white;
-          derives = rw (← (z .0)) (ammRequest (y₁ .1) (y₂ .1) (y₃ .1) (property-no c (y₃ .2) .0) (property-no c (y₃ .2) .1) (equal-of (y₃ .3) (y₄ .derives)) (y₅ .1) (y₆ .derives));
+          derives =
+              rw (← (z .0)) (ammRequest (y₁ .1) (y₂ .1) (y₃ .1) (property-no c (y₃ .2) .0) (property-no c (y₃ .2) .1) (equal-of (y₃ .3) (y₄ .derives))
+              (y₅ .1) (y₆ .derives));
           isWhite = y₆ .isWhite;
           split = y₁ .2 ∙ rw (y₂ .2, y₃ .4, y₄ .split, y₅ .3, y₆ .split) (simp append-assoc);
         })))))))))));

@@ -36,7 +36,8 @@ bad-long (unclosed {a} {b} {c} {d} {t} k e n w g) = rw (opening-split a b c d t)
 bad-long (zeroIdentifier {a} {b} {c} {t} k e n w) = rw (regroup3 a b c t) (name-long _ (trans-name k))
 
 -- actions that no part of the text closes are a fault
-unclosed-fault : (s : List ℕ) (p id : ℕ) (f : List Action → ℕ → Message) → ((x y : List ℕ) (xs : List Action) → drop p s ≡ x ++ y → ¬ Closed x xs) → inside id (actionsR s p) f ≡ fault403 id
+unclosed-fault : (s : List ℕ) (p id : ℕ) (f : List Action → ℕ → Message) → ((x y : List ℕ) (xs : List Action) → drop p s ≡ x ++ y → ¬ Closed x xs)
+    → inside id (actionsR s p) f ≡ fault403 id
 unfolding inside
 unclosed-fault s p id f g = go (actionsR s p) refl
   where
@@ -62,7 +63,8 @@ whole-long : {n id : ℕ} {w c : List ℕ} → Whole n w → BadTransaction c id
 whole-long noneWhole x = bad-long x
 whole-long {c} (oneMore {a} {b} y w) x = rw (append-assoc a b c) (trans-long (b ++ c) y)
 
-pub whole-bad : (s : List ℕ) (k : ℕ) {n id : ℕ} {w c : List ℕ} (at : ℕ) → Whole n w → n < k → BadTransaction c id → drop at s ≡ w ++ c → transactionsR k s at ≡ fault403 id
+pub whole-bad : (s : List ℕ) (k : ℕ) {n id : ℕ} {w c : List ℕ} (at : ℕ) → Whole n w → n < k → BadTransaction c id → drop at s ≡ w ++ c
+    → transactionsR k s at ≡ fault403 id
 unfolding endOr followed pick
 whole-bad s zero at w l x h = absurd (omega arith)
 whole-bad s (suc k) at noneWhole l x h = bad-complete s k at x h

@@ -103,9 +103,11 @@ ends-digit = follow-not isDigit refl
 
 -- ---- a byte that passes a test which no white space passes begins no white space
 
-solid-of : (t : ℕ → Bool) (b : ℕ) → t 0x20 ≡ false → t 0x09 ≡ false → t 0x0d ≡ false → t 0x0a ≡ false → t 0x3b ≡ false → t b ≡ true → goesOn false b ≡ false
+solid-of : (t : ℕ → Bool) (b : ℕ) → t 0x20 ≡ false → t 0x09 ≡ false → t 0x0d ≡ false → t 0x0a ≡ false → t 0x3b ≡ false → t b ≡ true
+    → goesOn false b ≡ false
 unfolding goesOn isWhite
-solid-of t b sp tab cr lf co h = rw (test-not t b 0x20 sp h, test-not t b 0x09 tab h, test-not t b 0x0d cr h, test-not t b 0x0a lf h, test-not t b 0x3b co h)
+solid-of t b sp tab cr lf co h =
+    rw (test-not t b 0x20 sp h, test-not t b 0x09 tab h, test-not t b 0x0d cr h, test-not t b 0x0a lf h, test-not t b 0x3b co h)
 
 pub letter-solid : (b : ℕ) → isLetter b ≡ true → goesOn false b ≡ false
 unfolding isLetter

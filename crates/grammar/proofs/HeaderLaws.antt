@@ -55,7 +55,8 @@ either l s (long e) = inl e
 either l s (short e) = inr e
 
 module _ (s : List ℕ) where
-  megaco-word : {a : List ℕ} (t : List ℕ) (at : ℕ) → NAME a → Keyword MegacopToken a → drop at s ≡ a ++ slash ∷ t → Finds s (megacoAt s at) (slash ∷ t)
+  megaco-word : {a : List ℕ} (t : List ℕ) (at : ℕ) → NAME a → Keyword MegacopToken a → drop at s ≡ a ++ slash ∷ t
+      → Finds s (megacoAt s at) (slash ∷ t)
   unfolding pick isLetter inClass isWord isDigit
   megaco-word {a} t at n k h =
       let i : isAt s at 0x21 ≡ false = isAt-head s _ at 0x21 h ∙ test-not isLetter (head (a ++ slash ∷ t)) 0x21 refl (name-letter (slash ∷ t) n) in
@@ -74,8 +75,15 @@ module _ (s : List ℕ) where
   megaco-sound : (at e : ℕ) → megacoAt s at ≡ Next e → Stands (Keyword MegacopToken) Any (drop at s) (drop e s)
   unfolding formsOf pick capitals capital
   megaco-sound at e h = whether (isAt s at 0x21)
-      (λ t. record { bytes = 0x21 ∷ []; derives = short refl; split = isAt-cons s at 0x21 (omega arith) t ∙ ap (λ p. 0x21 ∷ drop p s) (next-same (rw t at h)); stops = tt })
-      (λ t. given (keyword-sound MegacopToken s at e (rw t at h)) (λ y. record { bytes = y .bytes; derives = y .derives; split = y .split; stops = tt }))
+      (λ t. record {
+        bytes = 0x21 ∷ [];
+        derives = short refl;
+        split = isAt-cons s at 0x21 (omega arith) t ∙ ap (λ p. 0x21 ∷ drop p s)
+            (next-same (rw t at h));
+        stops = tt;
+      })
+      (λ t. given (keyword-sound MegacopToken s at e (rw t at h))
+      (λ y. record { bytes = y .bytes; derives = y .derives; split = y .split; stops = tt }))
 
 -- ---- the header
 
@@ -110,13 +118,15 @@ pub header-complete : {a : List ℕ} {v : ℕ} (s t : List ℕ) → Header a v �
 unfolding startAt senderAt
 header-complete s t (header {a} {b} {c} {d} {e} {f} w k n i m j) z h =
     let g : s ≡ a ++ (b ++ (slash ∷ c ++ (d ++ (e ++ (f ++ t))))) = h ∙ regroup6 a b (slash ∷ c) d e f t in
-    given (finds-after s (whiteAt s 0) _ (white-complete s _ 0 w (megaco-solid _ k) g) (λ p l. finds-after s (megacoAt s p) (markAt slash s) (megaco-complete s _ p k l) (λ p l. mark-complete s p slash _ l))) (λ x.
+    given (finds-after s (whiteAt s 0) _ (white-complete s _ 0 w (megaco-solid _ k) g) (λ p l. finds-after s (megacoAt s p) (markAt slash s)
+    (megaco-complete s _ p k l) (λ p l. mark-complete s p slash _ l))) (λ x.
     given (number-complete s (d ++ (e ++ (f ++ t))) (x .end) 2 99 n (ends-digit (sep-ends _ i)) (x .leaves)) (λ y.
     given (finds-after s (sepAt s (y .end)) _ (sep-complete s (e ++ (f ++ t)) (y .end) i (mId-solid _ m) (y .leaves)) (λ p l.
     finds-after s (mIdAt s p) (sepAt s) (mId-complete s (f ++ t) p m (sep-ends t j) l) (λ p l. sep-complete s t p j z l))) (λ r.
     record { begun = x .end; numbered = y .end; end = r .end; start = x .is; version = y .is; sender = r .is; leaves = r .leaves })))
 
-pub header-sound : (s : List ℕ) (v p q e : ℕ) → startAt s ≡ Next p → numberAt s p 2 99 ≡ Got v q → senderAt s q ≡ Next e → Stands (λ a. Header a v) Solid s (drop e s)
+pub header-sound : (s : List ℕ) (v p q e : ℕ) → startAt s ≡ Next p → numberAt s p 2 99 ≡ Got v q → senderAt s q ≡ Next e
+    → Stands (λ a. Header a v) Solid s (drop e s)
 unfolding startAt senderAt
 header-sound s v p q e h n k =
     after-next _ _ p h (λ a m h. after-next _ _ p h (λ b o h.
@@ -130,6 +140,8 @@ header-sound s v p q e h n k =
     given (sep-sound s d e k) (λ y₇. record {
       bytes = y₁ .bytes ++ y₂ .bytes ++ slash ∷ y₄ .bytes ++ y₅ .bytes ++ y₆ .bytes ++ y₇ .bytes;
       derives = header (y₁ .derives) (y₂ .derives) (y₄ .derives) (y₅ .derives) (y₆ .derives) (y₇ .derives);
-      split = y₁ .split ∙ rw (y₂ .split, y₃, y₄ .split, y₅ .split, y₆ .split, y₇ .split) (sym (regroup6 (y₁ .bytes) (y₂ .bytes) (slash ∷ y₄ .bytes) (y₅ .bytes) (y₆ .bytes) (y₇ .bytes) (drop e s)));
+      split =
+          y₁ .split ∙ rw (y₂ .split, y₃, y₄ .split, y₅ .split, y₆ .split, y₇ .split)
+          (sym (regroup6 (y₁ .bytes) (y₂ .bytes) (slash ∷ y₄ .bytes) (y₅ .bytes) (y₆ .bytes) (y₇ .bytes) (drop e s)));
       stops = y₇ .stops;
     })))))))))))

@@ -72,7 +72,8 @@ module _ (s : List ℕ) where
         reads = λ at h. rw (isAt-head s t₁ at leftBrace h) (
             gets-skip s (signAt leftBrace s at) _ (sign-complete s at leftBrace (b ++ (u₂ ++ t₂)) j (c .solid b (u₂ ++ t₂) xs y) h) (λ p m.
             gets-bind s xs (inner p) _ (c .reads b u₂ t₂ xs p y k (record { first = refl }) m) (λ q n.
-            gets-skip s (signAt rightBrace s q) _ (sign-complete s q rightBrace rest (white-append l v) (signs-solid (closing-signs f)) (n ∙ sym (append-assoc (rightBrace ∷ v₂) w rest))) (λ e o.
+            gets-skip s (signAt rightBrace s q) _ (sign-complete s q rightBrace rest (white-append l v) (signs-solid (closing-signs f))
+            (n ∙ sym (append-assoc (rightBrace ∷ v₂) w rest))) (λ e o.
             gets-here s (some xs) e rest o))));
       }
 
@@ -105,21 +106,26 @@ module _ (s : List ℕ) where
     split = regroup3 u (equal ∷ o) b t;
     reads = λ at h. rw (isAt-head s (equal ∷ o ++ (b ++ t)) at equal h) (
         gets-skip s (signAt equal s at) _ (sign-complete s at equal (b ++ t) j (value-solid t y) h) (λ p m.
-        gets-spaced s _ (rw (← l .split) (gets-value t p y (ends-safe (led-ends refl l)) m)) (l .isWhite) (signs-solid (follow-in signs refl (l .sign)))));
+        gets-spaced s _ (rw (← l .split) (gets-value t p y (ends-safe (led-ends refl l)) m)) (l .isWhite)
+        (signs-solid (follow-in signs refl (l .sign)))));
   }
 
   -- "word, optional `/` word", before what a reader goes on from
-  second-gets : {B : Type 0} {b t rest : List ℕ} {x : Option (List ℕ)} {r : ℕ → Read B} {y : B} (at : ℕ) → ItemID b x → (l : Led s t signs r y rest) → drop at s ≡ b ++ t
+  second-gets : {B : Type 0} {b t rest : List ℕ} {x : Option (List ℕ)} {r : ℕ → Read B} {y : B} (at : ℕ) → ItemID b x → (l : Led s t signs r y rest)
+      → drop at s ≡ b ++ t
       → Gets s (spaced s (secondR s at)) x (l .body)
   unfolding secondR every has pick
   second-gets {t} at noItemID l h =
-      gets-spaced s {w = l .white} _ (rw (isAt-head s t at slash h, follow-not (λ b. eqb b slash) refl (led-ends refl l), ← l .split) (gets-here s none at t h)) (l .isWhite) (signs-solid (l .sign))
+      gets-spaced s {w = l .white} _ (rw (isAt-head s t at slash h, follow-not (λ b. eqb b slash) refl (led-ends refl l), ← l .split)
+      (gets-here s none at t h)) (l .isWhite) (signs-solid (l .sign))
   second-gets {t} at (itemID {a} n) l h =
       gets-spaced s {w = l .white} _ (rw (isAt-head s (slash ∷ a ++ t) at slash h, ← l .split) (
-      gets-bind s a (wordR s (at + 1)) _ (gets-word s t (at + 1) n (ends-word (led-ends refl l)) (behind s (slash ∷ []) (a ++ t) at h)) (λ p m. gets-here s (some a) p t m)))
+      gets-bind s a (wordR s (at + 1)) _ (gets-word s t (at + 1) n (ends-word (led-ends refl l)) (behind s (slash ∷ []) (a ++ t) at h))
+      (λ p m. gets-here s (some a) p t m)))
       (l .isWhite) (signs-solid (l .sign))
 
-  second-stops : {B : Type 0} {b t rest : List ℕ} {x : Option (List ℕ)} {r : ℕ → Read B} {y : B} → ItemID b x → Led s t signs r y rest → Stops (inClass WordByte) (b ++ t)
+  second-stops : {B : Type 0} {b t rest : List ℕ} {x : Option (List ℕ)} {r : ℕ → Read B} {y : B} → ItemID b x → Led s t signs r y rest
+      → Stops (inClass WordByte) (b ++ t)
   unfolding every has pick inClass isWord isLetter isDigit
   second-stops noItemID l = ends-word (led-ends refl l)
   second-stops (itemID n) l = refl
@@ -127,14 +133,17 @@ module _ (s : List ℕ) where
   item-solid : {A : Type 0} {X : List ℕ → List A → Type 0} {a : List ℕ} {x : ItemOf A} (t : List ℕ) → ammParameter X a x → Solid (a ++ t)
   item-solid t (parameter {a} {b} {c} {d} n i p z) = rw (regroup4 a b c d t) (name-solid (b ++ (c ++ (d ++ t))) n)
 
-  pub item-complete : {A : Type 0} (X : List ℕ → List A → Type 0) (inner : ℕ → Read (List A)) → Complete X (text "}") s inner → Complete (ammParameter X) closing s (itemR inner s)
+  pub item-complete : {A : Type 0} (X : List ℕ → List A → Type 0) (inner : ℕ → Read (List A)) → Complete X (text "}") s inner
+      → Complete (ammParameter X) closing s (itemR inner s)
   unfolding itemR
   item-complete {A} X inner c = record { solid = λ a t x y. item-solid t y; reads = all }
     where
-      all : (a w rest : List ℕ) (x : ItemOf A) (at : ℕ) → ammParameter X a x → LWSP w → Follow closing rest → drop at s ≡ a ++ (w ++ rest) → Gets s (itemR inner s at) x rest
+      all : (a w rest : List ℕ) (x : ItemOf A) (at : ℕ) → ammParameter X a x → LWSP w → Follow closing rest → drop at s ≡ a ++ (w ++ rest)
+          → Gets s (itemR inner s at) x rest
       all a′ w rest x′ at (parameter {a} {b} {c = p} {d} {x} {v} {is} n i y z) g f h =
           given (braces-led c z g f) (λ l. given (value-led y l) (λ k.
-          gets-bind s a (wordR s at) _ (gets-word s (b ++ (p ++ (d ++ (w ++ rest)))) at n (second-stops i k) (h ∙ regroup4 a b p d (w ++ rest))) (λ q m.
+          gets-bind s a (wordR s at) _ (gets-word s (b ++ (p ++ (d ++ (w ++ rest)))) at n (second-stops i k) (h ∙ regroup4 a b p d (w ++ rest)))
+          (λ q m.
           gets-bind s x (spaced s (secondR s q)) _ (second-gets q i k m) (λ q m.
           gets-bind s v (valueR s q) _ (k .reads q m) (λ q m.
           gets-bind s is (bracesR inner s q) _ (l .reads q m) (λ q m. gets-here s (item a x v is) q rest m))))))
@@ -153,12 +162,15 @@ module _ (s : List ℕ) where
   braces-of X i (afterSign j) y k (afterSign l) z = rw (← z) (withBraces (around i j) y (around k l))
 
   -- from behind white space
-  pub braces-sound : {A : Type 0} (X : List ℕ → List A → Type 0) (inner : ℕ → Read (List A)) → Sound X s inner → {u : List ℕ} (is : Option (List A)) (at e : ℕ) → LWSP u
+  pub braces-sound : {A : Type 0} (X : List ℕ → List A → Type 0) (inner : ℕ → Read (List A)) → Sound X s inner
+      → {u : List ℕ} (is : Option (List A)) (at e : ℕ) → LWSP u
       → bracesR inner s at ≡ got is e → Spaced (λ c. Braces X c is) (u ++ drop at s) (drop e s)
   unfolding bracesR pick
   braces-sound X inner c {u} is at e i h = whether (isAt s at leftBrace)
-      (λ t. skip-got is e (signAt leftBrace s at) _ (rw t at h) (λ p m l. bind-got is e (inner p) _ l (λ xs q n l. skip-got is e (signAt rightBrace s q) _ l (λ r o l. given (got-same is e l) (λ z.
-      given (sign-sound s at leftBrace p (omega arith) m) (λ f. given (c .finds xs p q n) (λ y. given (sign-sound s q rightBrace e (omega arith) (o ∙ ap Next (z .1))) (λ g. record {
+      (λ t. skip-got is e (signAt leftBrace s at) _ (rw t at h)
+      (λ p m l. bind-got is e (inner p) _ l (λ xs q n l. skip-got is e (signAt rightBrace s q) _ l (λ r o l. given (got-same is e l) (λ z.
+      given (sign-sound s at leftBrace p (omega arith) m)
+      (λ f. given (c .finds xs p q n) (λ y. given (sign-sound s q rightBrace e (omega arith) (o ∙ ap Next (z .1))) (λ g. record {
         bytes = (u ++ f .bytes) ++ y .bytes ++ (y .white ++ g .bytes);
         white = [];
         derives = braces-of X i (f .derives) (y .derives) (y .isWhite) (g .derives) (z .0);
@@ -213,11 +225,13 @@ module _ (s : List ℕ) where
         split = rw (z .1) (w .split);
       }))))
 
-  pub item-sound : {A : Type 0} (X : List ℕ → List A → Type 0) (inner : ℕ → Read (List A)) → Sound X s inner → Sound (ammParameter X) s (itemR inner s)
+  pub item-sound : {A : Type 0} (X : List ℕ → List A → Type 0) (inner : ℕ → Read (List A)) → Sound X s inner
+      → Sound (ammParameter X) s (itemR inner s)
   unfolding itemR
   item-sound X inner c = record {
     finds = λ y at e h.
-        bind-got y e (wordR s at) _ h (λ a p m l. bind-got y e (spaced s (secondR s p)) _ l (λ x q n l. bind-got y e (valueR s q) _ l (λ v r o l. bind-got y e (bracesR inner s r) _ l (λ is f g l.
+        bind-got y e (wordR s at) _ h (λ a p m l. bind-got y e (spaced s (secondR s p)) _ l
+        (λ x q n l. bind-got y e (valueR s q) _ l (λ v r o l. bind-got y e (bracesR inner s r) _ l (λ is f g l.
         given (got-same y e l) (λ z.
         given (word-got s a at p m) (λ t₁.
         given (second-sound x p q n) (λ t₂.

@@ -26,15 +26,18 @@ use Rattle.grammar.proofs.WordLaws.{word-exact, word-sound, keyword-com
 
 -- ---- a part, and white space after it
 
-pub gets-spaced : {A : Type 0} (s : List ℕ) {x : A} {w rest : List ℕ} (r : Read A) → Gets s r x (w ++ rest) → LWSP w → Solid rest → Gets s (spaced s r) x rest
+pub gets-spaced : {A : Type 0} (s : List ℕ) {x : A} {w rest : List ℕ} (r : Read A) → Gets s r x (w ++ rest) → LWSP w → Solid rest
+    → Gets s (spaced s r) x rest
 unfolding spaced
 gets-spaced s {x} {w} {rest} r g v k =
     gets-bind s x r _ g (λ p h. gets-skip s (whiteAt s p) (got x) (white-complete s rest p v k h) (λ q l. gets-here s x q rest l))
 
-pub spaced-got : {A C : Type 0} (s : List ℕ) (x : A) (e : ℕ) (r : Read A) → spaced s r ≡ got x e → ((p : ℕ) → r ≡ got x p → whiteAt s p ≡ Next e → C) → C
+pub spaced-got : {A C : Type 0} (s : List ℕ) (x : A) (e : ℕ) (r : Read A) → spaced s r ≡ got x e → ((p : ℕ) → r ≡ got x p → whiteAt s p ≡ Next e → C)
+    → C
 unfolding spaced
 spaced-got s x e r h k =
-    bind-got x e r _ h (λ y p i l. skip-got x e (whiteAt s p) (got y) l (λ q m n. let z = got-same x e n in k p (i ∙ ap (λ u. got u p) (z .0)) (m ∙ ap Next (z .1))))
+    bind-got x e r _ h (λ y p i l. skip-got x e (whiteAt s p) (got y) l (λ q m n. let z = got-same x e n in k p (i ∙ ap (λ u. got u p) (z .0))
+    (m ∙ ap Next (z .1))))
 
 -- a part of the grammar stands here with white space behind it
 pub record Spaced (X : List ℕ → Type 0) (t rest : List ℕ) : Type 0 where
@@ -60,9 +63,11 @@ word-got s w at e h =
 
 -- ---- a sign with white space on both sides
 
-pub around-complete : (s rest : List ℕ) {a : List ℕ} (b at : ℕ) → Around b a → goesOn false b ≡ false → Solid rest → drop at s ≡ a ++ rest → Finds s (after (whiteAt s at) (signAt b s)) rest
+pub around-complete : (s rest : List ℕ) {a : List ℕ} (b at : ℕ) → Around b a → goesOn false b ≡ false → Solid rest → drop at s ≡ a ++ rest
+    → Finds s (after (whiteAt s at) (signAt b s)) rest
 around-complete s rest b at (around {a} {b = c} v w) g k h =
-    finds-after s (whiteAt s at) (signAt b s) (white-complete s (b ∷ c ++ rest) at v g (h ∙ append-assoc a (b ∷ c) rest)) (λ p l. sign-complete s p b rest w k l)
+    finds-after s (whiteAt s at) (signAt b s) (white-complete s (b ∷ c ++ rest) at v g (h ∙ append-assoc a (b ∷ c) rest))
+    (λ p l. sign-complete s p b rest w k l)
 
 pub around-sound : (s : List ℕ) (b at e : ℕ) → 0 < b → after (whiteAt s at) (signAt b s) ≡ Next e → Stands (Around b) Solid (drop at s) (drop e s)
 around-sound s b at e z h = after-next _ _ e h (λ p m l.
@@ -76,12 +81,14 @@ around-sound s b at e z h = after-next _ _ e h (λ p m l.
     joint : {a c : List ℕ} → LWSP a → After b c → Around b (a ++ c)
     joint v (afterSign w) = around v w
 
-pub key-complete : (k : Token) (s rest : List ℕ) {a b : List ℕ} (at : ℕ) → Keyword k a → NAME a → EQUAL b → Solid rest → drop at s ≡ a ++ (b ++ rest) → Finds s (keyAt k s at) rest
+pub key-complete : (k : Token) (s rest : List ℕ) {a b : List ℕ} (at : ℕ) → Keyword k a → NAME a → EQUAL b → Solid rest → drop at s ≡ a ++ (b ++ rest)
+    → Finds s (keyAt k s at) rest
 unfolding keyAt has pick goesOn isWhite
 key-complete k s rest at x n y l h =
     finds-after s _ _ (keyword-complete k s _ at x n (ends-word (around-ends rest refl y)) h) (λ p m. around-complete s rest equal p y refl l m)
 
-pub key-sound : (k : Token) (s : List ℕ) (at e : ℕ) → keyAt k s at ≡ Next e → (a b : List ℕ) × Keyword k a × EQUAL b × (drop at s ≡ a ++ (b ++ drop e s))
+pub key-sound : (k : Token) (s : List ℕ) (at e : ℕ) → keyAt k s at ≡ Next e
+    → (a b : List ℕ) × Keyword k a × EQUAL b × (drop at s ≡ a ++ (b ++ drop e s))
 unfolding keyAt
 key-sound k s at e h = after-next _ _ e h (λ p m l.
     given (keyword-sound k s at p m) (λ w. given (around-sound s equal p e (omega arith) l) (λ g.
@@ -105,7 +112,8 @@ module _ {A : Type 0} (X : List ℕ → A → Type 0) (s : List ℕ) (r : ℕ �
   commas-solid c t (single {a} {x} y) = c .solid a t x y
   commas-solid c t (joined {a} {b} {c = d} {x} y k ys) = rw (regroup3 a b d t) (c .solid a (b ++ (d ++ t)) x y)
 
-  list-reads : Complete X closing s r → (k : ℕ) {a : List ℕ} {xs : List A} → Commas X a xs → length xs ≤ k → (w rest : List ℕ) (at : ℕ) → LWSP w → Follow (text "}") rest
+  list-reads : Complete X closing s r → (k : ℕ) {a : List ℕ} {xs : List A} → Commas X a xs → length xs ≤ k → (w rest : List ℕ) (at : ℕ) → LWSP w
+      → Follow (text "}") rest
       → drop at s ≡ a ++ (w ++ rest) → Gets s (listR r s k at) xs rest
   unfolding listR every has pick
   list-reads c zero (single y) l w rest at v f h = absurd (omega arith)
@@ -115,7 +123,8 @@ module _ {A : Type 0} (X : List ℕ → A → Type 0) (s : List ℕ) (r : ℕ �
       rw (isAt-head s rest p comma m, follow-not (λ b. eqb b comma) refl f) (gets-here s (x ∷ []) p rest m))
   list-reads c (suc k) (joined {a} {c = d} {x} {xs} y (around {a = u} {b = o} i j) ys) l w rest at v f h =
       let t = d ++ (w ++ rest) in
-      let g : drop at s ≡ a ++ (u ++ (comma ∷ o ++ t)) = h ∙ regroup3 a (u ++ comma ∷ o) d (w ++ rest) ∙ ap (λ z. a ++ z) (append-assoc u (comma ∷ o) t) in
+      let g : drop at s ≡ a ++ (u ++ (comma ∷ o ++ t)) =
+      h ∙ regroup3 a (u ++ comma ∷ o) d (w ++ rest) ∙ ap (λ z. a ++ z) (append-assoc u (comma ∷ o) t) in
       gets-bind s x (r at) _ (c .reads a u (comma ∷ o ++ t) x at y i (record { first = refl }) g) (λ p m.
       rw (isAt-head s (comma ∷ o ++ t) p comma m) (
       gets-skip s (signAt comma s p) _ (sign-complete s p comma t j (commas-solid c (w ++ rest) ys) m) (λ q n.
@@ -133,7 +142,8 @@ module _ {A : Type 0} (X : List ℕ → A → Type 0) (s : List ℕ) (r : ℕ �
       first : (a t : List ℕ) (xs : List A) → AtMost k (Commas X) a xs → Solid (a ++ t)
       first a t xs (atMost ys l) = commas-solid c t ys
 
-      all : (a w rest : List ℕ) (xs : List A) (at : ℕ) → AtMost k (Commas X) a xs → LWSP w → Follow (text "}") rest → drop at s ≡ a ++ (w ++ rest) → Gets s (listR r s k at) xs rest
+      all : (a w rest : List ℕ) (xs : List A) (at : ℕ) → AtMost k (Commas X) a xs → LWSP w → Follow (text "}") rest → drop at s ≡ a ++ (w ++ rest)
+          → Gets s (listR r s k at) xs rest
       all a w rest xs at (atMost ys l) v f h = list-reads c k ys l w rest at v f h
 
   pub list-complete-all : Complete X closing s r → Complete (Commas X) (text "}") s (listR r s (unlimited s))
@@ -146,10 +156,12 @@ module _ {A : Type 0} (X : List ℕ → A → Type 0) (s : List ℕ) (r : ℕ �
 
   -- ---- and back
 
-  list-joined : {k : ℕ} {a u o d : List ℕ} {x : A} {ys xs : List A} → X a x → LWSP u → After comma o → AtMost k (Commas X) d ys → x ∷ ys ≡ xs → AtMost (suc k) (Commas X) (a ++ (u ++ o) ++ d) xs
+  list-joined : {k : ℕ} {a u o d : List ℕ} {x : A} {ys xs : List A} → X a x → LWSP u → After comma o → AtMost k (Commas X) d ys → x ∷ ys ≡ xs
+      → AtMost (suc k) (Commas X) (a ++ (u ++ o) ++ d) xs
   list-joined y i (afterSign j) (atMost ys l) z = rw (← z) (atMost (joined y (around i j) ys) (omega arith))
 
-  list-finds : Sound X s r → (k : ℕ) (xs : List A) (at e : ℕ) → listR r s k at ≡ got xs e → Spaced (λ a. AtMost k (Commas X) a xs) (drop at s) (drop e s)
+  list-finds : Sound X s r → (k : ℕ) (xs : List A) (at e : ℕ) → listR r s k at ≡ got xs e
+      → Spaced (λ a. AtMost k (Commas X) a xs) (drop at s) (drop e s)
   unfolding listR pick
   list-finds c zero xs at e h = absurd (fault-got xs e h)
   list-finds c (suc k) xs at e h =

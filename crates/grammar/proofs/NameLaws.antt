@@ -53,8 +53,10 @@ start-is s t at noStar k h = rw (isAt-head s t at star h, k) (sym (add-zero at))
 start-is s t at withStar k h = rw (isAt-head s (star ∷ t) at star h)
 
 -- a path name's bytes: an optional star, a letter, then bytes of its class
-path-exact : (s rest : List ℕ) {a b : List ℕ} (at : ℕ) → Star a → Many (AlphaDigitOr (text "/*_$")) b → isLetter (head (b ++ rest)) ≡ true → length (a ++ b) ≤ 64
-    → Stops (inClass NameByte) rest → drop at s ≡ (a ++ b) ++ rest → (letterAt s (pathStart s at) ≡ true) × (pathNameAt s at ≡ Next (at + length (a ++ b)))
+path-exact : (s rest : List ℕ) {a b : List ℕ} (at : ℕ) → Star a → Many (AlphaDigitOr (text "/*_$")) b → isLetter (head (b ++ rest)) ≡ true
+    → length (a ++ b) ≤ 64
+    → Stops (inClass NameByte) rest → drop at s ≡ (a ++ b) ++ rest
+    → (letterAt s (pathStart s at) ≡ true) × (pathNameAt s at ≡ Next (at + length (a ++ b)))
 unfolding pathNameAt pick
 path-exact s rest {a} {b} at x m g l k h =
     let f : drop at s ≡ a ++ (b ++ rest) = h ∙ append-assoc a b rest in
@@ -98,7 +100,8 @@ path-complete s rest {t} at x k h =
     let p = path-bytes x in
     rw (p .is) (path-exact s rest at (p .starred) (p .many) (p .letter rest) (rw (p .is) at (path-short x)) k (h ∙ ap (λ l. l ++ rest) (p .is)))
 
-path-of : {a b : List ℕ} (rest : List ℕ) → Star a → Many (AlphaDigitOr (text "/*_$")) b → isLetter (head (b ++ rest)) ≡ true → Stops (inClass NameByte) rest
+path-of : {a b : List ℕ} (rest : List ℕ) → Star a → Many (AlphaDigitOr (text "/*_$")) b → isLetter (head (b ++ rest)) ≡ true
+    → Stops (inClass NameByte) rest
     → length (a ++ b) ≤ 64 → pathNAME (a ++ b)
 path-of rest x noMore g k l = absurd (false≢true (sym k ∙ name-tests .passes (head rest) (orAlpha (letter-tells (head rest) g))))
 path-of rest noStar (andThen {b} y m) g k l = path noStar (name (letter-tells b g) noMore (omega arith)) m l
@@ -109,11 +112,13 @@ start-sound : (s : List ℕ) (at : ℕ) → (a : List ℕ) × Star a × (drop at
 unfolding pathStart pick
 start-sound s at = go (isAt s at star) refl
   where
-    go : (t : Bool) → isAt s at star ≡ t → (a : List ℕ) × Star a × (drop at s ≡ a ++ drop (pick t (at + 1) at) s) × (pick t (at + 1) at ≡ at + length a)
+    go : (t : Bool) → isAt s at star ≡ t
+        → (a : List ℕ) × Star a × (drop at s ≡ a ++ drop (pick t (at + 1) at) s) × (pick t (at + 1) at ≡ at + length a)
     go true e = (star ∷ [], withStar, isAt-cons s at star (omega arith) e, refl)
     go false e = ([], noStar, refl, sym (add-zero at))
 
-pub path-sound : (s : List ℕ) (at e : ℕ) → pathNameAt s at ≡ Next e → Stands (λ a. pathNAME a × (part s at e ≡ a)) (Stops (inClass NameByte)) (drop at s) (drop e s)
+pub path-sound : (s : List ℕ) (at e : ℕ) → pathNameAt s at ≡ Next e
+    → Stands (λ a. pathNAME a × (part s at e ≡ a)) (Stops (inClass NameByte)) (drop at s) (drop e s)
 unfolding pathNameAt
 path-sound s at e h = go (start-sound s at)
   where
@@ -127,7 +132,16 @@ path-sound s at e h = go (start-sound s at)
         let n : length (a ++ r .bytes) ≡ length a + length (r .bytes) = length-append a (r .bytes) in
         let d : drop at s ≡ (a ++ r .bytes) ++ drop e s = i ∙ ap (λ t. a ++ t) (r .split) ∙ sym (append-assoc a (r .bytes) (drop e s)) in
         let g : e ≡ at + length (a ++ r .bytes) = omega (arith, r .derives .long, l, n) in
-        record { bytes = a ++ r .bytes; derives = (path-of (drop e s) x (r .derives .many) f (r .stops) (omega (arith, g, q .0, q .1)), part-to s _ (drop e s) at e g d); split = d; stops = r .stops }
+        record {
+          bytes = a ++ r .bytes;
+          derives = (
+            path-of (drop e s) x (r .derives .many) f (r .stops) (omega (arith, g, q .0, q .1)),
+            part-to s _
+                (drop e s) at e g d,
+          );
+          split = d;
+          stops = r .stops;
+        }
 
 -- ---- terminations
 
@@ -141,31 +155,37 @@ no-letter rest k = go (isLetter (head rest)) refl
     go true e = absurd (false≢true (sym k ∙ name-tests .passes (head rest) (orAlpha (letter-tells (head rest) e))))
     go false e = refl
 
-pub termination-exact : (s rest : List ℕ) {a : List ℕ} (at : ℕ) → TerminationID a → Stops (inClass NameByte) rest → drop at s ≡ a ++ rest → terminationAt s at ≡ Next (at + length a)
+pub termination-exact : (s rest : List ℕ) {a : List ℕ} (at : ℕ) → TerminationID a → Stops (inClass NameByte) rest → drop at s ≡ a ++ rest
+    → terminationAt s at ≡ Next (at + length a)
 unfolding terminationAt pathStart pick isLetter every
-termination-exact s rest {a} at (root e) k h = let p = path-complete s rest at (name-path (letters-name a (text "ROOT") refl e)) k h in rw (p .0) (p .1)
+termination-exact s rest {a} at (root e) k h =
+    let p = path-complete s rest at (name-path (letters-name a (text "ROOT") refl e)) k h in rw (p .0) (p .1)
 termination-exact s rest at (named x) k h = let p = path-complete s rest at x k h in rw (p .0) (p .1)
 termination-exact s rest at chooseOne k h =
     rw (isAt-head s (dollar ∷ rest) at star h, letter-at s (dollar ∷ rest) at h, isAt-head s (dollar ∷ rest) at dollar h)
 termination-exact s rest at allOf k h =
     rw (isAt-head s (star ∷ rest) at star h, letter-at s rest (at + 1) (behind s (star ∷ []) rest at h), no-letter rest k)
 
-pub termination-sound : (s : List ℕ) (at e : ℕ) → terminationAt s at ≡ Next e → Stands (λ a. TerminationID a × (part s at e ≡ a)) Any (drop at s) (drop e s)
+pub termination-sound : (s : List ℕ) (at e : ℕ) → terminationAt s at ≡ Next e
+    → Stands (λ a. TerminationID a × (part s at e ≡ a)) Any (drop at s) (drop e s)
 unfolding terminationAt pick
 termination-sound s at e h = go (letterAt s (pathStart s at)) h
   where
-    one : (b : ℕ) → 0 < b → TerminationID (b ∷ []) → isAt s at b ≡ true → at + 1 ≡ e → Stands (λ a. TerminationID a × (part s at e ≡ a)) Any (drop at s) (drop e s)
+    one : (b : ℕ) → 0 < b → TerminationID (b ∷ []) → isAt s at b ≡ true → at + 1 ≡ e
+        → Stands (λ a. TerminationID a × (part s at e ≡ a)) Any (drop at s) (drop e s)
     one b z x i l =
         let d : drop at s ≡ b ∷ drop e s = rw (← l) (isAt-cons s at b z i) in
         record { bytes = b ∷ []; derives = (x, part-to s (b ∷ []) (drop e s) at e (sym l) d); split = d; stops = tt }
 
-    sign : (isAt s at star ≡ true) ⊎ (isAt s at dollar ≡ true) → at + 1 ≡ e → Stands (λ a. TerminationID a × (part s at e ≡ a)) Any (drop at s) (drop e s)
+    sign : (isAt s at star ≡ true) ⊎ (isAt s at dollar ≡ true) → at + 1 ≡ e
+        → Stands (λ a. TerminationID a × (part s at e ≡ a)) Any (drop at s) (drop e s)
     sign (inl i) l = one star (omega arith) allOf i l
     sign (inr i) l = one dollar (omega arith) chooseOne i l
 
     go : (t : Bool) → pick t (pathNameAt s at) (pick (isAt s at star || isAt s at dollar) (Next (at + 1)) Fault) ≡ Next e
         → Stands (λ a. TerminationID a × (part s at e ≡ a)) Any (drop at s) (drop e s)
-    go true f = let r = path-sound s at e f in record { bytes = r .bytes; derives = (named (r .derives .0), r .derives .1); split = r .split; stops = tt }
+    go true f =
+        let r = path-sound s at e f in record { bytes = r .bytes; derives = (named (r .derives .0), r .derives .1); split = r .split; stops = tt }
     go false f = let p = pick-next _ (Next (at + 1)) e f in sign (or-true _ _ (p .0)) (next-same (p .1))
 
 -- ---- values
@@ -188,13 +208,24 @@ value-exact s rest at (quotedString {a} m l) k h =
     let n : length (a ++ quote ∷ []) ≡ length a + 1 = length-append a (quote ∷ []) in
     let o : at + 1 + length a + 1 ≡ at + suc (length (a ++ quote ∷ [])) = omega arith in
     let p : at + suc (length (a ++ quote ∷ [])) - 1 ≡ at + 1 + length a = omega arith in (
-      rw (i, row-is QuotedByte quoted-tests s (quote ∷ rest) (at + 1) m quote-not-quoted f, within-64 (at + 1) (length a) l, mark-exact s (at + 1 + length a) quote rest g, o),
+      rw (
+        i,
+        row-is QuotedByte quoted-tests s (quote ∷ rest) (at + 1) m quote-not-quoted f,
+        within-64 (at + 1) (length a) l,
+        mark-exact s
+            (at + 1 + length a) quote rest g,
+        o,
+      ),
       rw (i, p, part-is s a (quote ∷ rest) (at + 1) f),
     )
 value-exact s rest at (safeChars {b} {bs} x m l) k h =
-    let q : isAt s at quote ≡ false = isAt-head s (b ∷ bs ++ rest) at quote h ∙ test-not (inClass SafeByte) b quote quote-not-safe (safe-tests .passes b x) in
-    let o : at < at + length (b ∷ bs) = omega arith in
-    (rw (q, row-is SafeByte safe-tests s rest at (andThen x m) k h, lt-ltb _ _ o) (within-64 at (suc (length bs)) (omega arith)), rw (q, part-is s (b ∷ bs) rest at h))
+    let q : isAt s at quote ≡ false =
+    isAt-head s (b ∷ bs ++ rest) at quote h ∙ test-not (inClass SafeByte) b quote quote-not-safe (safe-tests .passes b x) in
+    let o : at < at + length (b ∷ bs) = omega arith in (
+      rw (q, row-is SafeByte safe-tests s rest at (andThen x m) k h, lt-ltb _ _ o) (within-64 at (suc (length bs)) (omega arith)),
+      rw
+          (q, part-is s (b ∷ bs) rest at h),
+    )
 
 pub value-sound : (s : List ℕ) (at e : ℕ) → valueAt s at ≡ Next e → Stands (λ a. VALUE a (valueOf s at e)) Any (drop at s) (drop e s)
 unfolding valueAt valueOf quotedAt plainAt pick
@@ -214,17 +245,27 @@ value-sound s at e h = go (isAt s at quote) refl h
         record {
           bytes = quote ∷ r .bytes ++ quote ∷ [];
           derives = rw v (quotedString (r .derives .many) (omega (arith, r .derives .long, q .0, q .1)));
-          split = d ∙ ap (λ t. quote ∷ t) (r .split ∙ ap (λ t. r .bytes ++ t) (mark-sound s p quote e (omega arith) m) ∙ sym (append-assoc (r .bytes) (quote ∷ []) (drop e s)));
+          split =
+              d ∙ ap (λ t. quote ∷ t) (r .split ∙ ap (λ t. r .bytes ++ t) (mark-sound s p quote e (omega arith) m)
+              ∙ sym (append-assoc (r .bytes) (quote ∷ []) (drop e s)));
           stops = tt;
         }
 
-    bare : (ltb at (rowAt SafeByte s at) ≡ true) × (upTo64 at (rowAt SafeByte s at) ≡ Next e) → Stands (λ a. VALUE a (plain (part s at e))) Any (drop at s) (drop e s)
+    bare : (ltb at (rowAt SafeByte s at) ≡ true) × (upTo64 at (rowAt SafeByte s at) ≡ Next e)
+        → Stands (λ a. VALUE a (plain (part s at e))) Any (drop at s) (drop e s)
     bare (o, u) =
         let q = up-to-64 at (rowAt SafeByte s at) e u in
         let r = row-stands SafeByte safe-tests s at e (q .0) in
         let n : at < e = rw (q .0) at (ltb-true at (rowAt SafeByte s at) o) in
-        record { bytes = r .bytes; derives = rw (r .derives .is) (safe (r .derives .many) (omega (arith, r .derives .long)) (omega (arith, r .derives .long, q .0, q .1))); split = r .split; stops = tt }
+        record {
+          bytes = r .bytes;
+          derives = rw (r .derives .is) (safe (r .derives .many) (omega (arith, r .derives .long))
+              (omega (arith, r .derives .long, q .0, q .1)));
+          split = r .split;
+          stops = tt;
+        }
 
-    go : (t : Bool) → isAt s at quote ≡ t → pick t (quotedAt s at) (plainAt s at) ≡ Next e → Stands (λ a. VALUE a (pick t (quoted (part s (at + 1) (e - 1))) (plain (part s at e)))) Any (drop at s) (drop e s)
+    go : (t : Bool) → isAt s at quote ≡ t → pick t (quotedAt s at) (plainAt s at) ≡ Next e
+        → Stands (λ a. VALUE a (pick t (quoted (part s (at + 1) (e - 1))) (plain (part s at e)))) Any (drop at s) (drop e s)
     go true i f = after-next _ _ e f (λ p. inQuotes p (isAt-cons s at quote (omega arith) i))
     go false i f = bare (pick-next _ _ e f)

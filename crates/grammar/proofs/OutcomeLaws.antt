@@ -43,7 +43,8 @@ module _ (P : Message → Type 0) where
   by-numbered (Got v p) f x k = k v p refl
   by-numbered Bad f x k = x
 
-  by-inside : (id : ℕ) (r : Read (List Action)) (f : List Action → ℕ → Message) → (r ≡ fault → P (fault403 id)) → ((xs : List Action) (p : ℕ) → r ≡ got xs p → P (f xs p)) → P (inside id r f)
+  by-inside : (id : ℕ) (r : Read (List Action)) (f : List Action → ℕ → Message) → (r ≡ fault → P (fault403 id))
+      → ((xs : List Action) (p : ℕ) → r ≡ got xs p → P (f xs p)) → P (inside id r f)
   unfolding inside
   by-inside id (got xs p) f x k = k xs p refl
   by-inside id fault f x k = x refl
@@ -70,12 +71,15 @@ digit-0 = refl
 
 -- ---- a transaction that was read
 
-transaction-of : {a b c d x w : List ℕ} {id : ℕ} {xs : List Action} (from rest : List ℕ) → Keyword TransToken a → EQUAL b → TransactionID c id → LWSP d → Closed x xs → LWSP w → Solid rest
+transaction-of : {a b c d x w : List ℕ} {id : ℕ} {xs : List Action} (from rest : List ℕ) → Keyword TransToken a → EQUAL b → TransactionID c id
+    → LWSP d → Closed x xs → LWSP w → Solid rest
     → from ≡ a ++ (b ++ (c ++ (d ++ (leftBrace ∷ x ++ (w ++ rest))))) → Stands (λ t. transactionRequest t (transaction id xs)) Solid from rest
 transaction-of {a} {b} {c} {d} {w} from rest k e n v (closed {a = x} {b = y} {c = z} i l j) g o h = record {
   bytes = a ++ b ++ c ++ (d ++ leftBrace ∷ x) ++ y ++ (z ++ rightBrace ∷ w);
   derives = withActions k e n (around v i) l (around j g);
-  split = h ∙ ap (λ r. a ++ (b ++ (c ++ (d ++ leftBrace ∷ r)))) (closed-split x y z (w ++ rest)) ∙ sym (regroup-request a b c d (leftBrace ∷ x) y z (rightBrace ∷ w) rest);
+  split =
+      h ∙ ap (λ r. a ++ (b ++ (c ++ (d ++ leftBrace ∷ r)))) (closed-split x y z (w ++ rest))
+      ∙ sym (regroup-request a b c d (leftBrace ∷ x) y z (rightBrace ∷ w) rest);
   stops = o;
 }
 
@@ -87,13 +91,16 @@ pub data Outcome : ℕ → List ℕ → Message → Type 0 where
   other : {k : ℕ} {t : List ℕ} → Outcome k t fault400
 
 -- a whole transaction before
-outcome-next : {k : ℕ} {t from : List ℕ} {x : Transaction} {m : Message} → Stands (λ a. transactionRequest a x) Solid from t → Outcome k t m → Outcome (suc k) from (followed x m)
+outcome-next : {k : ℕ} {t from : List ℕ} {x : Transaction} {m : Message} → Stands (λ a. transactionRequest a x) Solid from t → Outcome k t m
+    → Outcome (suc k) from (followed x m)
 unfolding followed
 outcome-next {k} y (reads xs l) = rw (y .split) (reads {k = suc k} (nextRequest (y .derives) xs) (omega arith))
-outcome-next {k} y (faults {w} {c} o l b e) = faults {k = suc k} (oneMore (y .derives) o) (omega arith) b (y .split ∙ rw e (sym (append-assoc (y .bytes) w c)))
+outcome-next {k} y (faults {w} {c} o l b e) =
+    faults {k = suc k} (oneMore (y .derives) o) (omega arith) b (y .split ∙ rw e (sym (append-assoc (y .bytes) w c)))
 outcome-next y other = other
 
-outcome-last : {k : ℕ} {from : List ℕ} {x : Transaction} → Stands (λ a. transactionRequest a x) Solid from [] → Outcome (suc k) from (wellFormed (x ∷ []))
+outcome-last : {k : ℕ} {from : List ℕ} {x : Transaction} → Stands (λ a. transactionRequest a x) Solid from []
+    → Outcome (suc k) from (wellFormed (x ∷ []))
 outcome-last {k} y = rw (y .split, append-nil) (reads {k = suc k} (lastRequest (y .derives)) (omega arith))
 
 pub opening-split : (a b c d t : List ℕ) → a ++ b ++ c ++ (d ++ leftBrace ∷ []) ++ t ≡ a ++ (b ++ (c ++ (d ++ leftBrace ∷ t)))
@@ -107,7 +114,8 @@ outcome s (suc k) at =
     by-numbered P (numberAt s p 10 4294967295) _ other (λ id q n. given (number-sound s p 10 4294967295 id q n) (λ y₂.
     by-pick P (eqb id 0) _ _
     (λ z. faults {k = suc k} noneWhole (omega arith)
-    (zeroIdentifier (y₁ .2) (y₁ .3) (rw (eqb-true id 0 z) at (y₂ .derives)) (stops-without isDigit (text "0123456789") digit-has digit-0 (drop q s) (y₂ .stops)))
+    (zeroIdentifier (y₁ .2) (y₁ .3) (rw (eqb-true id 0 z) at (y₂ .derives)) (stops-without isDigit (text "0123456789") digit-has digit-0 (drop q s)
+    (y₂ .stops)))
     (y₁ .4 ∙ rw (y₂ .split) (simp append-assoc)))
     (λ z. given (identifier (y₂ .derives) (omega (arith, eqb-false id 0 z))) (λ x.
     by-elsewhere P (after (whiteAt s q) (markAt leftBrace s)) _ other (λ r o. after-next _ _ r o (λ f w o.
@@ -119,7 +127,8 @@ outcome s (suc k) at =
     (g ∙ sym (opening-split (y₁ .0) (y₁ .1) (y₂ .bytes) (y₃ .bytes) (drop r s))))
     (λ xs e i. given (actions-sound s xs r e i) (λ y₅.
     by-elsewhere P (whiteAt s e) _ other (λ f w. given (white-sound s e f w) (λ y₆.
-    given (transaction-of (drop at s) (drop f s) (y₁ .2) (y₁ .3) x (y₃ .derives) (y₅ .derives) (y₆ .derives) (y₆ .stops) (g ∙ rw (y₅ .split, y₆ .split))) (λ y.
+    given (transaction-of (drop at s) (drop f s) (y₁ .2) (y₁ .3) x (y₃ .derives) (y₅ .derives) (y₆ .derives) (y₆ .stops)
+    (g ∙ rw (y₅ .split, y₆ .split))) (λ y.
     by-pick P (ltb f (length s)) _ _
     (λ l. outcome-next y (outcome s k f))
     (λ l. outcome-last (rw (drop-of-length-le s (ltb-false f (length s) l)) at y))))))))))))))))))

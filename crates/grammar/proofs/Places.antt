@@ -37,7 +37,8 @@ pub regroup-braces : (u a b v c r : List ℕ) → ((u ++ a) ++ b ++ (v ++ c)) ++
 regroup-braces u a b v c r = simp append-assoc
 
 -- a keyword, `=` and a part before them
-pub regroup-request : (a b c u d e v f r : List ℕ) → (a ++ b ++ c ++ (u ++ d) ++ e ++ (v ++ f)) ++ r ≡ a ++ (b ++ (c ++ (u ++ (d ++ (e ++ (v ++ (f ++ r)))))))
+pub regroup-request : (a b c u d e v f r : List ℕ)
+    → (a ++ b ++ c ++ (u ++ d) ++ e ++ (v ++ f)) ++ r ≡ a ++ (b ++ (c ++ (u ++ (d ++ (e ++ (v ++ (f ++ r)))))))
 regroup-request a b c u d e v f r = simp append-assoc
 
 -- ---- bytes from a place on
@@ -141,15 +142,18 @@ module _ (s : List ℕ) where
   finds-is r q e g = rw e g
 
   -- one reader and then another
-  pub finds-after : {mid rest : List ℕ} (r : Parsed) (f : ℕ → Parsed) → Finds s r mid → ((p : ℕ) → drop p s ≡ mid → Finds s (f p) rest) → Finds s (after r f) rest
+  pub finds-after : {mid rest : List ℕ} (r : Parsed) (f : ℕ → Parsed) → Finds s r mid → ((p : ℕ) → drop p s ≡ mid → Finds s (f p) rest)
+      → Finds s (after r f) rest
   unfolding after
   finds-after r f g k = rw (g .is) (k (g .end) (g .leaves))
 
-  pub gets-skip : {A : Type 0} {x : A} {mid rest : List ℕ} (r : Parsed) (f : ℕ → Read A) → Finds s r mid → ((p : ℕ) → drop p s ≡ mid → Gets s (f p) x rest) → Gets s (skip r f) x rest
+  pub gets-skip : {A : Type 0} {x : A} {mid rest : List ℕ} (r : Parsed) (f : ℕ → Read A) → Finds s r mid
+      → ((p : ℕ) → drop p s ≡ mid → Gets s (f p) x rest) → Gets s (skip r f) x rest
   unfolding skip
   gets-skip r f g k = rw (g .is) (k (g .end) (g .leaves))
 
-  pub gets-bind : {A B : Type 0} {x : B} {mid rest : List ℕ} (y : A) (r : Read A) (f : A → ℕ → Read B) → Gets s r y mid → ((p : ℕ) → drop p s ≡ mid → Gets s (f y p) x rest) → Gets s (bind r f) x rest
+  pub gets-bind : {A B : Type 0} {x : B} {mid rest : List ℕ} (y : A) (r : Read A) (f : A → ℕ → Read B) → Gets s r y mid
+      → ((p : ℕ) → drop p s ≡ mid → Gets s (f y p) x rest) → Gets s (bind r f) x rest
   unfolding bind
   gets-bind y r f g k = rw (g .is) (k (g .end) (g .leaves))
 
@@ -158,7 +162,8 @@ module _ (s : List ℕ) where
   gets-number v r f g = record { end = g .end; is = rw (g .is); leaves = g .leaves }
 
   -- a part whose tree is its bytes
-  pub gets-part : {A : Type 0} (a rest : List ℕ) (at : ℕ) (r : Parsed) (f : List ℕ → A) → drop at s ≡ a ++ rest → r ≡ Next (at + length a) → Gets s (reading r (λ e. f (part s at e))) (f a) rest
+  pub gets-part : {A : Type 0} (a rest : List ℕ) (at : ℕ) (r : Parsed) (f : List ℕ → A) → drop at s ≡ a ++ rest → r ≡ Next (at + length a)
+      → Gets s (reading r (λ e. f (part s at e))) (f a) rest
   unfolding reading
   gets-part a rest at r f h e = record { end = at + length a; is = rw (e, part-is s a rest at h); leaves = behind s a rest at h }
 

@@ -56,18 +56,22 @@ pub uint-solid : {most limit v : ℕ} {a : List ℕ} (t : List ℕ) → UINT mos
 uint-solid t (uint {b} d ds m l) = digit-solid b (digit-tests .passes b d)
 
 module _ (s : List ℕ) where
-  property-reads : (w rest : List ℕ) {a : List ℕ} {x : Property} (at : ℕ) → contextProperty a x → LWSP w → Follow closing rest → drop at s ≡ a ++ (w ++ rest) → Gets s (propertyR s at) x rest
+  property-reads : (w rest : List ℕ) {a : List ℕ} {x : Property} (at : ℕ) → contextProperty a x → LWSP w → Follow closing rest
+      → drop at s ≡ a ++ (w ++ rest) → Gets s (propertyR s at) x rest
   unfolding propertyR pick has
   property-reads w rest at (priority {a} {b} {c} {n} x y d) v f h =
       let k : Follow ends (w ++ rest) = white-ends v (signs-ends (closing-signs f)) in
       let q : drop at s ≡ a ++ (b ++ (c ++ (w ++ rest))) = h ∙ regroup3 a b c (w ++ rest) in
       rw (word-here s _ at (priority-name x) (ends-word (around-ends (c ++ (w ++ rest)) refl y)) q, priority-only a x) (
-      gets-skip s (keyAt PriorityToken s at) _ (key-complete PriorityToken s (c ++ (w ++ rest)) at x (priority-name x) y (uint-solid (w ++ rest) d) q) (λ p m.
-      gets-spaced s {w = w} _ (gets-number s n _ Priority (number-complete s (w ++ rest) p 5 99999 d (ends-digit k) m)) v (signs-solid (closing-signs f))))
+      gets-skip s (keyAt PriorityToken s at) _ (key-complete PriorityToken s (c ++ (w ++ rest)) at x (priority-name x) y (uint-solid (w ++ rest) d) q)
+      (λ p m.
+      gets-spaced s {w = w} _ (gets-number s n _ Priority (number-complete s (w ++ rest) p 5 99999 d (ends-digit k) m)) v
+      (signs-solid (closing-signs f))))
   property-reads w rest at (emergency {a} x) v f h =
       let k : Follow ends (w ++ rest) = white-ends v (signs-ends (closing-signs f)) in
       rw (word-here s (w ++ rest) at (emergency-name x) (ends-word k) h, keyword-spells EmergencyToken a x) (
-      gets-spaced s {w = w} _ (gets-part s a (w ++ rest) at _ (λ y. Emergency) h (word-exact s (w ++ rest) at (emergency-name x) (ends-word k) h)) v (signs-solid (closing-signs f)))
+      gets-spaced s {w = w} _ (gets-part s a (w ++ rest) at _ (λ y. Emergency) h (word-exact s (w ++ rest) at (emergency-name x) (ends-word k) h)) v
+      (signs-solid (closing-signs f)))
 
   property-solid : {a : List ℕ} {x : Property} (t : List ℕ) → contextProperty a x → Solid (a ++ t)
   property-solid t (priority {a} {b} {c} x y d) = rw (regroup3 a b c t) (name-solid _ (priority-name x))
@@ -77,10 +81,12 @@ module _ (s : List ℕ) where
   property-complete = record { solid = λ a t x y. property-solid t y; reads = λ a w rest x at y v f h. property-reads w rest at y v f h }
 
   -- a property begins with one of its words
-  pub property-word : {a : List ℕ} {x : Property} (t : List ℕ) (at : ℕ) → contextProperty a x → Follow ends t → drop at s ≡ a ++ t → isProperty (wordHere s at) ≡ true
+  pub property-word : {a : List ℕ} {x : Property} (t : List ℕ) (at : ℕ) → contextProperty a x → Follow ends t → drop at s ≡ a ++ t
+      → isProperty (wordHere s at) ≡ true
   unfolding isProperty has pick
   property-word t at (priority {a} {b} {c} x y d) f h =
-      rw (word-here s _ at (priority-name x) (ends-word (around-ends (c ++ t) refl y)) (h ∙ regroup3 a b c t)) (or-left _ _ (keyword-spells PriorityToken a x))
+      rw (word-here s _ at (priority-name x) (ends-word (around-ends (c ++ t) refl y)) (h ∙ regroup3 a b c t))
+      (or-left _ _ (keyword-spells PriorityToken a x))
   property-word t at (emergency {a} x) f h =
       rw (word-here s t at (emergency-name x) (ends-word f) h) (or-right (spells PriorityToken a) _ (keyword-spells EmergencyToken a x))
 
@@ -89,7 +95,8 @@ module _ (s : List ℕ) where
   property-finds : (x : Property) (at e : ℕ) → propertyR s at ≡ got x e → Spaced (λ a. contextProperty a x) (drop at s) (drop e s)
   unfolding propertyR pick
   property-finds x at e h = whether (spells EmergencyToken (wordHere s at))
-      (λ t. spaced-got s x e _ (rw t at h) (λ p m l. given (reading-got x p (wordAt s at) _ m) (λ z. given (word-sound s at p (z .0)) (λ y. given (white-sound s p e l) (λ v.
+      (λ t. spaced-got s x e _ (rw t at h) (λ p m l. given (reading-got x p (wordAt s at) _ m)
+      (λ z. given (word-sound s at p (z .0)) (λ y. given (white-sound s p e l) (λ v.
       let i : wordHere s at ≡ y .bytes = word-read s at p (z .0) ∙ y .derives .1 in
       record {
         bytes = y .bytes;
@@ -98,7 +105,8 @@ module _ (s : List ℕ) where
         derives = rw (← (z .1)) (emergency (spells-keyword EmergencyToken (y .bytes) (rw i at t)));
         split = y .split ∙ ap (λ r. y .bytes ++ r) (v .split);
       })))))
-      (λ t. skip-got x e (keyAt PriorityToken s at) _ (rw t at h) (λ p m l. spaced-got s x e _ l (λ q l o. number-got x q (numberAt s p 5 99999) Priority l (λ n c z.
+      (λ t. skip-got x e (keyAt PriorityToken s at) _ (rw t at h)
+      (λ p m l. spaced-got s x e _ l (λ q l o. number-got x q (numberAt s p 5 99999) Priority l (λ n c z.
       given (key-sound PriorityToken s at p m) (λ y₁. given (number-sound s p 5 99999 n q c) (λ y₂. given (white-sound s q e o) (λ v. record {
         bytes = y₁ .0 ++ y₁ .1 ++ y₂ .bytes;
         white = v .bytes;

@@ -74,7 +74,8 @@ row X t k [] = record { bytes = []; rest = []; many = noMore; split = refl; stop
 row X t k (b ∷ from) = go (t b) refl (row X t k from)
   where
     go : (x : Bool) → t b ≡ x → Row X t from → Row X t (b ∷ from)
-    go true e r = record { bytes = b ∷ r .bytes; rest = r .rest; many = andThen (k .tells b e) (r .many); split = ap (λ l. b ∷ l) (r .split); stops = r .stops }
+    go true e r =
+        record { bytes = b ∷ r .bytes; rest = r .rest; many = andThen (k .tells b e) (r .many); split = ap (λ l. b ∷ l) (r .split); stops = r .stops }
     go false e r = record { bytes = []; rest = b ∷ from; many = noMore; split = refl; stops = e }
 
 module _ (k : Class) {X : ℕ → Type 0} (c : Tests X (inClass k)) where
@@ -163,7 +164,8 @@ number-complete s rest at most limit (uint {b} {bs} d ds m l) k h = record {
   leaves = behind s (b ∷ bs) rest at h;
 }
 
-pub number-sound : (s : List ℕ) (at most limit v e : ℕ) → numberAt s at most limit ≡ Got v e → Stands (λ a. UINT most limit a v) (Stops isDigit) (drop at s) (drop e s)
+pub number-sound : (s : List ℕ) (at most limit v e : ℕ) → numberAt s at most limit ≡ Got v e
+    → Stands (λ a. UINT most limit a v) (Stops isDigit) (drop at s) (drop e s)
 unfolding numberAt
 number-sound s at most limit v e h = go (row DIGIT isDigit digit-tests (drop at s))
   where
@@ -175,4 +177,10 @@ number-sound s at most limit v e h = go (row DIGIT isDigit digit-tests (drop at 
     go r =
         let q = number-back at most limit (r .rest) at 0 v e (r .many) (r .stops) (omega arith) (omega arith) (omega arith) (rw (r .split) at h) in
         let k : drop e s ≡ r .rest = behind-at s (r .bytes) (r .rest) at e (q .1) (r .split) in
-        record { bytes = r .bytes; derives = some (r .many) (omega arith) (omega arith) (q .3) (q .0); split = rw k (r .split); stops = rw k (r .stops) }
+        record {
+          bytes = r .bytes;
+          derives = some (r .many) (omega arith) (omega arith) (q .3) (q .0);
+          split = rw k (r .split);
+          stops = rw k
+              (r .stops);
+        }

@@ -13,7 +13,8 @@ use Rattle.grammar.specs.Faults.{Fault403, Fault406}
 use Rattle.grammar.proofs.Theorems.{sound, fault-400, fault-403, fault-406}
 
 first-line : megacoMessage (text "!/1 [10.0.0.1] T=7{C=${A=L/1/5,A=$}}") 1
-    (transaction 7 (action Choose [] (command false false (text "A") (text "L/1/5") none ∷ command false false (text "A") (text "$") none ∷ []) ∷ []) ∷ [])
+    (transaction 7 (action Choose [] (command false false (text "A") (text "L/1/5") none ∷ command false false (text "A")
+    (text "$") none ∷ []) ∷ []) ∷ [])
 unfolding computed
 first-line = sound _ _ refl
 
@@ -21,7 +22,8 @@ first-line = sound _ _ refl
 spaced-line : megacoMessage (text " MEGACO/01\t<gw.example>:2944 ; from\r\nTransaction = 1 ;one\n{ context=$ {\n o-W-add = * {M{o{mo=\"x y\"}}}} , C=1{PR=3 , EG}}\n") 1
     (transaction 1 (
     action Choose [] (command true true (text "add") (text "*") (some (
-    item (text "M") none none (some (item (text "o") none none (some (item (text "mo") none (some (quoted (text "x y"))) none ∷ [])) ∷ [])) ∷ [])) ∷ [])
+    item (text "M") none none (some (item (text "o") none none
+    (some (item (text "mo") none (some (quoted (text "x y"))) none ∷ [])) ∷ [])) ∷ [])) ∷ [])
     ∷ action (Numbered 1) (Priority 3 ∷ Emergency ∷ []) [] ∷ []) ∷ [])
 unfolding computed
 spaced-line = sound _ _ refl

@@ -35,7 +35,8 @@ data Meaning (s : List ℕ) : Message → Type 0 where
 
 behind-header : {s t : List ℕ} {m : Message} (y : Stands (λ a. Header a 1) Solid s t) → Outcome 8 t m → Meaning s m
 behind-header y (reads xs l) = rw (y .split) (admitted (message (y .derives) (atMost xs l)))
-behind-header y (faults {w} {c} o l b e) = rw (y .split, e, ← (append-assoc (y .bytes) w c)) (inTransaction (badTransaction (y .derives) o (omega arith) b))
+behind-header y (faults {w} {c} o l b e) =
+    rw (y .split, e, ← (append-assoc (y .bytes) w c)) (inTransaction (badTransaction (y .derives) o (omega arith) b))
 behind-header y other = elsewhereFault
 
 meaning : (s : List ℕ) → Meaning s (messageR s)
@@ -47,7 +48,8 @@ meaning s =
     given (header-sound s v p q r m n o) (λ y.
     by-pick (Meaning s) (eqb v 1) _ _
     (λ z. behind-header (rw (eqb-true v 1 z) at y) (outcome s 8 r))
-    (λ z. rw (y .split) (versioned (otherVersion (y .derives) (eqb-false v 1 z) (stops-without (goesOn false) (text " \t\r\n;") white-has solid-end (drop r s) (y .stops)))))))))
+    (λ z. rw (y .split) (versioned (otherVersion (y .derives) (eqb-false v 1 z) (stops-without (goesOn false) (text " \t\r\n;") white-has solid-end
+    (drop r s) (y .stops)))))))))
 
 -- ---- sound: what is read as well-formed, the grammar admits with the same tree
 
@@ -59,8 +61,10 @@ sound s xs e = go (rw e at (meaning s))
 
 -- ---- complete: what the grammar admits with version 1 is read as well-formed, with the same tree
 
-message-reads : {s : List ℕ} {v : ℕ} {xs : List Transaction} → megacoMessage s v xs → (b : List ℕ) × (x : Headed s v b) × (transactionsR 8 s (x .end) ≡ wellFormed xs)
-message-reads (message {a} {b} h (atMost ys l)) = given (header-complete (a ++ b) b h (list-solid ys) refl) (λ x. (b, x, list-wellFormed (a ++ b) 8 (x .end) ys l (x .leaves)))
+message-reads : {s : List ℕ} {v : ℕ} {xs : List Transaction} → megacoMessage s v xs
+    → (b : List ℕ) × (x : Headed s v b) × (transactionsR 8 s (x .end) ≡ wellFormed xs)
+message-reads (message {a} {b} h (atMost ys l)) =
+    given (header-complete (a ++ b) b h (list-solid ys) refl) (λ x. (b, x, list-wellFormed (a ++ b) 8 (x .end) ys l (x .leaves)))
 
 headed : {s b : List ℕ} {v : ℕ} (x : Headed s v b) → messageR s ≡ pick (eqb v 1) (transactionsR 8 s (x .end)) fault406
 unfolding messageR elsewhere numbered
@@ -93,7 +97,9 @@ fault-406 s = (λ e. to (rw e at (meaning s)), from)
     to (versioned f) = f
 
     from : {s : List ℕ} → Fault406 s → messageR s ≡ fault406
-    from (otherVersion {a} {b} {v} h n w) = given (header-complete (a ++ b) b h (without-stops (goesOn false) (text " \t\r\n;") white-has solid-end w) refl) (λ x. headed x ∙ rw (ne-eqb v 1 n))
+    from (otherVersion {a} {b} {v} h n w) =
+        given (header-complete (a ++ b) b h (without-stops (goesOn false) (text " \t\r\n;") white-has solid-end w) refl)
+        (λ x. headed x ∙ rw (ne-eqb v 1 n))
 
 pub fault-403 : (s : List ℕ) (id : ℕ) → messageR s ≡ fault403 id ↔ Fault403 s id
 unfolding pick
@@ -107,7 +113,8 @@ fault-403 s id = (λ e. to (rw e at (meaning s)), from)
         headed y ∙ whole-bad (a ++ b ++ c) 8 (y .end) w (omega arith) x (y .leaves))
 
 -- "Fault elsewhere"
-pub fault-400 : (s : List ℕ) → messageR s ≡ fault400 ↔ ((xs : List Transaction) → ¬ megacoMessage s 1 xs) × ((id : ℕ) → ¬ Fault403 s id) × (¬ Fault406 s)
+pub fault-400 : (s : List ℕ)
+    → messageR s ≡ fault400 ↔ ((xs : List Transaction) → ¬ megacoMessage s 1 xs) × ((id : ℕ) → ¬ Fault403 s id) × (¬ Fault406 s)
 fault-400 s = (to, λ h. from (messageR s) (meaning s) h)
   where
     to : messageR s ≡ fault400 → ((xs : List Transaction) → ¬ megacoMessage s 1 xs) × ((id : ℕ) → ¬ Fault403 s id) × (¬ Fault406 s)
@@ -117,7 +124,8 @@ fault-400 s = (to, λ h. from (messageR s) (meaning s) h)
       (λ f. let q = fault-406 s .1 f in let z : _≡_ {A = ℕ} 0 1 = cc in omega arith),
     )
 
-    from : (m : Message) → Meaning s m → ((xs : List Transaction) → ¬ megacoMessage s 1 xs) × ((id : ℕ) → ¬ Fault403 s id) × (¬ Fault406 s) → m ≡ fault400
+    from : (m : Message) → Meaning s m → ((xs : List Transaction) → ¬ megacoMessage s 1 xs) × ((id : ℕ) → ¬ Fault403 s id) × (¬ Fault406 s)
+        → m ≡ fault400
     from m (admitted {xs} f) h = absurd (h .0 xs f)
     from m (versioned f) h = absurd (h .2 f)
     from m (inTransaction {id} f) h = absurd (h .1 id f)

@@ -50,7 +50,8 @@ module _ (s : List ℕ) where
   pub actions-sound : (xs : List Action) (at e : ℕ) → actionsR s at ≡ got xs e → Stands (λ a. Closed a xs) Any (drop at s) (drop e s)
   unfolding actionsR
   actions-sound xs at e h =
-      skip-got xs e (whiteAt s at) _ h (λ p m l. bind-got xs e (listR (actionR s) s 16 p) _ l (λ ys q n l. skip-got xs e (markAt rightBrace s q) _ l (λ r o l. given (got-same xs e l) (λ z.
+      skip-got xs e (whiteAt s at) _ h (λ p m l. bind-got xs e (listR (actionR s) s 16 p) _ l (λ ys q n l. skip-got xs e (markAt rightBrace s q) _ l
+      (λ r o l. given (got-same xs e l) (λ z.
       given (white-sound s at p m) (λ y₁.
       given (list-sound actionRequest s (actionR s) (action-sound s) 16 .finds ys p q n) (λ y₂.
       given (mark-sound s q rightBrace e (omega arith) (o ∙ ap Next (z .1))) (λ y₃. record {
@@ -71,13 +72,15 @@ pub record Opens (s : List ℕ) (at id : ℕ) (t : List ℕ) : Type 0 where
   pub is : (k : ℕ) → transactionsR (suc k) s at ≡ opened s k id end
   pub leaves : drop end s ≡ t
 
-pub opening-complete : (s t : List ℕ) {a b c d : List ℕ} {id : ℕ} (at : ℕ) → Keyword TransToken a → EQUAL b → TransactionID c id → LWSP d → drop at s ≡ a ++ (b ++ (c ++ (d ++ leftBrace ∷ t)))
+pub opening-complete : (s t : List ℕ) {a b c d : List ℕ} {id : ℕ} (at : ℕ) → Keyword TransToken a → EQUAL b → TransactionID c id → LWSP d
+    → drop at s ≡ a ++ (b ++ (c ++ (d ++ leftBrace ∷ t)))
     → Opens s at id t
 unfolding transactionsR bracesThen elsewhere numbered has pick goesOn isWhite
 opening-complete s t {d} {id} at k e (identifier n l) w h =
     given (key-complete TransToken s _ at k (trans-name k) e (uint-solid _ n) h) (λ x.
     given (number-complete s _ (x .end) 10 4294967295 n (ends-digit (white-ends w (record { first = refl }))) (x .leaves)) (λ y.
-    given (finds-after s (whiteAt s (y .end)) (markAt leftBrace s) (white-complete s (leftBrace ∷ t) (y .end) w refl (y .leaves)) (λ p m. mark-complete s p leftBrace t m)) (λ z.
+    given (finds-after s (whiteAt s (y .end)) (markAt leftBrace s) (white-complete s (leftBrace ∷ t) (y .end) w refl (y .leaves))
+    (λ p m. mark-complete s p leftBrace t m)) (λ z.
     let i : eqb id 0 ≡ false = ne-eqb id 0 (λ f. omega arith) in
     record { end = z .end; is = λ j. rw (x .is, y .is, i, z .is); leaves = z .leaves })))
 
@@ -88,10 +91,12 @@ pub record Comes (s : List ℕ) (at : ℕ) (x : Transaction) (t : List ℕ) : Ty
   pub is : (k : ℕ) → transactionsR (suc k) s at ≡ endOr (transactionsR k s) x s end
   pub leaves : drop end s ≡ t
 
-pub transaction-complete : (s t : List ℕ) {a : List ℕ} {x : Transaction} (at : ℕ) → transactionRequest a x → Solid t → drop at s ≡ a ++ t → Comes s at x t
+pub transaction-complete : (s t : List ℕ) {a : List ℕ} {x : Transaction} (at : ℕ) → transactionRequest a x → Solid t → drop at s ≡ a ++ t
+    → Comes s at x t
 unfolding inside elsewhere
 transaction-complete s t at (withActions {a} {b} {c} {e} {id} {xs} k q n (around {a = u₁} {b = v₁} i₁ j₁) y (around {a = u₂} {b = v₂} i₂ j₂)) z h =
-    let g : drop at s ≡ a ++ (b ++ (c ++ (u₁ ++ (leftBrace ∷ v₁ ++ (e ++ (u₂ ++ (rightBrace ∷ v₂ ++ t))))))) = h ∙ regroup-request a b c u₁ (leftBrace ∷ v₁) e u₂ (rightBrace ∷ v₂) t in
+    let g : drop at s ≡ a ++ (b ++ (c ++ (u₁ ++ (leftBrace ∷ v₁ ++ (e ++ (u₂ ++ (rightBrace ∷ v₂ ++ t))))))) =
+    h ∙ regroup-request a b c u₁ (leftBrace ∷ v₁) e u₂ (rightBrace ∷ v₂) t in
     given (opening-complete s (v₁ ++ (e ++ (u₂ ++ (rightBrace ∷ v₂ ++ t)))) at k q n i₁ g) (λ o.
     given (actions-complete s (v₂ ++ t) (o .end) (closed j₁ y i₂) (o .leaves ∙ sym (closed-split v₁ e u₂ (v₂ ++ t)))) (λ r.
     given (white-complete s t (r .end) j₂ z (r .leaves)) (λ w.
@@ -123,10 +128,12 @@ at-end s e h = let n : length s - e ≡ 0 = sym (length-drop e s) ∙ ap length 
 pub more-of : (s t : List ℕ) (e : ℕ) → drop e s ≡ t → 0 < length t → ltb e (length s) ≡ true
 more-of s t e h l = let n : length s - e ≡ length t = sym (length-drop e s) ∙ ap length h in lt-ltb e (length s) (omega arith)
 
-pub list-wellFormed : (s : List ℕ) (k : ℕ) {a : List ℕ} {xs : List Transaction} (at : ℕ) → transactionList a xs → length xs ≤ k → drop at s ≡ a → transactionsR k s at ≡ wellFormed xs
+pub list-wellFormed : (s : List ℕ) (k : ℕ) {a : List ℕ} {xs : List Transaction} (at : ℕ) → transactionList a xs → length xs ≤ k → drop at s ≡ a
+    → transactionsR k s at ≡ wellFormed xs
 unfolding endOr followed pick
 list-wellFormed s zero at (lastRequest x) l h = absurd (omega arith)
 list-wellFormed s zero at (nextRequest x xs) l h = absurd (omega arith)
-list-wellFormed s (suc k) at (lastRequest {a} y) l h = given (transaction-complete s [] at y solid-end (h ∙ sym (append-nil a))) (λ r. r .is k ∙ rw (at-end s (r .end) (r .leaves)))
+list-wellFormed s (suc k) at (lastRequest {a} y) l h =
+    given (transaction-complete s [] at y solid-end (h ∙ sym (append-nil a))) (λ r. r .is k ∙ rw (at-end s (r .end) (r .leaves)))
 list-wellFormed s (suc k) at (nextRequest {b} y ys) l h = given (transaction-complete s b at y (list-solid ys) h) (λ r.
     r .is k ∙ rw (more-of s b (r .end) (r .leaves) (list-long ys), list-wellFormed s k (r .end) ys (omega arith) (r .leaves)))

@@ -170,7 +170,8 @@ run-more false b a g r = go (eqb b semicolon) refl r
 white-from : (inside : Bool) (t : List ℕ) (n e : ℕ) → whiteFrom t n inside ≡ Next e → White inside t n e
 unfolding whiteFrom stopAt pick
 white-from true [] n e h = absurd (fault-next h)
-white-from false [] n e h = record { bytes = []; rest = []; runs = noLWSP; split = refl; long = rw (add-zero n) (sym (next-same h)); solid = solid-end }
+white-from false [] n e h =
+    record { bytes = []; rest = []; runs = noLWSP; split = refl; long = rw (add-zero n) (sym (next-same h)); solid = solid-end }
 white-from inside (b ∷ t) n e h = go (goesOn inside b) refl (λ k. white-from (insideAfter inside b) t (n + 1) e (rw k at h))
   where
     here : (m : Bool) → stopAt m n ≡ Next e → goesOn m b ≡ false → White m (b ∷ t) n e
@@ -180,7 +181,15 @@ white-from inside (b ∷ t) n e h = go (goesOn inside b) refl (λ k. white-from 
     go : (x : Bool) → goesOn inside b ≡ x → (goesOn inside b ≡ true → White (insideAfter inside b) t (n + 1) e) → White inside (b ∷ t) n e
     go true k r =
         let w = r k in
-        record { bytes = b ∷ w .bytes; rest = w .rest; runs = run-more inside b (w .bytes) k (w .runs); split = ap (λ l. b ∷ l) (w .split); long = w .long ∙ omega arith; solid = w .solid }
+        record {
+          bytes = b ∷ w .bytes;
+          rest = w .rest;
+          runs = run-more inside b (w .bytes) k (w .runs);
+          split = ap (λ l. b ∷ l)
+              (w .split);
+          long = w .long ∙ omega arith;
+          solid = w .solid;
+        }
     go false k r = here inside (rw k at h) k
 
 passed : (s : List ℕ) (at e : ℕ) (X : List ℕ → Type 0) (w : White false (drop at s) at e) → X (w .bytes) → Stands X Solid (drop at s) (drop e s)

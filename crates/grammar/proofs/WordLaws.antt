@@ -37,7 +37,8 @@ pub row-stands : (k : Class) {X : ℕ → Type 0} (c : Tests X (inClass k)) (s :
     → Stands (λ a. record { many : Many X a; is : part s at e ≡ a; long : e ≡ at + length a }) (Stops (inClass k)) (drop at s) (drop e s)
 row-stands k {X} c s at e h = go (row X (inClass k) c (drop at s))
   where
-    go : Row X (inClass k) (drop at s) → Stands (λ a. record { many : Many X a; is : part s at e ≡ a; long : e ≡ at + length a }) (Stops (inClass k)) (drop at s) (drop e s)
+    go : Row X (inClass k) (drop at s)
+        → Stands (λ a. record { many : Many X a; is : part s at e ≡ a; long : e ≡ at + length a }) (Stops (inClass k)) (drop at s) (drop e s)
     go r =
         let l : e ≡ at + length (r .bytes) = sym h ∙ row-is k c s (r .rest) at (r .many) (r .stops) (r .split) in
         let n : drop e s ≡ r .rest = behind-at s (r .bytes) (r .rest) at e l (r .split) in
@@ -59,23 +60,37 @@ name-letter rest (name {b} h m l) = letter-passes b h
 pub name-short : {a : List ℕ} → NAME a → length a ≤ 64
 name-short (name h m l) = omega arith
 
-pub word-exact : (s rest : List ℕ) {a : List ℕ} (at : ℕ) → NAME a → Stops (inClass WordByte) rest → drop at s ≡ a ++ rest → wordAt s at ≡ Next (at + length a)
+pub word-exact : (s rest : List ℕ) {a : List ℕ} (at : ℕ) → NAME a → Stops (inClass WordByte) rest → drop at s ≡ a ++ rest
+    → wordAt s at ≡ Next (at + length a)
 unfolding wordAt pick
-word-exact s rest {a} at n k h = rw (letter-at s (a ++ rest) at h, name-letter rest n, row-is WordByte word-tests s rest at (name-many n) k h) (within-64 at (length a) (name-short n))
+word-exact s rest {a} at n k h =
+    rw (letter-at s (a ++ rest) at h, name-letter rest n, row-is WordByte word-tests s rest at (name-many n) k h)
+    (within-64 at (length a) (name-short n))
 
 -- a row of a word's bytes that begins with a letter is a word
-many-name : {a : List ℕ} (rest : List ℕ) → Many (AlphaDigitOr (text "_")) a → isLetter (head (a ++ rest)) ≡ true → Stops (inClass WordByte) rest → length a ≤ 64 → NAME a
+many-name : {a : List ℕ} (rest : List ℕ) → Many (AlphaDigitOr (text "_")) a → isLetter (head (a ++ rest)) ≡ true → Stops (inClass WordByte) rest
+    → length a ≤ 64 → NAME a
 many-name rest noMore h k l = absurd (false≢true (sym k ∙ word-tests .passes (head rest) (orAlpha (letter-tells (head rest) h))))
 many-name rest (andThen {b} x m) h k l = name (letter-tells b h) m (omega arith)
 
-pub word-sound : (s : List ℕ) (at e : ℕ) → wordAt s at ≡ Next e → Stands (λ a. NAME a × (part s at e ≡ a)) (Stops (inClass WordByte)) (drop at s) (drop e s)
+pub word-sound : (s : List ℕ) (at e : ℕ) → wordAt s at ≡ Next e
+    → Stands (λ a. NAME a × (part s at e ≡ a)) (Stops (inClass WordByte)) (drop at s) (drop e s)
 unfolding wordAt
 word-sound s at e h =
     let p = pick-next (letterAt s at) _ e h in
     let q = up-to-64 at (rowAt WordByte s at) e (p .1) in
     let r = row-stands WordByte word-tests s at e (q .0) in
     let f : isLetter (head (r .bytes ++ drop e s)) ≡ true = sym (letter-at s _ at (r .split)) ∙ p .0 in
-    record { bytes = r .bytes; derives = (many-name (drop e s) (r .derives .many) f (r .stops) (omega (arith, r .derives .long)), r .derives .is); split = r .split; stops = r .stops }
+    record {
+      bytes = r .bytes;
+      derives = (
+        many-name (drop e s) (r .derives .many) f (r .stops)
+            (omega (arith, r .derives .long)),
+        r .derives .is,
+      );
+      split = r .split;
+      stops = r .stops;
+    }
 
 -- ---- keywords
 
@@ -105,12 +120,14 @@ pub spells-keyword : (k : Token) (a : List ℕ) → spells k a ≡ true → Keyw
 unfolding spells
 spells-keyword k a e = spelt-spelling (formsOf k) a e
 
-pub keyword-complete : (k : Token) (s rest : List ℕ) {a : List ℕ} (at : ℕ) → Keyword k a → NAME a → Stops (inClass WordByte) rest → drop at s ≡ a ++ rest → Finds s (keywordAt k s at) rest
+pub keyword-complete : (k : Token) (s rest : List ℕ) {a : List ℕ} (at : ℕ) → Keyword k a → NAME a → Stops (inClass WordByte) rest
+    → drop at s ≡ a ++ rest → Finds s (keywordAt k s at) rest
 unfolding keywordAt after pick
 keyword-complete k s rest {a} at x n w h =
     finds s a rest at _ h (rw (word-exact s rest at n w h, part-is s a rest at h, keyword-spells k a x))
 
-pub keyword-sound : (k : Token) (s : List ℕ) (at e : ℕ) → keywordAt k s at ≡ Next e → Stands (Keyword k) (Stops (inClass WordByte)) (drop at s) (drop e s)
+pub keyword-sound : (k : Token) (s : List ℕ) (at e : ℕ) → keywordAt k s at ≡ Next e
+    → Stands (Keyword k) (Stops (inClass WordByte)) (drop at s) (drop e s)
 unfolding keywordAt
 keyword-sound k s at e h = after-next _ _ e h (λ p w l.
     let q = pick-next (spells k (part s at p)) (Next p) e l in

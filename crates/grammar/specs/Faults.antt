@@ -27,13 +27,16 @@ pub data Whole : ℕ → List ℕ → Type 0 where
 
 -- from behind a transaction's opening brace through its closing one
 pub data Closed : List ℕ → List Action → Type 0 where
-  closed : {a b c : List ℕ} {xs : List Action} → LWSP a → AtMost 16 (Commas actionRequest) b xs → LWSP c → Closed (a ++ b ++ (c ++ rightBrace ∷ [])) xs
+  closed : {a b c : List ℕ} {xs : List Action} → LWSP a → AtMost 16 (Commas actionRequest) b xs → LWSP c
+      → Closed (a ++ b ++ (c ++ rightBrace ∷ [])) xs
 
 -- "Fault between a transaction's opening and closing brace, or identifier 0"
 pub data BadTransaction : List ℕ → ℕ → Type 0 where
-  unclosed : {a b c d t : List ℕ} {id : ℕ} → Keyword TransToken a → EQUAL b → TransactionID c id → LWSP d → ((x y : List ℕ) (xs : List Action) → t ≡ x ++ y → ¬ Closed x xs)
+  unclosed : {a b c d t : List ℕ} {id : ℕ} → Keyword TransToken a → EQUAL b → TransactionID c id → LWSP d
+      → ((x y : List ℕ) (xs : List Action) → t ≡ x ++ y → ¬ Closed x xs)
       → BadTransaction (a ++ b ++ c ++ (d ++ leftBrace ∷ []) ++ t) id
-  zeroIdentifier : {a b c t : List ℕ} → Keyword TransToken a → EQUAL b → UINT32 c 0 → Without (text "0123456789") t → BadTransaction (a ++ b ++ c ++ t) 0
+  zeroIdentifier : {a b c t : List ℕ} → Keyword TransToken a → EQUAL b → UINT32 c 0 → Without (text "0123456789") t
+      → BadTransaction (a ++ b ++ c ++ t) 0
 
 -- "the reply is `P=id{ER=403{}}` alone": behind a header and up to seven whole transactions, the first fault in reading order
 pub data Fault403 : List ℕ → ℕ → Type 0 where

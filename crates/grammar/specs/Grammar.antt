@@ -90,7 +90,8 @@ valueFrom v (b ∷ bs) = valueFrom (v * 10 + (b - 48)) bs
 
 -- 1*most(DIGIT), at most a limit
 pub data UINT (most limit : ℕ) : List ℕ → ℕ → Type 0 where
-  uint : {b : ℕ} {bs : List ℕ} → DIGIT b → Many DIGIT bs → length (b ∷ bs) ≤ most → valueFrom 0 (b ∷ bs) ≤ limit → UINT most limit (b ∷ bs) (valueFrom 0 (b ∷ bs))
+  uint : {b : ℕ} {bs : List ℕ} → DIGIT b → Many DIGIT bs → length (b ∷ bs) ≤ most → valueFrom 0 (b ∷ bs) ≤ limit
+      → UINT most limit (b ∷ bs) (valueFrom 0 (b ∷ bs))
 
 -- UINT16 = 1*5(DIGIT) ; %x0-FFFF, UINT32 = 1*10(DIGIT) ; %x0-FFFFFFFF, Version = 1*2(DIGIT), V4hex = 1*3(DIGIT) ; "0".."255"
 abbrev pub UINT16 : List ℕ → ℕ → Type 0
@@ -207,13 +208,15 @@ pub data ContextID : List ℕ → Context → Type 0 where
 -- ( contextRequest [COMMA commandRequestList]) / commandRequestList, contextRequest = contextProperties: "at least one of either"
 pub data actionBody : List ℕ → List Property → List Command → Type 0 where
   properties : {a : List ℕ} {ps : List Property} → contextProperties a ps → actionBody a ps []
-  propertiesCommands : {a b c : List ℕ} {ps : List Property} {cs : List Command} → contextProperties a ps → COMMA b → commandRequestList c cs → actionBody (a ++ b ++ c) ps cs
+  propertiesCommands : {a b c : List ℕ} {ps : List Property} {cs : List Command} → contextProperties a ps → COMMA b → commandRequestList c cs
+      → actionBody (a ++ b ++ c) ps cs
   commands : {a : List ℕ} {cs : List Command} → commandRequestList a cs → actionBody a [] cs
 
 -- actionRequest = CtxToken EQUAL ContextID LBRKT (..) RBRKT
 pub data actionRequest : List ℕ → Action → Type 0 where
   inContext : {a b c d e f : List ℕ} {x : Context} {ps : List Property} {cs : List Command}
-      → Keyword CtxToken a → EQUAL b → ContextID c x → LBRKT d → actionBody e ps cs → RBRKT f → actionRequest (a ++ b ++ c ++ d ++ e ++ f) (action x ps cs)
+      → Keyword CtxToken a → EQUAL b → ContextID c x → LBRKT d → actionBody e ps cs → RBRKT f
+      → actionRequest (a ++ b ++ c ++ d ++ e ++ f) (action x ps cs)
 
 -- ---- transactions and the message
 
@@ -229,7 +232,8 @@ pub data transactionRequest : List ℕ → Transaction → Type 0 where
 -- transactionList = 1*( transactionRequest )
 pub data transactionList : List ℕ → List Transaction → Type 0 where
   lastRequest : {a : List ℕ} {x : Transaction} → transactionRequest a x → transactionList a (x ∷ [])
-  nextRequest : {a b : List ℕ} {x : Transaction} {xs : List Transaction} → transactionRequest a x → transactionList b xs → transactionList (a ++ b) (x ∷ xs)
+  nextRequest : {a b : List ℕ} {x : Transaction} {xs : List Transaction} → transactionRequest a x → transactionList b xs
+      → transactionList (a ++ b) (x ∷ xs)
 
 -- messageBody = transactionList: "1 to 8 transactions with no comma between"
 abbrev pub messageBody : List ℕ → List Transaction → Type 0
@@ -237,7 +241,8 @@ messageBody = AtMost 8 transactionList
 
 -- LWSP MegacopToken SLASH Version SEP mId SEP: "A header (through all the white space after the mId)"
 pub data Header : List ℕ → ℕ → Type 0 where
-  header : {a b c d e f : List ℕ} {v : ℕ} → LWSP a → Keyword MegacopToken b → Version c v → SEP d → mId e → SEP f → Header (a ++ b ++ slash ∷ c ++ d ++ e ++ f) v
+  header : {a b c d e f : List ℕ} {v : ℕ} → LWSP a → Keyword MegacopToken b → Version c v → SEP d → mId e → SEP f
+      → Header (a ++ b ++ slash ∷ c ++ d ++ e ++ f) v
 
 -- megacoMessage = LWSP message, message = MegacopToken SLASH Version SEP mId SEP messageBody
 pub data megacoMessage : List ℕ → ℕ → List Transaction → Type 0 where
