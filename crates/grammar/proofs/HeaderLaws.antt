@@ -29,7 +29,7 @@ use Rattle.grammar.proofs.RowLaws.{mark-complete, mark-sound, number-co
 use Rattle.grammar.proofs.FollowLaws.{Follow, ends, blank-ends, ends-digit, path-solid}
 use Rattle.grammar.proofs.WordLaws.{name-letter, keyword-complete, keyword-sound, letters-name}
 use Rattle.grammar.proofs.NameLaws.{path-first}
-use Rattle.grammar.proofs.MidLaws.{mId-complete, mId-sound}
+use Rattle.grammar.proofs.MidLaws.{ends-mid, mId-complete, mId-sound}
 use Rattle.grammar.proofs.ItemLaws.{name-solid}
 
 -- ---- the keyword, in its long form a word, in its short one a mark
@@ -122,7 +122,7 @@ header-complete s t (header {a} {b} {c} {d} {e} {f} w k n i m j) z h =
     (megaco-complete s _ p k l) (λ p l. mark-complete s p slash _ l))) (λ x.
     given (number-complete s (d ++ (e ++ (f ++ t))) (x .end) 2 99 n (ends-digit (sep-ends _ i)) (x .leaves)) (λ y.
     given (finds-after s (sepAt s (y .end)) _ (sep-complete s (e ++ (f ++ t)) (y .end) i (mId-solid _ m) (y .leaves)) (λ p l.
-    finds-after s (mIdAt s p) (sepAt s) (mId-complete s (f ++ t) p m (sep-ends t j) l) (λ p l. sep-complete s t p j z l))) (λ r.
+    finds-after s (mIdAt s p) (sepAt s) (mId-complete s (f ++ t) p m (ends-mid (sep-ends t j)) l) (λ p l. sep-complete s t p j z l))) (λ r.
     record { begun = x .end; numbered = y .end; end = r .end; start = x .is; version = y .is; sender = r .is; leaves = r .leaves })))
 
 pub header-sound : (s : List ℕ) (v p q e : ℕ) → startAt s ≡ Next p → numberAt s p 2 99 ≡ Got v q → senderAt s q ≡ Next e

@@ -17,3 +17,4 @@ pub mod OutcomeLaws
 pub mod FaultLaws
 pub mod Theorems
 pub mod Samples
+pub mod OwnLaws

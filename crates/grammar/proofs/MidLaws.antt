@@ -19,7 +19,7 @@ use Rattle.megaco.specs.declared.Number.{Number}
 use Rattle.megaco.specs.declared.Number.the-variants.{Got}
 use Rattle.grammar.specs.Characters.{AlphaDigitOr, orAlpha, orDigit, orMark, Many, noMore, andThen}
 use Rattle.grammar.specs.Grammar.{V4hex, domainAddress, IPv4address, domainName, domain, Port, noPort, port, mId, byAddress, byDomain, deviceName}
-use Rattle.grammar.proofs.Classes.{test-not, domain-tests, letter-digit-tests}
+use Rattle.grammar.proofs.Classes.{test-not, name-tests, digit-tests, domain-tests, letter-digit-tests}
 use Rattle.grammar.proofs.Places.{regroup5, head, at-head, Any, Stands, Finds, Counts, finds, finds-here, finds-after, behind, isAt-head, isAt-cons, next-same, pick-next, given, after-next, number-next}
 use Rattle.grammar.proofs.RowLaws.{Stops, row-is, up-to-64, within-64, mark-complete, mark-sound, number-complete, number-sound}
 use Rattle.grammar.proofs.FollowLaws.{Follow, ends, follow-not, ends-name, ends-digit}
@@ -33,14 +33,28 @@ finds-number : {s mid rest : List ℕ} {v : ℕ} (r : Number) (f : ℕ → Parse
 unfolding afterNumber
 finds-number r f g k = rw (g .is) (k (g .end) (g .leaves))
 
+-- ---- what may stand behind: nothing that makes the mId longer
+
+pub record MidEnds (rest : List ℕ) : Type 0 where
+  pub noName : Stops (inClass NameByte) rest
+  pub noDigit : Stops isDigit rest
+  pub noColon : eqb (head rest) colon ≡ false
+
+pub ends-mid : {rest : List ℕ} → Follow ends rest → MidEnds rest
+unfolding every has pick
+ends-mid f = record { noName = ends-name f; noDigit = ends-digit f; noColon = follow-not (λ b. eqb b colon) refl f }
+
+pub end-mid : MidEnds []
+end-mid = record { noName = name-tests .ends; noDigit = digit-tests .ends; noColon = refl }
+
 -- ---- the port
 
-port-complete : (s rest : List ℕ) {a : List ℕ} (at : ℕ) → Port a → Follow ends rest → drop at s ≡ a ++ rest → Finds s (portAt s at) rest
-unfolding portAt every has pick
-port-complete s rest at noPort k h = rw (isAt-head s rest at colon h, follow-not (λ b. eqb b colon) refl k) (finds-here s at rest h)
+port-complete : (s rest : List ℕ) {a : List ℕ} (at : ℕ) → Port a → MidEnds rest → drop at s ≡ a ++ rest → Finds s (portAt s at) rest
+unfolding portAt pick
+port-complete s rest at noPort k h = rw (isAt-head s rest at colon h, k .noColon) (finds-here s at rest h)
 port-complete s rest at (port {a} n) k h =
     rw (isAt-head s (colon ∷ a ++ rest) at colon h)
-    (finds-number _ Next (number-complete s rest (at + 1) 5 65535 n (ends-digit k) (behind s (colon ∷ []) (a ++ rest) at h))
+    (finds-number _ Next (number-complete s rest (at + 1) 5 65535 n (k .noDigit) (behind s (colon ∷ []) (a ++ rest) at h))
     (λ p e. finds-here s p rest e))
 
 port-sound : (s : List ℕ) (at e : ℕ) → portAt s at ≡ Next e → Stands Port Any (drop at s) (drop e s)
@@ -178,7 +192,7 @@ address-head t (IPv4address i j k l) = refl
 domain-head : {a : List ℕ} (t : List ℕ) → domainName a → head (a ++ t) ≡ 0x3c
 domain-head t (domain x m l) = refl
 
-pub mId-complete : (s rest : List ℕ) {a : List ℕ} (at : ℕ) → mId a → Follow ends rest → drop at s ≡ a ++ rest → Finds s (mIdAt s at) rest
+pub mId-complete : (s rest : List ℕ) {a : List ℕ} (at : ℕ) → mId a → MidEnds rest → drop at s ≡ a ++ rest → Finds s (mIdAt s at) rest
 unfolding mIdAt pick
 mId-complete s rest at (byAddress {a} {b} x y) k h =
     let f : drop at s ≡ a ++ (b ++ rest) = h ∙ append-assoc a b rest in
@@ -191,7 +205,7 @@ mId-complete s rest at (byDomain {a} {b} x y) k h =
 mId-complete s rest at (deviceName {a} x) k h =
     let i : isAt s at 0x5b ≡ false = isAt-head s _ at 0x5b h ∙ test-not (inClass NameByte) _ 0x5b bracket-not-name (path-first rest x) in
     let j : isAt s at 0x3c ≡ false = isAt-head s _ at 0x3c h ∙ test-not (inClass NameByte) _ 0x3c angle-not-name (path-first rest x) in
-    rw (i, j) (finds s a rest at _ h (path-complete s rest at x (ends-name k) h .1))
+    rw (i, j) (finds s a rest at _ h (path-complete s rest at x (k .noName) h .1))
 
 pub mId-sound : (s : List ℕ) (at e : ℕ) → mIdAt s at ≡ Next e → Stands mId Any (drop at s) (drop e s)
 unfolding mIdAt pick

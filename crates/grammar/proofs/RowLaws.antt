@@ -114,12 +114,12 @@ value-grows v (b ∷ bs) = omega (arith, value-grows (v * 10 + (b - 48)) bs)
 bad-got : {x e : ℕ} → Bad ≡ Got x e → ⊥
 bad-got h = let z : _≡_ {A = ℕ} 0 1 = cc in omega arith
 
-not-bad : (t : Bool) (r : Number) {x e : ℕ} → pick t Bad r ≡ Got x e → (t ≡ false) × (r ≡ Got x e)
+pub not-bad : (t : Bool) (r : Number) {x e : ℕ} → pick t Bad r ≡ Got x e → (t ≡ false) × (r ≡ Got x e)
 unfolding pick
 not-bad true r h = absurd (bad-got h)
 not-bad false r h = (refl, h)
 
-number-end : (at n v x e : ℕ) → numberEnd at n v ≡ Got x e → (x ≡ v) × (e ≡ n) × (at < n)
+pub number-end : (at n v x e : ℕ) → numberEnd at n v ≡ Got x e → (x ≡ v) × (e ≡ n) × (at < n)
 unfolding numberEnd pick
 number-end at n v x e h = go (ltb at n) refl h
   where
