@@ -20,7 +20,7 @@ use Rattle.megaco.specs.Reading.{got, reading, spaced, wordR, bracesR, itemsR, 
 use Rattle.megaco.specs.declared.Token.{Token}
 use Rattle.megaco.specs.declared.Token.the-variants.{PriorityToken, EmergencyToken}
 use Rattle.megaco.specs.declared.Class.the-variants.{WordByte}
-use Rattle.megaco.proofs.Tests.{or-false}
+use Rattle.base.proofs.TestLaws.{or-neither}
 use Rattle.grammar.specs.Characters.{Keyword, noMore, andThen}
 use Rattle.grammar.specs.Grammar.{LWSP, around, EQUAL, NAME, name, TerminationID, root, named, chooseOne, allOf, ammParameters, Prefix, noPrefix, withPrefix, commandRequest, ammRequest}
 use Rattle.grammar.proofs.Classes.{and-no, and-parts, test-not, letter-passes, word-tests}
@@ -106,7 +106,7 @@ no-property a n m = rw (no-keyword PriorityToken a n, no-keyword EmergencyToken 
 
 pub property-no : (a : List ℕ) → isProperty a ≡ false → (¬ Keyword PriorityToken a) × (¬ Keyword EmergencyToken a)
 unfolding isProperty
-property-no a e = let p = or-false (spells PriorityToken a) _ e in (no-spells PriorityToken a (p .0), no-spells EmergencyToken a (p .1))
+property-no a e = let p = or-neither (spells PriorityToken a) _ e in (no-spells PriorityToken a (p .0), no-spells EmergencyToken a (p .1))
 
 termination-solid : {a : List ℕ} (t : List ℕ) → TerminationID a → Solid (a ++ t)
 unfolding isLetter every pick goesOn isWhite

@@ -7,7 +7,7 @@ use Rattle.base.specs.Bytes.{text}
 use Rattle.megaco.specs.Tree.{quoted, item, command, action, transaction}
 use Rattle.megaco.specs.declared.Context.the-variants.{Numbered, Choose}
 use Rattle.megaco.specs.declared.Property.the-variants.{Priority, Emergency}
-use Rattle.megaco.proofs.Opened.{computed}
+use Rattle.megaco.proofs.Opened.{opened}
 use Rattle.grammar.specs.Grammar.{megacoMessage}
 use Rattle.grammar.specs.Faults.{Fault403, Fault406}
 use Rattle.grammar.proofs.Theorems.{sound, fault-400, fault-403, fault-406}
@@ -15,7 +15,7 @@ use Rattle.grammar.proofs.Theorems.{sound, fault-400, fault-403, fault-
 first-line : megacoMessage (text "!/1 [10.0.0.1] T=7{C=${A=L/1/5,A=$}}") 1
     (transaction 7 (action Choose [] (command false false (text "A") (text "L/1/5") none ∷ command false false (text "A")
     (text "$") none ∷ []) ∷ []) ∷ [])
-unfolding computed
+unfolding opened
 first-line = sound _ _ refl
 
 -- white space and comments around signs, long keywords in any letter case, both prefixes, items of three levels, properties
@@ -25,23 +25,23 @@ spaced-line : megacoMessage (text " MEGACO/01\t<gw.example>:2944 ; from\r\nTrans
     item (text "M") none none (some (item (text "o") none none
     (some (item (text "mo") none (some (quoted (text "x y"))) none ∷ [])) ∷ [])) ∷ [])) ∷ [])
     ∷ action (Numbered 1) (Priority 3 ∷ Emergency ∷ []) [] ∷ []) ∷ [])
-unfolding computed
+unfolding opened
 spaced-line = sound _ _ refl
 
 -- "T=1{}"
 empty-braces : Fault403 (text "!/1 [10.0.0.1] T=1{}") 1
-unfolding computed
+unfolding opened
 empty-braces = fault-403 _ 1 .0 refl
 
 zero-identifier : Fault403 (text "!/1 [10.0.0.1] T=1{C=-{S=*}}T=0{") 0
-unfolding computed
+unfolding opened
 zero-identifier = fault-403 _ 0 .0 refl
 
 other-version : Fault406 (text "!/2 [10.0.0.1] Q")
-unfolding computed
+unfolding opened
 other-version = fault-406 _ .0 refl
 
 -- the comment after the mId is not ended
 broken-comment : ¬ Fault406 (text "!/2 [10.0.0.1] ;x")
-unfolding computed
+unfolding opened
 broken-comment = fault-400 _ .0 refl .2

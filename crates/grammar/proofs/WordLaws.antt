@@ -20,7 +20,7 @@ use Rattle.megaco.specs.declared.Token.the-variants.{TransToken, CtxToken, Prio
 use Rattle.megaco.specs.declared.Class.{Class}
 use Rattle.megaco.specs.declared.Class.the-variants.{WordByte}
 use Rattle.megaco.specs.declared.Parsed.the-variants.{Next}
-use Rattle.megaco.proofs.Tests.{same-is, pick-both}
+use Rattle.base.proofs.TestLaws.{same-is, pick-both}
 use Rattle.grammar.specs.Characters.{Spelling, long, short, Keyword, ALPHA, lower, AlphaDigitOr, orAlpha, Many, noMore, andThen}
 use Rattle.grammar.specs.Grammar.{NAME, name}
 use Rattle.grammar.proofs.Classes.{Tests, or-true, or-right, and-parts, letter-passes, letter-tells, word-tests}
