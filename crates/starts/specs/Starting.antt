@@ -1,0 +1,49 @@
+-- What the functions of an action's start promise.
+use Prim.Native.Nat.{ℕ, _+_, _*_}
+use mathlib.Core.Path.{_≡_}
+use mathlib.Core.Bool.{Bool, true, false, _&&_}
+use mathlib.Core.List.{List, [], _∷_}
+use lib.Dec.{ltb, eqb}
+use Rattle.base.specs.Pick.{pick}
+use Rattle.megaco.specs.Table.{Write, write, cell, rec, priorityOf, emergencyOf}
+use Rattle.megaco.specs.Reading.{unlimited}
+use Rattle.megaco.specs.Running.{newRecord, over15, setProperties}
+use Rattle.megaco.specs.declared.Context.{Context}
+use Rattle.megaco.specs.declared.Context.the-variants.{Null, Numbered, Choose, All}
+use Rattle.megaco.specs.declared.Property.{Property}
+use Rattle.megaco.specs.declared.Property.the-variants.{Priority, Emergency}
+use Rattle.syntax.specs.Extraction.{propertiesOf}
+use Rattle.starts.specs.declared.Given.{Given}
+
+-- a priority over 15
+unfoldable pub overOne : Property → Bool
+overOne (Priority n) = ltb 15 n
+overOne Emergency = false
+
+-- a record with one property set in it
+unfoldable pub setOne : Property → ℕ → ℕ
+setOne (Priority n) r = 1 + n + 16 * emergencyOf r
+setOne Emergency r = 1 + priorityOf r + 16
+
+-- the properties that begin here
+unfoldable pub propertiesIn : List ℕ → ℕ → List Property
+propertiesIn s at = propertiesOf (unlimited s) s at
+
+pub record OfProperties (s : List ℕ) (at held : ℕ) (r : Given) : Type 0 where
+  pub over : r .over ≡ over15 (propertiesIn s at)
+  pub fresh : r .over ≡ false → r .fresh ≡ setProperties (propertiesIn s at) newRecord
+  pub held : r .over ≡ false → r .held ≡ setProperties (propertiesIn s at) held
+
+-- the code of the first test that fails at the start, 0 if there is none
+unfoldable pub startCode : Context → Bool → Bool → Bool → ℕ → ℕ
+startCode Null any over alone held = pick any 421 0
+startCode (Numbered c) any over alone held = pick over 449 (pick (any && eqb held 0) 411 0)
+startCode Choose any over alone held = pick (any && alone) 421 (pick over 449 0)
+startCode All any over alone held = 421
+
+-- the record with its properties set
+unfoldable pub wroteStart : Context → Bool → ℕ → List Write
+wroteStart Null any r = []
+wroteStart (Numbered c) any r = pick any (write (cell (rec c)) r ∷ []) []
+wroteStart Choose any r = []
+wroteStart All any r = []

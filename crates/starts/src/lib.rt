@@ -1,0 +1,138 @@
+// An action's start: its properties, its tests, and what it sets (document 01, 'Running').
+ghost use mathlib.Core.Path.{_≡_};
+ghost use mathlib.Core.Bool.{true, false};
+ghost use Prim.Native.Nat.{_≤_};
+ghost use lib.ListN.{length};
+ghost use Rattle.megaco.specs.Table.{apply, priorityOf, emergencyOf};
+ghost use Rattle.megaco.specs.Running.{newRecord, anyGiven, over15, setProperties, startChecks, startWrites};
+ghost use Rattle.starts.specs.Starting.{overOne, setOne, startCode, wroteStart, OfProperties};
+use megaco::Context;
+use megaco::Property;
+
+// The properties of an action: whether a priority is over 15, and if not, the record that they make of a new context's and of the
+// one held.
+pub struct Given {
+    pub over: bool,
+    pub fresh: u32,
+    pub held: u32,
+}
+
+// A priority over 15.
+fn is_over(x: Property) -> bool
+    ensures { λ r. ⌜ r ≡ overOne x ⌝ }
+{
+    match x {
+        Property::Priority(n) => 15 < n,
+        Property::Emergency => false,
+    }
+}
+
+// A record with one property set in it.
+fn set_one(x: Property, held: u32) -> u32
+    requires { ⌜ (overOne x ≡ false) × (held ≤ 32) ⌝ }
+    ensures { λ r. ⌜ (r ≡ setOne x held) × (r ≤ 32) ⌝ }
+{
+    match x {
+        Property::Priority(n) => 1 + n + 16 * emergency(held),
+        Property::Emergency => 1 + priority(held) + 16,
+    }
+}
+
+fn priority(held: u32) -> u32
+    ensures { λ r. ⌜ r ≡ priorityOf held ⌝ }
+{
+    if held == 0 {
+        return 0;
+    }
+    (held - 1) % 16
+}
+
+fn emergency(held: u32) -> u32
+    ensures { λ r. ⌜ r ≡ emergencyOf held ⌝ }
+{
+    if held == 0 {
+        return 0;
+    }
+    (held - 1) / 16
+}
+
+// The properties that begin here.
+pub fn read_properties(s: &[u8], at: usize, held: u32) -> Given
+    requires { ⌜ held ≤ 32 ⌝ }
+    ensures { λ r. ⌜ OfProperties (now (s .entry)) at held r ⌝ }
+{
+    let mut i = at;
+    let mut n: usize = 0;
+    let mut a: u32 = 1;
+    let mut b = held;
+    while n <= s.len() {
+        if actions::property_here(s, i) {
+            let p = outline::property_places(s, i);
+            let x = p.property;
+            let e = p.end;
+            if is_over(x) {
+                return Given { over: true, fresh: a, held: b };
+            }
+            a = set_one(x, a);
+            b = set_one(x, b);
+            if text::is_at(s, e, 0x2c) {
+                i = parts::past_comma(s, e);
+                n += 1;
+            } else {
+                return Given { over: false, fresh: a, held: b };
+            }
+        } else {
+            return Given { over: false, fresh: a, held: b };
+        }
+    }
+    Given { over: false, fresh: a, held: b }
+}
+
+// The code of an action error at the start, or 0.
+pub fn start_code(c: Context, any: bool, over: bool, alone: bool, held: u32) -> u32
+    ensures { λ r. ⌜ r ≡ startCode c any over alone held ⌝ }
+{
+    match c {
+        Context::Null => {
+            if any {
+                return 421;
+            }
+            0
+        }
+        Context::Numbered(_) => {
+            if over {
+                return 449;
+            }
+            if any & (held == 0) {
+                return 411;
+            }
+            0
+        }
+        Context::Choose => {
+            if any & alone {
+                return 421;
+            }
+            if over {
+                return 449;
+            }
+            0
+        }
+        Context::All => 421,
+    }
+}
+
+// Sets the properties given in a numbered context.
+pub fn start_write(table: &mut [u32], c: Context, any: bool, held: u32)
+    ensures { λ _. ⌜ now (table .exit) ≡ apply (wroteStart c any held) (now (table .entry)) ⌝ }
+{
+    match c {
+        Context::Null => {}
+        Context::Numbered(n) => {
+            if any {
+                table::set_record(table, n, held);
+            }
+        }
+        Context::Choose => {}
+        Context::All => {}
+    }
+}
