@@ -1,0 +1,211 @@
+-- The loops over a transaction's actions and a message's transactions.
+use Prim.Native.Nat.{ℕ, zero, suc, _+_, _-_, _<_, _≤_}
+use mathlib.Core.Path.{_≡_, refl, sym, ap, _∙_, subst}
+use mathlib.Core.List.{List, [], _∷_}
+use mathlib.Core.Bool.{Bool, true, false}
+use lib.ListN.{length, replicate}
+use lib.Dec.{ltb}
+use borrow.Author.Tests.{lt-ltb, le-ltb}
+use native.Mathlib.Omega.{arith}
+use Rattle.base.specs.Pick.{pick}
+use Rattle.base.specs.Lists.{isAt}
+use Rattle.base.specs.Bytes.{text, _then_}
+use Rattle.base.specs.Out.{Appended}
+use Rattle.base.proofs.OutLaws.{_▸_, none, copied}
+use Rattle.base.proofs.TextLaws.{then-assoc, then-none}
+use Rattle.megaco.specs.Bytes.{comma}
+use Rattle.megaco.specs.Table.{sound}
+use Rattle.megaco.specs.Tree.{Action, Transaction, transaction}
+use Rattle.megaco.specs.Reply.{Report, reportsText, separator, actionText, replyText, limited}
+use Rattle.megaco.specs.Running.{Outcome, Ran, ran, runTransaction, runTransactions}
+use Rattle.megaco.specs.declared.Context.{Context}
+use Rattle.syntax.specs.Extraction.{pastSign, listOf, actionOf, actionEnd, actionsOf, transactionOf, transactionEnd, transactionsOf}
+use Rattle.reply.specs.Texts.{replyOpen, actionOpen, Limited}
+use Rattle.reply.proofs.ReplyLaws.{action-is, reply-is, limited-is}
+use Rattle.laws.specs.Kept.{transaction-sound}
+use Rattle.tries.specs.Contract.{Did}
+use Rattle.tries.specs.declared.Went.{Went}
+use Rattle.running.specs.Fold.{runAction, runActions, outcomeText}
+use Rattle.running.specs.Promises.{Acts, Wrote, Copied}
+use Rattle.running.specs.declared.Moved.{Moved}
+use Rattle.running.proofs.Lists.{list-open, picked, left-out}
+use Rattle.running.proofs.FoldLaws.{transaction-is}
+
+-- ---- an action's text
+
+-- its parts as they are written
+pub copied-is : (first : Bool) (c : Context) (inner : List ℕ) (n : ℕ) (o : List ℕ) (at : ℕ) (o₁ o₂ o₃ o₄ : List ℕ) (p q u r : ℕ) (e : ℕ) (l : List ℕ)
+    → Appended o at (separator first) o₁ p → Appended o₁ p (actionOpen c) o₂ q → l ≡ inner → e ≡ n → length o₂ ≡ length o
+    → ((bs : List ℕ) → Appended (replicate 2049 0) 0 bs inner n → length o₂ ≤ 2049 → Appended o₂ q bs o₃ u) → Appended o₃ u (text "}") o₄ r → Copied first c inner n o at o₄ r
+copied-is first c inner n o at o₁ o₂ o₃ o₄ p q u r e l f g _ _ h k m = record { is = λ bs w z. f ▸ g ▸ k bs w (rw h z) ▸ m }
+
+-- an action whose reports were put into a buffer of their own
+pub acts-by : (x : Outcome) (first : Bool) (t′ inner : List ℕ) (w : Went) (o : List ℕ) (at : ℕ) (o′ : List ℕ) (r : ℕ)
+    → Did x true (replicate 2049 0) 0 t′ inner w → Copied first (w .at) inner (w .next) o at o′ r → length o ≤ 2049
+    → Acts x first o at t′ o′ (record { next = r; going = w .going })
+unfolding outcomeText
+acts-by x first t′ inner w o at o′ r d k h =
+    record {
+      table = d .table;
+      text =
+          subst (λ (b : List ℕ). Appended o at (separator first then b) o′ r)
+          (sym (action-is (w .at) (x .reports)) ∙ ap (λ (c : Context). actionText c (x .reports)) (d .place))
+          (k .is (reportsText true (x .reports)) (d .text) h);
+      going = d .going;
+    }
+
+-- ---- actions in order
+
+pub record Leads (x : Ran) (o : List ℕ) (at : ℕ) (y : Ran) (o₁ : List ℕ) (p : ℕ) : Type 0 where
+  pub to : (t′ o′ : List ℕ) (r : ℕ) → Wrote y o₁ p t′ o′ r → Wrote x o at t′ o′ r
+
+pub begins : (x : Ran) (o : List ℕ) (at : ℕ) → Leads x o at x o at
+begins x o at = record { to = λ t′ o′ r w. w }
+
+module _ (a : Action) (acts : List Action) (first : Bool) (t : List ℕ) where
+  abbrev x : Outcome
+  x = runAction a t
+
+  acts-on : x .going ≡ true → runActions (a ∷ acts) first t ≡ (let y = runActions acts false (x .table) in ran (y .table) (outcomeText first x then y .text))
+  unfolding runActions pick
+  acts-on e = rw e
+
+  acts-end : x .going ≡ false → runActions (a ∷ acts) first t ≡ ran (x .table) (outcomeText first x)
+  unfolding runActions pick
+  acts-end e = rw e
+
+no-actions : (first : Bool) (t : List ℕ) → runActions [] first t ≡ ran t []
+unfolding runActions
+no-actions first t = refl
+
+no-list : (s : List ℕ) (i : ℕ) (first : Bool) (t : List ℕ) → runActions (listOf (actionOf s) (actionEnd s) s 0 i) first t ≡ ran t []
+unfolding listOf runActions
+no-list s i first t = refl
+
+-- an action keeps a sound table sound
+pub action-sound : (a : Action) (t : List ℕ) → sound t ≡ true → sound (runAction a t .table) ≡ true
+action-sound a t h =
+    let e : runTransaction (transaction 0 (a ∷ [])) t .table ≡ runAction a t .table = ap (λ (r : Ran). r .table) (transaction-is 0 (a ∷ []) t) ∙ one (runAction a t .going) refl in
+    subst (λ (u : List ℕ). sound u ≡ true) e (transaction-sound (transaction 0 (a ∷ [])) t h)
+  where
+    one : (b : Bool) → runAction a t .going ≡ b → runActions (a ∷ []) true t .table ≡ runAction a t .table
+    one true g = ap (λ (r : Ran). r .table) (acts-on a [] true t g) ∙ ap (λ (r : Ran). r .table) (no-actions false (runAction a t .table))
+    one false g = ap (λ (r : Ran). r .table) (acts-end a [] true t g)
+
+module _ (x : Ran) (o : List ℕ) (p₀ : ℕ) (s : List ℕ) (k i : ℕ) (f : Bool) (t o₁ : List ℕ) (p : ℕ)
+    (l : Leads x o p₀ (runActions (listOf (actionOf s) (actionEnd s) s k i) f t) o₁ p) where
+  -- none is left
+  pub actions-none : k ≤ 0 → Wrote x o p₀ t o₁ p
+  actions-none h =
+      let e : k ≡ 0 = omega arith in
+      let m : Leads x o p₀ (ran t []) o₁ p =
+      subst (λ (z : Ran). Leads x o p₀ z o₁ p) (ap (λ (j : ℕ). runActions (listOf (actionOf s) (actionEnd s) s j i) f t) e ∙ no-list s i f t) l in
+      m .to t o₁ p (record { table = refl; text = none o₁ p })
+
+  module _ (t₂ o₂ : List ℕ) (m : Moved) (h : 0 < k) (d : Acts (runAction (actionOf s i) t) f o₁ p t₂ o₂ m) where
+    abbrev rest : List Action
+    rest = pick (isAt s (actionEnd s i) comma) (listOf (actionOf s) (actionEnd s) s (k - 1) (pastSign comma s (actionEnd s i))) []
+
+    opened : Leads x o p₀ (runActions (actionOf s i ∷ rest) f t) o₁ p
+    opened = subst (λ (z : List Action). Leads x o p₀ (runActions z f t) o₁ p) (list-open (actionOf s) (actionEnd s) s k i h) l
+
+    -- the action stops the transaction
+    pub actions-stop : m .going ≡ false → Wrote x o p₀ t₂ o₂ (m .next)
+    actions-stop g =
+        let z : Leads x o p₀ (ran (runAction (actionOf s i) t .table) (outcomeText f (runAction (actionOf s i) t))) o₁ p =
+        subst (λ (z : Ran). Leads x o p₀ z o₁ p) (acts-end (actionOf s i) rest f t (sym (d .going) ∙ g)) opened in
+        z .to t₂ o₂ (m .next) (record { table = d .table; text = d .text })
+
+    going-on : m .going ≡ true → Leads x o p₀ (runActions rest false t₂) o₂ (m .next)
+    going-on g =
+        let y : Outcome = runAction (actionOf s i) t in
+        let z : Leads x o p₀ (let r = runActions rest false (y .table) in ran (r .table) (outcomeText f y then r .text)) o₁ p =
+        subst (λ (z : Ran). Leads x o p₀ z o₁ p) (acts-on (actionOf s i) rest f t (sym (d .going) ∙ g)) opened in
+        let v : Leads x o p₀ (let r = runActions rest false t₂ in ran (r .table) (outcomeText f y then r .text)) o₁ p =
+        subst (λ (u : List ℕ). Leads x o p₀ (let r = runActions rest false u in ran (r .table) (outcomeText f y then r .text)) o₁ p) (sym (d .table)) z in
+        record { to = λ t′ o′ r w. v .to t′ o′ r (record { table = w .table; text = d .text ▸ w .text }) }
+
+    -- it is the last
+    pub actions-last : (e : ℕ) (b : Bool) → m .going ≡ true → e ≡ actionEnd s i → b ≡ isAt s e comma → b ≡ false → Wrote x o p₀ t₂ o₂ (m .next)
+    actions-last e b g q u v =
+        let z : isAt s (actionEnd s i) comma ≡ false = ap (λ (j : ℕ). isAt s j comma) (sym q) ∙ sym u ∙ v in
+        let w : Leads x o p₀ (ran t₂ []) o₂ (m .next) =
+        subst (λ (y : Ran). Leads x o p₀ y o₂ (m .next))
+        (ap (λ (y : List Action). runActions y false t₂) (left-out (isAt s (actionEnd s i) comma) (listOf (actionOf s) (actionEnd s) s (k - 1) (pastSign comma s (actionEnd s i))) [] z) ∙ no-actions false t₂) (going-on g) in
+        w .to t₂ o₂ (m .next) (record { table = refl; text = none o₂ (m .next) })
+
+    -- another follows
+    pub actions-more : (e n : ℕ) (b : Bool) → m .going ≡ true → e ≡ actionEnd s i → b ≡ isAt s e comma → b ≡ true → n ≡ pastSign comma s e
+        → Leads x o p₀ (runActions (listOf (actionOf s) (actionEnd s) s (k - 1) n) false t₂) o₂ (m .next)
+    actions-more e n b g q u v r =
+        let z : isAt s (actionEnd s i) comma ≡ true = ap (λ (j : ℕ). isAt s j comma) (sym q) ∙ sym u ∙ v in
+        let y : rest ≡ listOf (actionOf s) (actionEnd s) s (k - 1) n =
+        picked (isAt s (actionEnd s i) comma) _ _ z ∙ ap (λ (j : ℕ). listOf (actionOf s) (actionEnd s) s (k - 1) j) (sym (r ∙ ap (pastSign comma s) q)) in
+        subst (λ (a : List Action). Leads x o p₀ (runActions a false t₂) o₂ (m .next)) y (going-on g)
+
+-- ---- a transaction
+
+pub transaction-wrote : (id : ℕ) (acts : List Action) (t z z₁ z₂ z₃ : List ℕ) (n m e : ℕ) (t′ o : List ℕ) (p : ℕ) (o′ : List ℕ) (r : ℕ) → z ≡ replicate 2049 0
+    → Appended z 0 (replyOpen id) z₁ n → Wrote (runActions acts true t) z₁ n t′ z₂ m → Appended z₂ m (text "}") z₃ e → Limited id z₃ e o p o′ r
+    → Wrote (runTransaction (transaction id acts) t) o p t′ o′ r
+transaction-wrote id acts t z z₁ z₂ z₃ n m e t′ o p o′ r q f w g l =
+    let y : Ran = runActions acts true t in
+    let a : Appended (replicate 2049 0) 0 (replyText id (y .text)) z₃ e = rw (reply-is id (y .text), ← q) (f ▸ w .text ▸ g) in
+    rw (transaction-is id acts t) (record { table = w .table; text = limited-is id z₃ e o p o′ r (replyText id (y .text)) a l })
+
+-- ---- transactions in order
+
+module _ (x : Transaction) (xs : List Transaction) (t : List ℕ) where
+  message-on : runTransactions (x ∷ xs) t ≡ (let y = runTransaction x t in let z = runTransactions xs (y .table) in ran (z .table) (y .text then z .text))
+  unfolding runTransactions
+  message-on = refl
+
+no-transactions : (t : List ℕ) → runTransactions [] t ≡ ran t []
+unfolding runTransactions
+no-transactions t = refl
+
+transactions-open : (s : List ℕ) (k i : ℕ) → 0 < k
+    → transactionsOf k s i ≡ transactionOf s i ∷ pick (ltb (transactionEnd s i) (length s)) (transactionsOf (k - 1) s (transactionEnd s i)) []
+unfolding transactionsOf
+transactions-open s zero i h = absurd (omega arith)
+transactions-open s (suc m) i h =
+    let e : suc m - 1 ≡ m = omega arith in
+    ap (λ (j : ℕ). transactionOf s i ∷ pick (ltb (transactionEnd s i) (length s)) (transactionsOf j s (transactionEnd s i)) []) (sym e)
+
+none-of : (s : List ℕ) (i : ℕ) (t : List ℕ) → runTransactions (transactionsOf 0 s i) t ≡ ran t []
+unfolding transactionsOf runTransactions
+none-of s i t = refl
+
+module _ (x : Ran) (o : List ℕ) (p₀ : ℕ) (s : List ℕ) (k i : ℕ) (t o₁ : List ℕ) (p : ℕ) (l : Leads x o p₀ (runTransactions (transactionsOf k s i) t) o₁ p) where
+  pub message-none : k ≤ 0 → Wrote x o p₀ t o₁ p
+  message-none h =
+      let e : k ≡ 0 = omega arith in
+      let m : Leads x o p₀ (ran t []) o₁ p = subst (λ (z : Ran). Leads x o p₀ z o₁ p) (ap (λ (j : ℕ). runTransactions (transactionsOf j s i) t) e ∙ none-of s i t) l in
+      m .to t o₁ p (record { table = refl; text = none o₁ p })
+
+  module _ (t₂ o₂ : List ℕ) (q : ℕ) (h : 0 < k) (d : Wrote (runTransaction (transactionOf s i) t) o₁ p t₂ o₂ q) where
+    abbrev others : List Transaction
+    others = pick (ltb (transactionEnd s i) (length s)) (transactionsOf (k - 1) s (transactionEnd s i)) []
+
+    going-past : Leads x o p₀ (runTransactions others t₂) o₂ q
+    going-past =
+        let y : Ran = runTransaction (transactionOf s i) t in
+        let z : Leads x o p₀ (let r = runTransactions others (y .table) in ran (r .table) (y .text then r .text)) o₁ p =
+        subst (λ (z : Ran). Leads x o p₀ z o₁ p) (ap (λ (a : List Transaction). runTransactions a t) (transactions-open s k i h) ∙ message-on (transactionOf s i) others t) l in
+        let v : Leads x o p₀ (let r = runTransactions others t₂ in ran (r .table) (y .text then r .text)) o₁ p =
+        subst (λ (u : List ℕ). Leads x o p₀ (let r = runTransactions others u in ran (r .table) (y .text then r .text)) o₁ p) (sym (d .table)) z in
+        record { to = λ t′ o′ r w. v .to t′ o′ r (record { table = w .table; text = d .text ▸ w .text }) }
+
+    pub message-last : (e : ℕ) → e ≡ transactionEnd s i → length s ≤ e → Wrote x o p₀ t₂ o₂ q
+    message-last e f g =
+        let z : ltb (transactionEnd s i) (length s) ≡ false = le-ltb (transactionEnd s i) (length s) (rw (← f) g) in
+        let w : Leads x o p₀ (ran t₂ []) o₂ q =
+        subst (λ (y : Ran). Leads x o p₀ y o₂ q)
+        (ap (λ (y : List Transaction). runTransactions y t₂) (left-out (ltb (transactionEnd s i) (length s)) (transactionsOf (k - 1) s (transactionEnd s i)) [] z) ∙ no-transactions t₂) going-past in
+        w .to t₂ o₂ q (record { table = refl; text = none o₂ q })
+
+    pub message-more : (e : ℕ) → e ≡ transactionEnd s i → e < length s → Leads x o p₀ (runTransactions (transactionsOf (k - 1) s e) t₂) o₂ q
+    message-more e f g =
+        let z : ltb (transactionEnd s i) (length s) ≡ true = lt-ltb (transactionEnd s i) (length s) (rw (← f) g) in
+        let y : others ≡ transactionsOf (k - 1) s e = picked (ltb (transactionEnd s i) (length s)) _ _ z ∙ ap (transactionsOf (k - 1) s) (sym f) in
+        subst (λ (a : List Transaction). Leads x o p₀ (runTransactions a t₂) o₂ q) y going-past

@@ -1,0 +1,4 @@
+pub mod FoldLaws
+pub mod Lists
+pub mod RunLaws
+pub mod ActsLaws

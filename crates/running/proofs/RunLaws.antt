@@ -1,0 +1,165 @@
+-- The loop over an action's commands.
+use Prim.Native.Nat.{ℕ, zero, suc, _+_, _-_, _<_, _≤_}
+use mathlib.Core.Path.{_≡_, refl, sym, ap, _∙_, subst}
+use mathlib.Core.List.{List, [], _∷_, _++_}
+use mathlib.Core.Option.{Option, none, some}
+use mathlib.Core.Bool.{Bool, true, false, not, _&&_}
+use lib.Dec.{eqb}
+use native.Mathlib.Omega.{arith}
+use Rattle.base.specs.Pick.{pick}
+use Rattle.base.specs.Lists.{isAt}
+use Rattle.base.proofs.PickLaws.{pick-ind}
+use Rattle.megaco.specs.Bytes.{comma}
+use Rattle.megaco.specs.Items.{judgeItems, given?}
+use Rattle.megaco.specs.Names.{nameOf}
+use Rattle.megaco.specs.Table.{ctx, get, exists, freeEphemeral}
+use Rattle.megaco.specs.Tree.{Items, Command, command}
+use Rattle.megaco.specs.Reply.{Report}
+use Rattle.megaco.specs.Running.{Outcome, outcome, Aim, misses, gateway, meets, tries, missed, actionError, aimRoot, aimFree, aimMatches, matches, aim, aimed, named, tested, unlessOptional, ordered, opOf, lost, barred, seen, numberOf, isAdd, isModify, isNull, isSubtract, runCommand}
+use Rattle.megaco.specs.declared.Context.{Context}
+use Rattle.megaco.specs.declared.Op.{Op}
+use Rattle.megaco.specs.declared.Values.{Values}
+use Rattle.megaco.specs.declared.Judged.{Judged}
+use Rattle.megaco.specs.declared.Judged.the-variants.{Wrong, Right}
+use Rattle.megaco.specs.declared.Name.{Name}
+use Rattle.megaco.specs.declared.Name.the-variants.{Termination, Root, Chosen, Unchosen, Wildcard, Unmatched, Unknown}
+use Rattle.syntax.specs.Extraction.{pastSign, listOf, commandOf, commandEnd, commandsOf}
+use Rattle.tries.specs.Contract.{Did, joined}
+use Rattle.tries.specs.declared.Went.{Went}
+use Rattle.tries.proofs.DidLaws.{went, Some, some as there, Leads, begins, leads-on, done-none}
+use Rattle.running.specs.Fold.{runCommands}
+use Rattle.running.proofs.Lists.{list-open, picked, left-out}
+
+-- ---- a command reports something
+
+-- an aim that means nobody, the gateway, or somebody
+data Peopled : Aim → Type 0 where
+  nobody : {code : ℕ} → Peopled (misses code)
+  itself : Peopled gateway
+  somebody : {wild : Bool} {i : ℕ} {is : List ℕ} → Peopled (meets wild (i ∷ is))
+
+peopled-matches : (l : List ℕ) → Peopled (aimMatches l)
+unfolding aimMatches
+peopled-matches [] = nobody
+peopled-matches (i ∷ is) = somebody
+
+peopled : (op : Op) (at : Context) (items : Bool) (n : Name) (t : List ℕ) → Peopled (aim op at items n t)
+unfolding aim aimRoot aimFree
+peopled op at items (Termination i) t = pick-ind Peopled _ _ _ (λ e. somebody) (λ e. nobody)
+peopled op at items Root t = pick-ind Peopled _ _ _ (λ e. nobody) (λ e. pick-ind Peopled _ _ _ (λ e. nobody) (λ e. pick-ind Peopled _ _ _ (λ e. nobody) (λ e. itself)))
+peopled op at items Chosen t = pick-ind Peopled _ _ _ (λ e. nobody) (λ e. pick-ind Peopled _ _ _ (λ e. nobody) (λ e. somebody))
+peopled op at items Unchosen t = pick-ind Peopled _ _ _ (λ e. nobody) (λ e. nobody)
+peopled op at items (Wildcard r) t = peopled-matches (matches op at r t)
+peopled op at items Unmatched t = nobody
+peopled op at items Unknown t = nobody
+
+-- an outcome that reports something
+abbrev Tells : Outcome → Type 0
+Tells x = Some (x .reports)
+
+aimed-tells : (op : Op) (name : List ℕ) (given : ℕ) (vs : Values) (a : Aim) (at : Context) (t : List ℕ) → Peopled a → Tells (aimed op name given vs a at t)
+unfolding aimed missed tries
+aimed-tells op name given vs _ at t nobody = there
+aimed-tells op name given vs _ at t itself = there
+aimed-tells op name given vs _ at t somebody = there
+
+named-tells : (op : Op) (name : List ℕ) (given : ℕ) (items : Bool) (j : Judged) (at : Context) (t : List ℕ) → Tells (named op name given items j at t)
+unfolding named missed
+named-tells op name given items (Wrong code) at t = there
+named-tells op name given items (Right vs) at t = aimed-tells op name given vs (aim op at items (nameOf name) t) at t (peopled op at items (nameOf name) t)
+
+tested-tells : (op : Op) (name : List ℕ) (items : Items) (given : ℕ) (at : Context) (t : List ℕ) → Tells (tested op name items given at t)
+unfolding tested missed
+tested-tells op name items given at t = pick-ind Tells _ _ _ (λ e. there) (λ e. named-tells op name given (given? items) (judgeItems (isSubtract op) items) at t)
+
+ordered-tells : (o : Bool) (op : Option Op) (name : List ℕ) (items : Items) (given : ℕ) (at : Context) (t : List ℕ) → Tells (ordered o op name items given at t)
+unfolding ordered actionError unlessOptional
+ordered-tells o none name items given at t = there
+ordered-tells o (some op) name items given at t = pick-ind Tells _ _ _ (λ e. there) (λ e. tested-tells op name items given at t)
+
+pub command-tells : (c : Command) (given : ℕ) (at : Context) (t : List ℕ) → Tells (runCommand c given at t)
+unfolding runCommand
+command-tells (command o w word name items) given at t = ordered-tells o (opOf w word) name items given at t
+
+-- ---- commands in order
+
+module _ (c : Command) (cs : List Command) (given : ℕ) (at : Context) (t : List ℕ) where
+  abbrev one : Outcome
+  one = runCommand c given at t
+
+  commands-join : one .going ≡ true → runCommands (c ∷ cs) given at t ≡ joined one (runCommands cs given (one .at) (one .table))
+  unfolding runCommands joined pick
+  commands-join e = rw e
+
+  commands-stop : one .going ≡ false → runCommands (c ∷ cs) given at t ≡ one
+  unfolding runCommands pick
+  commands-stop e = by (one .going) e
+    where
+      by : (b : Bool) → b ≡ false → pick b (let y = runCommands cs given (one .at) (one .table) in outcome (y .table) (one .reports ++ y .reports) (y .at) (y .going)) one ≡ one
+      by b f = rw f
+
+-- the commands from a place, at most k
+commands-open : (s : List ℕ) (k i : ℕ) → 0 < k
+    → listOf (commandOf s) (commandEnd s) s k i ≡ commandOf s i ∷ pick (isAt s (commandEnd s i) comma) (listOf (commandOf s) (commandEnd s) s (k - 1) (pastSign comma s (commandEnd s i))) []
+commands-open s k i h = list-open (commandOf s) (commandEnd s) s k i h
+
+nothing-left : (s : List ℕ) (i given : ℕ) (at : Context) (t : List ℕ) → runCommands (listOf (commandOf s) (commandEnd s) s 0 i) given at t ≡ outcome t [] at true
+unfolding listOf runCommands
+nothing-left s i given at t = refl
+
+none-left : (given : ℕ) (at : Context) (t : List ℕ) → runCommands [] given at t ≡ outcome t [] at true
+unfolding runCommands
+none-left given at t = refl
+
+module _ (x : Outcome) (o : List ℕ) (p₀ : ℕ) (s : List ℕ) (given k i : ℕ) (at : Context) (t : List ℕ) (f : Bool) (o₁ : List ℕ) (p : ℕ)
+    (l : Leads x true o p₀ true (runCommands (listOf (commandOf s) (commandEnd s) s k i) given at t) f o₁ p) where
+  -- none is left
+  pub loop-none : k ≤ 0 → Did x true o p₀ t o₁ (went p at true)
+  loop-none h =
+      let e : k ≡ 0 = omega arith in
+      let m : Leads x true o p₀ true (outcome t [] at true) f o₁ p =
+      subst (λ (z : Outcome). Leads x true o p₀ true z f o₁ p) (ap (λ (j : ℕ). runCommands (listOf (commandOf s) (commandEnd s) s j i) given at t) e ∙ nothing-left s i given at t) l in
+      m .to t o₁ p at true (done-none t o₁ f p at)
+
+  module _ (t₂ o₂ : List ℕ) (w : Went) (h : 0 < k) (d : Did (runCommand (commandOf s i) given at t) f o₁ p t₂ o₂ w) where
+    abbrev rest : List Command
+    rest = pick (isAt s (commandEnd s i) comma) (listOf (commandOf s) (commandEnd s) s (k - 1) (pastSign comma s (commandEnd s i))) []
+
+    opened : Leads x true o p₀ true (runCommands (commandOf s i ∷ rest) given at t) f o₁ p
+    opened = subst (λ (z : List Command). Leads x true o p₀ true (runCommands z given at t) f o₁ p) (commands-open s k i h) l
+
+    -- the command stops the transaction
+    pub loop-stop : w .going ≡ false → Did x true o p₀ t₂ o₂ w
+    loop-stop g =
+        let m : Leads x true o p₀ true (runCommand (commandOf s i) given at t) f o₁ p =
+        subst (λ (z : Outcome). Leads x true o p₀ true z f o₁ p) (commands-stop (commandOf s i) rest given at t (sym (d .going) ∙ g)) opened in
+        m .to t₂ o₂ (w .next) (w .at) (w .going) d
+
+    going-on : w .going ≡ true → Leads x true o p₀ true (runCommands rest given (w .at) t₂) false o₂ (w .next)
+    going-on g =
+        let c : Command = commandOf s i in
+        let y : Outcome = runCommand c given at t in
+        let m : Leads x true o p₀ true (joined y (runCommands rest given (y .at) (y .table))) f o₁ p =
+        subst (λ (z : Outcome). Leads x true o p₀ true z f o₁ p) (commands-join c rest given at t (sym (d .going) ∙ g)) opened in
+        let n : Leads x true o p₀ true (joined y (runCommands rest given (w .at) t₂)) f o₁ p =
+        subst (λ (z : Outcome). Leads x true o p₀ true (joined y z) f o₁ p) (sym (λ j. runCommands rest given (d .place j) (d .table j))) m in
+        subst (λ (b : Bool). Leads x true o p₀ b (runCommands rest given (w .at) t₂) false o₂ (w .next)) (rw g)
+        (leads-on x true o p₀ true y (runCommands rest given (w .at) t₂) f o₁ o₂ t₂ p w (command-tells c given at t) n d)
+
+    -- it is the last
+    pub loop-last : (e : ℕ) (b : Bool) → w .going ≡ true → e ≡ commandEnd s i → b ≡ isAt s e comma → b ≡ false → Did x true o p₀ t₂ o₂ w
+    loop-last e b g q u v =
+        let z : isAt s (commandEnd s i) comma ≡ false = ap (λ (j : ℕ). isAt s j comma) (sym q) ∙ sym u ∙ v in
+        let r : rest ≡ [] = left-out (isAt s (commandEnd s i) comma) _ _ z in
+        let m : Leads x true o p₀ true (outcome t₂ [] (w .at) true) false o₂ (w .next) =
+        subst (λ (y : Outcome). Leads x true o p₀ true y false o₂ (w .next)) (ap (λ (y : List Command). runCommands y given (w .at) t₂) r ∙ none-left given (w .at) t₂) (going-on g) in
+        subst (λ (y : Bool). Did x true o p₀ t₂ o₂ (went (w .next) (w .at) y)) (sym g) (m .to t₂ o₂ (w .next) (w .at) true (done-none t₂ o₂ false (w .next) (w .at)))
+
+    -- another follows
+    pub loop-more : (e n : ℕ) (b : Bool) → w .going ≡ true → e ≡ commandEnd s i → b ≡ isAt s e comma → b ≡ true → n ≡ pastSign comma s e
+        → Leads x true o p₀ true (runCommands (listOf (commandOf s) (commandEnd s) s (k - 1) n) given (w .at) t₂) false o₂ (w .next)
+    loop-more e n b g q u v r =
+        let z : isAt s (commandEnd s i) comma ≡ true = ap (λ (j : ℕ). isAt s j comma) (sym q) ∙ sym u ∙ v in
+        let y : rest ≡ listOf (commandOf s) (commandEnd s) s (k - 1) n =
+        picked (isAt s (commandEnd s i) comma) _ _ z ∙ ap (λ (j : ℕ). listOf (commandOf s) (commandEnd s) s (k - 1) j) (sym (r ∙ ap (pastSign comma s) q)) in
+        subst (λ (a : List Command). Leads x true o p₀ true (runCommands a given (w .at) t₂) false o₂ (w .next)) y (going-on g)

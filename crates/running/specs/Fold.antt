@@ -1,0 +1,43 @@
+-- A transaction's run in the order in which the code goes: commands within an action, actions within a transaction, text from the front.
+-- proofs/FoldLaws.antt says that it is the run by steps of crate `megaco`.
+use Prim.Native.Nat.{ℕ}
+use mathlib.Core.Bool.{Bool, true, false}
+use mathlib.Core.List.{List, [], _∷_, _++_}
+use Rattle.base.specs.Pick.{pick}
+use Rattle.base.specs.Bytes.{_then_}
+use Rattle.megaco.specs.Tree.{Command, Action, action}
+use Rattle.megaco.specs.Table.{apply}
+use Rattle.megaco.specs.Reply.{Acted, separator, actionText}
+use Rattle.megaco.specs.Running.{Outcome, outcome, Start, seen, numberOf, runCommand, started, noCommands, Ran, ran}
+use Rattle.megaco.specs.declared.Context.{Context}
+
+-- commands in order, until one stops the transaction
+unfoldable pub runCommands : List Command → ℕ → Context → List ℕ → Outcome
+runCommands [] given at t = outcome t [] at true
+runCommands (c ∷ cs) given at t =
+    let x = runCommand c given at t in
+    let y = runCommands cs given (x .at) (x .table) in
+    pick (x .going) (outcome (y .table) (x .reports ++ y .reports) (y .at) (y .going)) x
+
+-- commands after an action's start
+unfoldable pub afterStart : List Command → Start → List ℕ → Outcome
+afterStart cs b t =
+    let u = apply (b .writes) t in
+    let x = runCommands cs (b .acted .given) (b .acted .at) u in
+    pick (b .going) (outcome (x .table) (b .acted .said ++ x .reports) (x .at) (x .going)) (outcome u (b .acted .said) (b .acted .at) false)
+
+-- an action: its start and its commands
+unfoldable pub runAction : Action → List ℕ → Outcome
+runAction (action c ps cs) t = afterStart cs (started c ps (noCommands cs) (seen (numberOf c) t .held)) t
+
+-- `C=id{..}` and what stands before it
+unfoldable pub outcomeText : Bool → Outcome → List ℕ
+outcomeText first x = separator first then actionText (x .at) (x .reports)
+
+-- actions in order, until one stops the transaction; `first` tells that no comma is due
+unfoldable pub runActions : List Action → Bool → List ℕ → Ran
+runActions [] first t = ran t []
+runActions (a ∷ acts) first t =
+    let x = runAction a t in
+    let y = runActions acts false (x .table) in
+    pick (x .going) (ran (y .table) (outcomeText first x then y .text)) (ran (x .table) (outcomeText first x))

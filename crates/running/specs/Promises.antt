@@ -1,0 +1,29 @@
+-- What the functions over actions and transactions promise.
+use Prim.Native.Nat.{ℕ, _≤_}
+use mathlib.Core.Path.{_≡_}
+use mathlib.Core.Bool.{Bool}
+use mathlib.Core.List.{List}
+use lib.ListN.{length, replicate}
+use Rattle.base.specs.Bytes.{text, _then_}
+use Rattle.megaco.specs.Reply.{separator}
+use Rattle.reply.specs.Texts.{actionOpen}
+use Rattle.megaco.specs.declared.Context.{Context}
+use Rattle.base.specs.Out.{Appended}
+use Rattle.megaco.specs.Running.{Outcome, Ran}
+use Rattle.running.specs.Fold.{outcomeText}
+use Rattle.running.specs.declared.Moved.{Moved}
+
+-- from the buffer o at `at`, an action leaves the table t′ and the buffer o′
+pub record Acts (x : Outcome) (first : Bool) (o : List ℕ) (at : ℕ) (t′ o′ : List ℕ) (r : Moved) : Type 0 where
+  pub table : t′ ≡ x .table
+  pub text : Appended o at (outcomeText first x) o′ (r .next)
+  pub going : r .going ≡ x .going
+
+-- the same of a part of a message
+pub record Wrote (x : Ran) (o : List ℕ) (at : ℕ) (t′ o′ : List ℕ) (r : ℕ) : Type 0 where
+  pub table : t′ ≡ x .table
+  pub text : Appended o at (x .text) o′ r
+
+-- an action's text around reports that were put into a scratch buffer of 2,049 bytes, of which n are used
+pub record Copied (first : Bool) (c : Context) (inner : List ℕ) (n : ℕ) (o : List ℕ) (at : ℕ) (o′ : List ℕ) (r : ℕ) : Type 0 where
+  pub is : (bs : List ℕ) → Appended (replicate 2049 0) 0 bs inner n → length o ≤ 2049 → Appended o at (separator first then actionOpen c then bs then text "}") o′ r
