@@ -1,6 +1,6 @@
 -- The values that a command's items give are values that there are.
 use Prim.Native.Nat.{ℕ}
-use mathlib.Core.Path.{_≡_, sym}
+use mathlib.Core.Path.{_≡_}
 use mathlib.Core.Bool.{Bool}
 use native.Mathlib.Omega.{arith}
 use Rattle.megaco.specs.Tree.{Items}

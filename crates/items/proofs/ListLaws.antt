@@ -1,7 +1,7 @@
 -- Items in reading order: the items of a list judged one after another, from the place that was reached.
 use Prim.Native.Nat.{ℕ, suc, _+_, _-_, _<_, _≤_}
-use mathlib.Core.Path.{_≡_, refl, sym, ap, _∙_}
-use mathlib.Core.Bool.{Bool, true, false, not, _&&_, _||_}
+use mathlib.Core.Path.{_≡_, refl, sym, _∙_}
+use mathlib.Core.Bool.{Bool, true, false, not, _||_}
 use mathlib.Core.List.{List, [], _∷_}
 use native.Mathlib.Omega.{arith}
 use lib.ListN.{length}
@@ -13,17 +13,16 @@ use Rattle.megaco.specs.Reading.{unlimited}
 use Rattle.megaco.specs.Items.{onward, called, descriptorShape, propertyShape, propertyToken, valueGiven, setValue, propertyItems, itemsIn, mediaItems, topItems}
 use Rattle.megaco.specs.declared.Parsed.{Parsed}
 use Rattle.megaco.specs.declared.Parsed.the-variants.{Next, Fault}
-use Rattle.megaco.specs.declared.Token.the-variants.{MediaToken, LocalControlToken, TerminationStateToken}
+use Rattle.megaco.specs.declared.Token.the-variants.{MediaToken, LocalControlToken}
 use Rattle.megaco.specs.declared.Judged.{Judged}
 use Rattle.megaco.specs.declared.Judged.the-variants.{Wrong, Right}
 use Rattle.megaco.specs.declared.Kind.{Kind}
 use Rattle.megaco.specs.declared.Values.{Values}
-use Rattle.syntax.specs.Extraction.{pastSign, listOf, bracesEnd, headEnd, itemOf, itemEnd, itemsOf}
+use Rattle.syntax.specs.Extraction.{pastSign, listOf, headEnd, itemOf, itemEnd, itemsOf}
 use Rattle.parts.specs.declared.ItemPlaces.{ItemPlaces}
-use Rattle.parts.specs.Places.{OfItem, itemFrom}
-use Rattle.parts.proofs.PlaceLaws.{item-is}
+use Rattle.parts.specs.Places.{OfItem}
 use Rattle.items.specs.declared.Descriptors.{Descriptors}
-use Rattle.items.specs.Judging.{calledBy, nextOf, calledIn, kindOf, stoodAfter}
+use Rattle.items.specs.Judging.{nextOf, kindOf, stoodAfter}
 use Rattle.items.proofs.OneLaws.{by-kind, mediaAll, stoodNext}
 
 -- ---- a list as its items one by one: `f` judges a list, `next` tells what stood before the item after this one
@@ -38,7 +37,7 @@ onward-same (Wrong code) f g e = refl
 onward-same (Right vs) f g e = e vs
 
 module _ {A S : Type 0} (f : List A → S → Values → Judged) (next : A → S → S) (none : (stood : S) (vs : Values) → f [] stood vs ≡ Right vs)
-  (turn : (x : A) (xs : List A) (stood : S) (vs : Values) → f (x ∷ xs) stood vs ≡ onward (f (x ∷ []) stood vs) (λ us. f xs (next x stood) us)) where
+    (turn : (x : A) (xs : List A) (stood : S) (vs : Values) → f (x ∷ xs) stood vs ≡ onward (f (x ∷ []) stood vs) (λ us. f xs (next x stood) us)) where
   one-by-one : (is : List A) (stood : S) (vs : Values) → f is stood vs ≡ judgeAll f next is stood vs
   unfolding judgeAll
   one-by-one [] stood vs = none stood vs
@@ -81,7 +80,7 @@ media-turn (item w x v is) xs stood vs =
 -- ---- a list from its start
 
 module _ {S : Type 0} (k : ℕ) (f : List (Item (suc k)) → S → Values → Judged) (next : Item (suc k) → S → S) (none : (stood : S) (vs : Values) → f [] stood vs ≡ Right vs)
-  (turn : (x : Item (suc k)) (xs : List (Item (suc k))) (stood : S) (vs : Values) → f (x ∷ xs) stood vs ≡ onward (f (x ∷ []) stood vs) (λ us. f xs (next x stood) us)) where
+    (turn : (x : Item (suc k)) (xs : List (Item (suc k))) (stood : S) (vs : Values) → f (x ∷ xs) stood vs ≡ onward (f (x ∷ []) stood vs) (λ us. f xs (next x stood) us)) where
   starts : (s : List ℕ) (at : ℕ) (stood : S) (vs : Values) → f (itemsOf (suc k) s at) stood vs ≡ judgeAll f next (listOf (itemOf (itemsOf k s) s) (itemEnd k s) s (length s + 1 - 0) at) stood vs
   unfolding itemsOf unlimited
   starts s at stood vs = let z : length s + 1 - 0 ≡ length s + 1 = omega arith in rw z (one-by-one f next none turn _ stood vs)
@@ -115,7 +114,7 @@ module _ {A : Type 0} (x : Parsed) (z : ℕ) (l : ℕ → List A) where
   follows-one false u e w = let o : _≡_ {A = ℕ} 0 1 = cc in absurd (omega arith)
 
 module _ {A S : Type 0} (f : List (ItemOf A) → S → Values → Judged) (next : ItemOf A → S → S) (inner : ℕ → List A) (k : ℕ) (s : List ℕ) (n i : ℕ) (stood : S) (vs : Values) (q : Judged)
-  (inv : q ≡ judgeAll f next (listOf (itemOf inner s) (itemEnd k s) s (length s + 1 - n) i) stood vs) where
+    (inv : q ≡ judgeAll f next (listOf (itemOf inner s) (itemEnd k s) s (length s + 1 - n) i) stood vs) where
   pub all-none : length s < n → Right vs ≡ q
   unfolding judgeAll listOf
   all-none h = let z : length s + 1 - n ≡ 0 = omega arith in sym (inv ∙ rw z)

@@ -3,7 +3,7 @@ use Prim.Native.Nat.{ℕ}
 use mathlib.Core.Path.{_≡_, refl, sym, ap, _∙_}
 use mathlib.Core.Bool.{Bool, true, false, not, _&&_, _||_}
 use mathlib.Core.List.{List, [], _∷_}
-use mathlib.Core.Option.{Option, none, some}
+use mathlib.Core.Option.{none, some}
 use Rattle.base.specs.Pick.{pick}
 use Rattle.base.proofs.TestLaws.{and-left, and-right}
 use Rattle.base.specs.Lists.{isAt}
@@ -13,7 +13,7 @@ use Rattle.megaco.specs.Tree.{plain, quoted, ItemOf, item, Item}
 use Rattle.megaco.specs.Items.{onward, called, given?, descriptorShape, propertyShape, modeGiven, stateGiven, propertyToken, valueGiven, setValue, propertyItems, itemsIn, mediaItems, topItems, unchanged, judgeItems}
 use Rattle.megaco.specs.declared.Parsed.the-variants.{Next, Fault}
 use Rattle.megaco.specs.declared.Token.{Token}
-use Rattle.megaco.specs.declared.Token.the-variants.{MediaToken, LocalControlToken, TerminationStateToken}
+use Rattle.megaco.specs.declared.Token.the-variants.{LocalControlToken}
 use Rattle.megaco.specs.declared.Given.{Given}
 use Rattle.megaco.specs.declared.Given.the-variants.{Keep, To}
 use Rattle.megaco.specs.declared.Judged.{Judged}
@@ -160,8 +160,15 @@ module _ (s : List ℕ) (at : ℕ) (p : ItemPlaces) (h : OfItem s at p) (vs : Va
   media-one c stood d e =
       let is : List (Item 6) = itemsIn (pick (p .braces) (some (itemsOf 6 s (p .inside))) none) in
       let f : Bool → Bool → Values → Judged = λ o t us. Right us in
-      e ∙ sym (rw (d, item-is (itemsOf 6 s) s at p h, called-second, called-second, given-value, given-pick,
-      by-kind (calledBy LocalControlToken s p) (stood .control) (stood .state) (λ k. propertyItems k is false vs) f)
+      e ∙ sym (rw (
+        d,
+        item-is (itemsOf 6 s) s at p h,
+        called-second,
+        called-second,
+        given-value,
+        given-pick,
+        by-kind (calledBy LocalControlToken s p) (stood .control) (stood .state) (λ k. propertyItems k is false vs) f,
+      )
       (alone 444 _ _ (not (p .value .given) && p .braces) _ _ (λ t. rw (items-in (p .braces) (itemsOf 6 s (p .inside)) (and-right (not (p .value .given)) (p .braces) t)))))
 
   pub top-one : (seen : Bool) → j ≡ topBy seen vs s p → j ≡ topItems (itemOf (itemsOf 7 s) s at ∷ []) seen vs

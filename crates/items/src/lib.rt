@@ -3,7 +3,7 @@ ghost use mathlib.Core.Path.{_≡_};
 ghost use mathlib.Core.Bool.{false};
 ghost use mathlib.Core.Option.{some};
 ghost use Rattle.megaco.specs.Tree.{plain};
-ghost use Rattle.megaco.specs.Items.{modeGiven, stateGiven, propertyToken, valueGiven, setValue, propertyItems, mediaItems, topItems, unchanged, judgeItems};
+ghost use Rattle.megaco.specs.Items.{modeGiven, stateGiven, propertyToken, valueGiven, setValue, propertyItems, mediaItems, topItems, judgeItems};
 ghost use Rattle.syntax.specs.Extraction.{itemsOf};
 ghost use Rattle.parts.specs.Places.{itemsFrom};
 ghost use Rattle.items.specs.Judging.{Lies, calledBy, calledIn, kindOf, stoodAfter, valueBy, nextOf, propertyBy, mediaBy, topBy};
@@ -77,13 +77,11 @@ fn value_given(s: &[u8], p: ItemPlaces, k: Kind) -> Given
     ensures { λ r. ⌜ r ≡ valueBy k (now (s .entry)) p ⌝ }
 {
     let v = p.value;
-    if v.quoted {
-        return Given::Keep;
-    }
     let word = v.plain;
     let a = word.from;
     let e = word.to;
-    plain_given(k, &s[a..e])
+    let g = plain_given(k, &s[a..e]);
+    if v.quoted { Given::Keep } else { g }
 }
 
 fn set_value(k: Kind, g: Given, values: Values) -> Judged
@@ -147,11 +145,11 @@ fn property_item(s: &[u8], p: ItemPlaces, k: Kind, seen: bool, values: Values) -
     requires { ⌜ Lies (now s) p ⌝ }
     ensures { λ r. ⌜ r ≡ propertyBy k seen values (now (s .entry)) p ⌝ }
 {
+    let v = p.value;
     if item_called(s, p, property_token(k)) {
         if seen {
             return Judged::Wrong(448);
         }
-        let v = p.value;
         if v.given & !p.braces {
             return set_value(k, value_given(s, p, k), values);
         }
@@ -228,11 +226,11 @@ fn media_item(
 ) -> Judged
     ensures { λ r. ⌜ r ≡ mediaBy called stood values (now (s .entry)) p ⌝ }
 {
+    let v = p.value;
     if called.control | called.state {
         if called.control & stood.control | called.state & stood.state {
             return Judged::Wrong(448);
         }
-        let v = p.value;
         if !v.given & p.braces {
             let inside = p.inside;
             return property_items(s, inside, kind_of(called.control), values);
@@ -277,11 +275,11 @@ fn top_item(s: &[u8], p: ItemPlaces, seen: bool, values: Values) -> Judged
     requires { ⌜ Lies (now s) p ⌝ }
     ensures { λ r. ⌜ r ≡ topBy seen values (now (s .entry)) p ⌝ }
 {
+    let v = p.value;
     if item_called(s, p, Token::MediaToken) {
         if seen {
             return Judged::Wrong(448);
         }
-        let v = p.value;
         if !v.given & p.braces {
             let inside = p.inside;
             return media_items(s, inside, values);

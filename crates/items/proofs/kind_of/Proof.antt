@@ -1,4 +1,3 @@
-use borrow.Author.Needs.{needs}
 use Rattle.base.specs.Pick.{picks}
 use Rattle.items.specs.Judging.{kindOf}
 use Rattle.items.proofs.kind_of.Statement.{statement}

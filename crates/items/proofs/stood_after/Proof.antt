@@ -1,4 +1,3 @@
-use borrow.Author.Needs.{needs}
 use mathlib.Core.Path.{refl}
 use Rattle.items.specs.Judging.{stoodAfter}
 use Rattle.items.proofs.stood_after.Statement.{statement}

@@ -9,9 +9,9 @@ pub value-given-spec : {M : Type 1} → statement M
 value-given-spec =
     tie.close
     (tie.spec
-    (λ c. unfold valueBy in search picks)
     (λ c. search needs)
     (λ c. search needs)
     (λ c. search needs)
     (λ c κs. search needs)
+    (λ c. unfold valueBy part in search picks)
     (λ c. unfold valueBy part in search picks))
