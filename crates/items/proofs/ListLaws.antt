@@ -1,0 +1,151 @@
+-- Items in reading order: the items of a list judged one after another, from the place that was reached.
+use Prim.Native.Nat.{ℕ, suc, _+_, _-_, _<_, _≤_}
+use mathlib.Core.Path.{_≡_, refl, sym, _∙_}
+use mathlib.Core.Bool.{Bool, true, false, not, _||_}
+use mathlib.Core.List.{List, [], _∷_}
+use native.Mathlib.Omega.{arith}
+use lib.ListN.{length}
+use Rattle.base.specs.Pick.{pick}
+use Rattle.base.specs.Lists.{isAt}
+use Rattle.megaco.specs.Bytes.{comma}
+use Rattle.megaco.specs.Tree.{ItemOf, item, Item}
+use Rattle.megaco.specs.Reading.{unlimited}
+use Rattle.megaco.specs.Items.{onward, called, descriptorShape, propertyShape, propertyToken, valueGiven, setValue, propertyItems, itemsIn, mediaItems, topItems}
+use Rattle.megaco.specs.declared.Parsed.{Parsed}
+use Rattle.megaco.specs.declared.Parsed.the-variants.{Next, Fault}
+use Rattle.megaco.specs.declared.Token.the-variants.{MediaToken, LocalControlToken}
+use Rattle.megaco.specs.declared.Judged.{Judged}
+use Rattle.megaco.specs.declared.Judged.the-variants.{Wrong, Right}
+use Rattle.megaco.specs.declared.Kind.{Kind}
+use Rattle.megaco.specs.declared.Values.{Values}
+use Rattle.syntax.specs.Extraction.{pastSign, listOf, headEnd, itemOf, itemEnd, itemsOf}
+use Rattle.parts.specs.declared.ItemPlaces.{ItemPlaces}
+use Rattle.parts.specs.Places.{OfItem}
+use Rattle.items.specs.declared.Descriptors.{Descriptors}
+use Rattle.items.specs.Judging.{nextOf, kindOf, stoodAfter}
+use Rattle.items.proofs.OneLaws.{by-kind, mediaAll, stoodNext}
+
+-- ---- a list as its items one by one: `f` judges a list, `next` tells what stood before the item after this one
+
+unfoldable pub judgeAll : {A S : Type 0} → (List A → S → Values → Judged) → (A → S → S) → List A → S → Values → Judged
+judgeAll f next [] stood vs = Right vs
+judgeAll f next (x ∷ xs) stood vs = onward (f (x ∷ []) stood vs) (λ us. judgeAll f next xs (next x stood) us)
+
+onward-same : (j : Judged) (f g : Values → Judged) → ((vs : Values) → f vs ≡ g vs) → onward j f ≡ onward j g
+unfolding onward
+onward-same (Wrong code) f g e = refl
+onward-same (Right vs) f g e = e vs
+
+module _ {A S : Type 0} (f : List A → S → Values → Judged) (next : A → S → S) (none : (stood : S) (vs : Values) → f [] stood vs ≡ Right vs)
+    (turn : (x : A) (xs : List A) (stood : S) (vs : Values) → f (x ∷ xs) stood vs ≡ onward (f (x ∷ []) stood vs) (λ us. f xs (next x stood) us)) where
+  one-by-one : (is : List A) (stood : S) (vs : Values) → f is stood vs ≡ judgeAll f next is stood vs
+  unfolding judgeAll
+  one-by-one [] stood vs = none stood vs
+  one-by-one (x ∷ xs) stood vs = turn x xs stood vs ∙ onward-same (f (x ∷ []) stood vs) _ _ (λ us. one-by-one xs (next x stood) us)
+
+-- the tests of an item, and what follows it
+turn-by : (code : ℕ) (b seen g : Bool) (j : Judged) (f : Values → Judged)
+    → pick b (Wrong code) (pick seen (Wrong 448) (pick g (onward j f) (Wrong 442))) ≡ onward (pick b (Wrong code) (pick seen (Wrong 448) (pick g (onward j Right) (Wrong 442)))) f
+unfolding onward pick
+turn-by code true seen g j f = refl
+turn-by code false true g j f = refl
+turn-by code false false false j f = refl
+turn-by code false false true (Wrong c) f = refl
+turn-by code false false true (Right vs) f = refl
+
+-- ---- the three lists
+
+-- one that stands is a repetition behind it
+abbrev pub stands : {A : Type 0} → A → Bool → Bool
+stands x seen = true
+
+property-turn : {A : Type 0} (k : Kind) (x : ItemOf A) (xs : List (ItemOf A)) (seen : Bool) (vs : Values) → propertyItems k (x ∷ xs) seen vs ≡ onward (propertyItems k (x ∷ []) seen vs) (λ us. propertyItems k xs true us)
+unfolding propertyItems
+property-turn k (item w x v is) xs seen vs = turn-by 445 (not (called (propertyToken k) w x)) seen (propertyShape v is) (setValue k (valueGiven k v) vs) _
+
+top-turn : {A : Type 0} (x : ItemOf (ItemOf (ItemOf A))) (xs : List (ItemOf (ItemOf (ItemOf A)))) (seen : Bool) (vs : Values) → topItems (x ∷ xs) seen vs ≡ onward (topItems (x ∷ []) seen vs) (λ us. topItems xs true us)
+unfolding topItems
+top-turn (item w x v is) xs seen vs = turn-by 444 (not (called MediaToken w x)) seen (descriptorShape v is) (mediaItems (itemsIn is) false false vs) _
+
+media-turn : {A : Type 0} (x : ItemOf (ItemOf A)) (xs : List (ItemOf (ItemOf A))) (stood : Descriptors) (vs : Values) → mediaAll (x ∷ xs) stood vs ≡ onward (mediaAll (x ∷ []) stood vs) (λ us. mediaAll xs (stoodNext x stood) us)
+unfolding mediaAll mediaItems stoodNext stoodAfter
+media-turn (item w x v is) xs stood vs =
+    let inside : Kind → Judged = λ k. propertyItems k (itemsIn is) false vs in
+    let c = called LocalControlToken w x in
+    let more : Bool → Bool → Values → Judged = λ o t us. mediaItems xs o t us in
+    let stop : Bool → Bool → Values → Judged = λ o t us. Right us in
+    rw (by-kind c (stood .control) (stood .state) inside more, by-kind c (stood .control) (stood .state) inside stop)
+    (turn-by 444 _ _ (descriptorShape v is) (inside (kindOf c)) (more (c || stood .control) (not c || stood .state)))
+
+-- ---- a list from its start
+
+module _ {S : Type 0} (k : ℕ) (f : List (Item (suc k)) → S → Values → Judged) (next : Item (suc k) → S → S) (none : (stood : S) (vs : Values) → f [] stood vs ≡ Right vs)
+    (turn : (x : Item (suc k)) (xs : List (Item (suc k))) (stood : S) (vs : Values) → f (x ∷ xs) stood vs ≡ onward (f (x ∷ []) stood vs) (λ us. f xs (next x stood) us)) where
+  starts : (s : List ℕ) (at : ℕ) (stood : S) (vs : Values) → f (itemsOf (suc k) s at) stood vs ≡ judgeAll f next (listOf (itemOf (itemsOf k s) s) (itemEnd k s) s (length s + 1 - 0) at) stood vs
+  unfolding itemsOf unlimited
+  starts s at stood vs = let z : length s + 1 - 0 ≡ length s + 1 = omega arith in rw z (one-by-one f next none turn _ stood vs)
+
+module _ (s : List ℕ) (at : ℕ) (vs : Values) where
+  pub property-starts : (k : Kind) → propertyItems k (itemsOf 6 s at) false vs ≡ judgeAll (propertyItems k) stands (listOf (itemOf (itemsOf 5 s) s) (itemEnd 5 s) s (length s + 1 - 0) at) false vs
+  unfolding propertyItems
+  property-starts k = starts 5 (propertyItems k) stands (λ seen vs. refl) (property-turn k) s at false vs
+
+  pub media-starts : mediaItems (itemsOf 7 s at) false false vs
+      ≡ judgeAll mediaAll stoodNext (listOf (itemOf (itemsOf 6 s) s) (itemEnd 6 s) s (length s + 1 - 0) at) (record { control = false; state = false }) vs
+  unfolding mediaAll mediaItems
+  media-starts = starts 6 mediaAll stoodNext (λ stood vs. refl) media-turn s at (record { control = false; state = false }) vs
+
+  pub top-starts : topItems (itemsOf 8 s at) false vs ≡ judgeAll topItems stands (listOf (itemOf (itemsOf 7 s) s) (itemEnd 7 s) s (length s + 1 - 0) at) false vs
+  unfolding topItems
+  top-starts = starts 7 topItems stands (λ seen vs. refl) top-turn s at false vs
+
+-- ---- a list from the place that was reached: n items were judged, and q is the verdict on all
+
+-- a comma follows an item, or none
+module _ {A : Type 0} (x : Parsed) (z : ℕ) (l : ℕ → List A) where
+  follows-none : (t : Bool) → x ≡ pick t (Next z) Fault → x ≡ Fault → pick t (l z) [] ≡ []
+  unfolding pick
+  follows-none true e w = let o : _≡_ {A = ℕ} 0 1 = cc in absurd (omega arith)
+  follows-none false e w = refl
+
+  follows-one : (t : Bool) (u : ℕ) → x ≡ pick t (Next z) Fault → x ≡ Next u → pick t (l z) [] ≡ l u
+  unfolding pick
+  follows-one true u e w = let o : z ≡ u = cc in rw o
+  follows-one false u e w = let o : _≡_ {A = ℕ} 0 1 = cc in absurd (omega arith)
+
+module _ {A S : Type 0} (f : List (ItemOf A) → S → Values → Judged) (next : ItemOf A → S → S) (inner : ℕ → List A) (k : ℕ) (s : List ℕ) (n i : ℕ) (stood : S) (vs : Values) (q : Judged)
+    (inv : q ≡ judgeAll f next (listOf (itemOf inner s) (itemEnd k s) s (length s + 1 - n) i) stood vs) where
+  pub all-none : length s < n → Right vs ≡ q
+  unfolding judgeAll listOf
+  all-none h = let z : length s + 1 - n ≡ 0 = omega arith in sym (inv ∙ rw z)
+
+  module _ (h : n ≤ length s) (j : Judged) (e : j ≡ f (itemOf inner s i ∷ []) stood vs) where
+    all-turn : q
+        ≡ onward j (λ us. judgeAll f next (pick (isAt s (itemEnd k s i) comma) (listOf (itemOf inner s) (itemEnd k s) s (length s + 1 - (n + 1)) (pastSign comma s (itemEnd k s i))) [])
+        (next (itemOf inner s i) stood) us)
+    unfolding judgeAll listOf
+    all-turn =
+        let z : length s + 1 - n ≡ suc (length s + 1 - (n + 1)) = omega arith in
+        rw e (by (length s + 1 - n) (length s + 1 - (n + 1)) z inv)
+      where
+        by : (a b : ℕ) → a ≡ suc b → q ≡ judgeAll f next (listOf (itemOf inner s) (itemEnd k s) s a i) stood vs
+            → q ≡ judgeAll f next (listOf (itemOf inner s) (itemEnd k s) s (suc b) i) stood vs
+        by a b z g = rw z at g
+
+    pub all-wrong : (code : ℕ) → j ≡ Wrong code → j ≡ q
+    unfolding onward
+    all-wrong code w = w ∙ sym (all-turn ∙ rw w)
+
+    module _ (us : Values) (r : j ≡ Right us) (p : ItemPlaces) (x : Parsed) (o : OfItem s i p) (g : x ≡ nextOf k s p) where
+      after : x ≡ pick (isAt s (itemEnd k s i) comma) (Next (pastSign comma s (itemEnd k s i))) Fault
+      unfolding nextOf itemEnd headEnd
+      after = g ∙ rw (o .value .end)
+
+      pub all-last : x ≡ Fault → Right us ≡ q
+      unfolding onward judgeAll
+      all-last w = sym (all-turn ∙ rw (r, follows-none x (pastSign comma s (itemEnd k s i)) (listOf (itemOf inner s) (itemEnd k s) s (length s + 1 - (n + 1))) _ after w))
+
+      pub all-more : (u : ℕ) (stood′ : S) → x ≡ Next u → stood′ ≡ next (itemOf inner s i) stood
+          → q ≡ judgeAll f next (listOf (itemOf inner s) (itemEnd k s) s (length s + 1 - (n + 1)) u) stood′ us
+      unfolding onward
+      all-more u stood′ w m = all-turn ∙ rw (r, follows-one x _ (listOf (itemOf inner s) (itemEnd k s) s (length s + 1 - (n + 1))) _ u after w, ← m)

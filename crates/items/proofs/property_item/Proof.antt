@@ -1,0 +1,19 @@
+use borrow.Author.Needs.{needs}
+use Rattle.base.specs.Pick.{picks}
+use Rattle.items.proofs.OneLaws.{called-token, set-by}
+use Rattle.items.specs.Judging.{propertyBy}
+use Rattle.items.proofs.property_item.Statement.{statement}
+use Rattle.items.proofs.property_item.Tie as tie
+
+pub property-item-spec : {M : Type 1} → statement M
+property-item-spec =
+    tie.close
+    (tie.spec
+    (λ c κs. search needs)
+    (λ c κs. search needs)
+    (λ c. unfold propertyBy in search (picks, called-token, set-by))
+    (λ c κs. search needs)
+    (λ c κs. search needs)
+    (λ c. unfold propertyBy in search (picks, called-token, set-by))
+    (λ c. unfold propertyBy in search (picks, called-token, set-by))
+    (λ c. unfold propertyBy in search (picks, called-token, set-by)))

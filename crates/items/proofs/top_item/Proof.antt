@@ -1,0 +1,16 @@
+use borrow.Author.Needs.{needs}
+use Rattle.base.specs.Pick.{picks}
+use Rattle.items.specs.Judging.{topBy}
+use Rattle.items.proofs.top_item.Statement.{statement}
+use Rattle.items.proofs.top_item.Tie as tie
+
+pub top-item-spec : {M : Type 1} → statement M
+top-item-spec =
+    tie.close
+    (tie.spec
+    (λ c κs. search needs)
+    (λ c. unfold topBy in search picks)
+    (λ c κs. search needs)
+    (λ c. unfold topBy in search picks)
+    (λ c. unfold topBy in search picks)
+    (λ c. unfold topBy in search picks))

@@ -1,0 +1,72 @@
+-- What is judged of one item, told by its parts (crate `parts`): the definition with the tests of the code.
+use Prim.Native.Nat.{ℕ, _≤_}
+use mathlib.Core.Bool.{Bool, false, not, _&&_, _||_}
+use mathlib.Core.List.{List}
+use mathlib.Core.Option.{some}
+use lib.ListN.{length}
+use Rattle.base.specs.Pick.{pick}
+use Rattle.base.specs.Lists.{isAt}
+use Rattle.megaco.specs.Bytes.{comma}
+use Rattle.megaco.specs.Keywords.{spells}
+use Rattle.megaco.specs.Tree.{plain}
+use Rattle.megaco.specs.Items.{propertyToken, valueGiven, setValue, propertyItems, mediaItems}
+use Rattle.megaco.specs.declared.Parsed.{Parsed}
+use Rattle.megaco.specs.declared.Parsed.the-variants.{Next, Fault}
+use Rattle.megaco.specs.declared.Token.{Token}
+use Rattle.megaco.specs.declared.Token.the-variants.{MediaToken, LocalControlToken, TerminationStateToken}
+use Rattle.megaco.specs.declared.Given.{Given}
+use Rattle.megaco.specs.declared.Given.the-variants.{Keep}
+use Rattle.megaco.specs.declared.Judged.{Judged}
+use Rattle.megaco.specs.declared.Judged.the-variants.{Wrong}
+use Rattle.megaco.specs.declared.Kind.{Kind}
+use Rattle.megaco.specs.declared.Kind.the-variants.{InControl, InState}
+use Rattle.megaco.specs.declared.Values.{Values}
+use Rattle.syntax.specs.Extraction.{pastSign, bracesEnd, itemsOf}
+use Rattle.parts.specs.declared.ItemPlaces.{ItemPlaces}
+use Rattle.parts.specs.Places.{bytesOf}
+use Rattle.items.specs.declared.Descriptors.{Descriptors}
+
+-- an item's word and its plain value lie within the message
+pub record Lies (s : List ℕ) (p : ItemPlaces) : Type 0 where
+  pub word-ordered : p .word .from ≤ p .word .to
+  pub word-inside : p .word .to ≤ length s
+  pub value-ordered : p .value .plain .from ≤ p .value .plain .to
+  pub value-inside : p .value .plain .to ≤ length s
+
+unfoldable pub calledBy : Token → List ℕ → ItemPlaces → Bool
+calledBy k s p = not (p .second) && spells k (bytesOf s (p .word))
+
+unfoldable pub valueBy : Kind → List ℕ → ItemPlaces → Given
+valueBy k s p = pick (p .value .quoted) Keep (valueGiven k (some (plain (bytesOf s (p .value .plain)))))
+
+-- behind the comma that follows an item of k levels
+unfoldable pub nextOf : ℕ → List ℕ → ItemPlaces → Parsed
+nextOf k s p = let e = bracesEnd k s (p .value .end) in pick (isAt s e comma) (Next (pastSign comma s e)) Fault
+
+-- ---- one item at each level
+
+unfoldable pub propertyBy : Kind → Bool → Values → List ℕ → ItemPlaces → Judged
+propertyBy k seen vs s p =
+    let shaped = pick (p .value .given && not (p .braces)) (setValue k (valueBy k s p) vs) (Wrong 442) in
+    pick (calledBy (propertyToken k) s p) (pick seen (Wrong 448) shaped) (Wrong 445)
+
+unfoldable pub calledIn : List ℕ → ItemPlaces → Descriptors
+calledIn s p = record { control = calledBy LocalControlToken s p; state = calledBy TerminationStateToken s p }
+
+unfoldable pub kindOf : Bool → Kind
+kindOf control = pick control InControl InState
+
+unfoldable pub stoodAfter : Bool → Descriptors → Descriptors
+stoodAfter control stood = record { control = control || stood .control; state = not control || stood .state }
+
+unfoldable pub mediaBy : Descriptors → Descriptors → Values → List ℕ → ItemPlaces → Judged
+mediaBy called stood vs s p =
+    let inside = propertyItems (kindOf (called .control)) (itemsOf 6 s (p .inside)) false vs in
+    let shaped = pick (not (p .value .given) && p .braces) inside (Wrong 442) in
+    let repeated = (called .control && stood .control) || (called .state && stood .state) in
+    pick (called .control || called .state) (pick repeated (Wrong 448) shaped) (Wrong 444)
+
+unfoldable pub topBy : Bool → Values → List ℕ → ItemPlaces → Judged
+topBy seen vs s p =
+    let shaped = pick (not (p .value .given) && p .braces) (mediaItems (itemsOf 7 s (p .inside)) false false vs) (Wrong 442) in
+    pick (calledBy MediaToken s p) (pick seen (Wrong 448) shaped) (Wrong 444)

@@ -1,0 +1,333 @@
+// A command's items judged in reading order (document 01, test 3): the first code, or the values given.
+ghost use mathlib.Core.Path.{_≡_};
+ghost use mathlib.Core.Bool.{false};
+ghost use mathlib.Core.Option.{some};
+ghost use Rattle.megaco.specs.Tree.{plain};
+ghost use Rattle.megaco.specs.Items.{modeGiven, stateGiven, propertyToken, valueGiven, setValue, propertyItems, mediaItems, topItems, judgeItems};
+ghost use Rattle.syntax.specs.Extraction.{itemsOf};
+ghost use Rattle.parts.specs.Places.{itemsFrom};
+ghost use Rattle.items.specs.Judging.{Lies, calledBy, calledIn, kindOf, stoodAfter, valueBy, nextOf, propertyBy, mediaBy, topBy};
+use megaco::Given;
+use megaco::Judged;
+use megaco::Kind;
+use megaco::Parsed;
+use megaco::Token;
+use megaco::Values;
+use parts::CommandPlaces;
+use parts::ItemPlaces;
+use parts::ValuePlaces;
+
+// A flag for LocalControl and one for TerminationState.
+pub struct Descriptors {
+    pub control: bool,
+    pub state: bool,
+}
+
+// ---- values
+
+fn mode_given(w: &[u8]) -> Given
+    ensures { λ r. ⌜ r ≡ modeGiven (now (w .entry)) ⌝ }
+{
+    if text::spells(Token::InactiveToken, w) {
+        return Given::To(0);
+    }
+    if text::spells(Token::SendonlyToken, w) {
+        return Given::To(1);
+    }
+    if text::spells(Token::RecvonlyToken, w) {
+        return Given::To(2);
+    }
+    if text::spells(Token::SendrecvToken, w) {
+        return Given::To(3);
+    }
+    if text::spells(Token::LoopbackToken, w) {
+        return Given::To(4);
+    }
+    Given::Keep
+}
+
+fn state_given(w: &[u8]) -> Given
+    ensures { λ r. ⌜ r ≡ stateGiven (now (w .entry)) ⌝ }
+{
+    if text::spells(Token::InSvcToken, w) {
+        return Given::To(0);
+    }
+    if text::spells(Token::OutOfSvcToken, w) {
+        return Given::To(1);
+    }
+    if text::spells(Token::TestToken, w) {
+        return Given::To(2);
+    }
+    Given::Keep
+}
+
+// What a plain value gives.
+fn plain_given(k: Kind, w: &[u8]) -> Given
+    ensures { λ r. ⌜ r ≡ valueGiven k (some (plain (now (w .entry)))) ⌝ }
+{
+    match k {
+        Kind::InControl => mode_given(w),
+        Kind::InState => state_given(w),
+    }
+}
+
+// What a value gives: nothing if it stands between quotes.
+fn value_given(s: &[u8], p: ItemPlaces, k: Kind) -> Given
+    requires { ⌜ Lies (now s) p ⌝ }
+    ensures { λ r. ⌜ r ≡ valueBy k (now (s .entry)) p ⌝ }
+{
+    let v = p.value;
+    let word = v.plain;
+    let a = word.from;
+    let e = word.to;
+    let g = plain_given(k, &s[a..e]);
+    if v.quoted { Given::Keep } else { g }
+}
+
+fn set_value(k: Kind, g: Given, values: Values) -> Judged
+    ensures { λ r. ⌜ r ≡ setValue k g values ⌝ }
+{
+    let mode = values.mode;
+    let state = values.state;
+    match g {
+        Given::Keep => Judged::Wrong(449),
+        Given::To(_) => match k {
+            Kind::InControl => Judged::Right(Values {
+                mode: g,
+                state: state,
+            }),
+            Kind::InState => Judged::Right(Values {
+                mode: mode,
+                state: g,
+            }),
+        },
+    }
+}
+
+// ---- one item
+
+// Whether an item is called by a keyword: a name with `/` is called by none.
+fn item_called(s: &[u8], p: ItemPlaces, k: Token) -> bool
+    requires { ⌜ Lies (now s) p ⌝ }
+    ensures { λ r. ⌜ r ≡ calledBy k (now (s .entry)) p ⌝ }
+{
+    let word = p.word;
+    let a = word.from;
+    let e = word.to;
+    !p.second & text::spells(k, &s[a..e])
+}
+
+// Where the next item begins, if one follows this one, which may hold `left` levels.
+fn next_item(s: &[u8], p: ItemPlaces, left: usize) -> Parsed
+    ensures { λ r. ⌜ r ≡ nextOf left (now (s .entry)) p ⌝ }
+{
+    let v = p.value;
+    let end = v.end;
+    let e = parts::braces_end(s, left, end);
+    if text::is_at(s, e, 0x2c) {
+        return Parsed::Next(parts::past_comma(s, e));
+    }
+    Parsed::Fault
+}
+
+// ---- in LocalControl and TerminationState
+
+fn property_token(k: Kind) -> Token
+    ensures { λ r. ⌜ r ≡ propertyToken k ⌝ }
+{
+    match k {
+        Kind::InControl => Token::ModeToken,
+        Kind::InState => Token::ServiceStatesToken,
+    }
+}
+
+fn property_item(s: &[u8], p: ItemPlaces, k: Kind, seen: bool, values: Values) -> Judged
+    requires { ⌜ Lies (now s) p ⌝ }
+    ensures { λ r. ⌜ r ≡ propertyBy k seen values (now (s .entry)) p ⌝ }
+{
+    let v = p.value;
+    if item_called(s, p, property_token(k)) {
+        if seen {
+            return Judged::Wrong(448);
+        }
+        if v.given & !p.braces {
+            return set_value(k, value_given(s, p, k), values);
+        }
+        return Judged::Wrong(442);
+    }
+    Judged::Wrong(445)
+}
+
+fn property_items(s: &[u8], at: usize, k: Kind, values: Values) -> Judged
+    ensures { λ r. ⌜ r ≡ propertyItems k (itemsOf 6 (now (s .entry)) at) false values ⌝ }
+{
+    let mut i = at;
+    let mut n = 0;
+    let mut seen = false;
+    let mut vs = values;
+    while n <= s.len() {
+        let p = parts::item_places(s, i);
+        let j = property_item(s, p, k, seen, vs);
+        let Judged::Right(us) = j else {
+            return j;
+        };
+        let x = next_item(s, p, 5);
+        let Parsed::Next(u) = x else {
+            return j;
+        };
+        i = u;
+        vs = us;
+        seen = true;
+        n += 1;
+    }
+    Judged::Right(vs)
+}
+
+// ---- in Media
+
+// Which descriptor an item is called.
+fn media_called(s: &[u8], p: ItemPlaces) -> Descriptors
+    requires { ⌜ Lies (now s) p ⌝ }
+    ensures { λ r. ⌜ r ≡ calledIn (now (s .entry)) p ⌝ }
+{
+    let control = item_called(s, p, Token::LocalControlToken);
+    let state = item_called(s, p, Token::TerminationStateToken);
+    Descriptors {
+        control: control,
+        state: state,
+    }
+}
+
+fn kind_of(control: bool) -> Kind
+    ensures { λ r. ⌜ r ≡ kindOf control ⌝ }
+{
+    if control {
+        return Kind::InControl;
+    }
+    Kind::InState
+}
+
+// The descriptors that stood before the item after this one.
+fn stood_after(stood: Descriptors, called: Descriptors) -> Descriptors
+    ensures { λ r. ⌜ r ≡ stoodAfter (called .control) stood ⌝ }
+{
+    Descriptors {
+        control: called.control | stood.control,
+        state: !called.control | stood.state,
+    }
+}
+
+fn media_item(
+    s: &[u8],
+    p: ItemPlaces,
+    called: Descriptors,
+    stood: Descriptors,
+    values: Values,
+) -> Judged
+    ensures { λ r. ⌜ r ≡ mediaBy called stood values (now (s .entry)) p ⌝ }
+{
+    let v = p.value;
+    if called.control | called.state {
+        if called.control & stood.control | called.state & stood.state {
+            return Judged::Wrong(448);
+        }
+        if !v.given & p.braces {
+            let inside = p.inside;
+            return property_items(s, inside, kind_of(called.control), values);
+        }
+        return Judged::Wrong(442);
+    }
+    Judged::Wrong(444)
+}
+
+fn media_items(s: &[u8], at: usize, values: Values) -> Judged
+    ensures { λ r. ⌜ r ≡ mediaItems (itemsOf 7 (now (s .entry)) at) false false values ⌝ }
+{
+    let mut i = at;
+    let mut n = 0;
+    let mut stood = Descriptors {
+        control: false,
+        state: false,
+    };
+    let mut vs = values;
+    while n <= s.len() {
+        let p = parts::item_places(s, i);
+        let called = media_called(s, p);
+        let j = media_item(s, p, called, stood, vs);
+        let Judged::Right(us) = j else {
+            return j;
+        };
+        let x = next_item(s, p, 6);
+        let Parsed::Next(u) = x else {
+            return j;
+        };
+        i = u;
+        vs = us;
+        stood = stood_after(stood, called);
+        n += 1;
+    }
+    Judged::Right(vs)
+}
+
+// ---- at the top
+
+fn top_item(s: &[u8], p: ItemPlaces, seen: bool, values: Values) -> Judged
+    requires { ⌜ Lies (now s) p ⌝ }
+    ensures { λ r. ⌜ r ≡ topBy seen values (now (s .entry)) p ⌝ }
+{
+    let v = p.value;
+    if item_called(s, p, Token::MediaToken) {
+        if seen {
+            return Judged::Wrong(448);
+        }
+        if !v.given & p.braces {
+            let inside = p.inside;
+            return media_items(s, inside, values);
+        }
+        return Judged::Wrong(442);
+    }
+    Judged::Wrong(444)
+}
+
+fn top_items(s: &[u8], at: usize, values: Values) -> Judged
+    ensures { λ r. ⌜ r ≡ topItems (itemsOf 8 (now (s .entry)) at) false values ⌝ }
+{
+    let mut i = at;
+    let mut n = 0;
+    let mut seen = false;
+    let mut vs = values;
+    while n <= s.len() {
+        let p = parts::item_places(s, i);
+        let j = top_item(s, p, seen, vs);
+        let Judged::Right(us) = j else {
+            return j;
+        };
+        let x = next_item(s, p, 7);
+        let Parsed::Next(u) = x else {
+            return j;
+        };
+        i = u;
+        vs = us;
+        seen = true;
+        n += 1;
+    }
+    Judged::Right(vs)
+}
+
+// A command's items.
+pub fn judge_items(s: &[u8], p: CommandPlaces, subtracts: bool) -> Judged
+    ensures { λ r. ⌜ r ≡ judgeItems subtracts (itemsFrom (now (s .entry)) p) ⌝ }
+{
+    let none = Values {
+        mode: Given::Keep,
+        state: Given::Keep,
+    };
+    if p.braces {
+        if subtracts {
+            return Judged::Wrong(447);
+        }
+        let inside = p.inside;
+        return top_items(s, inside, none);
+    }
+    Judged::Right(none)
+}
