@@ -28,6 +28,9 @@ pub const WORDS: usize = 752;
 
 pub const CONTEXTS: u32 = 128;
 
+// The most terminations that a context holds.
+pub const MOST: usize = 8;
+
 // ---- one word
 
 // The word at a place; past the end stands 0.
