@@ -8,7 +8,7 @@ use table::TERMINATIONS;
 use table::WORDS;
 ghost use mathlib.Core.Path.{_≡_};
 ghost use mathlib.Core.Bool.{_&&_};
-ghost use Prim.Native.Nat.{ℕ, _+_, _≤_, _<_};
+ghost use Prim.Native.Nat.{_≤_, _<_};
 ghost use lib.ListN.{length};
 ghost use lib.Dec.{leb};
 ghost use Rattle.base.specs.Lists.{every};
@@ -16,7 +16,7 @@ ghost use Rattle.megaco.specs.Table.{contexts, isPropertyWord, absentAreZero, r
 ghost use Rattle.sound.specs.Parts.{ephemeralIsSound, recordsMeet};
 
 // Counters for contexts 0 to 128.
-const COUNTERS: usize = 129;
+const COUNTERS: usize = CONTEXTS as usize + 1;
 
 // A table of any length.
 pub fn is_sound(table: &[u32]) -> bool
