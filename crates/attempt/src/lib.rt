@@ -1,0 +1,203 @@
+// One attempt: its code, judged by what it saw, and what it changes.
+use megaco::Context;
+use megaco::Given;
+use megaco::Op;
+use megaco::Values;
+use megaco::View;
+ghost use mathlib.Core.Path.{_≡_};
+ghost use mathlib.Core.List.{[]};
+ghost use Rattle.megaco.specs.Table.{apply};
+ghost use Rattle.megaco.specs.Items.{update};
+ghost use Rattle.megaco.specs.Running.{isChoose, target, roomChecks, checks, joining, leaving, placed, added, subtracted, changes, settled};
+ghost use Rattle.attempt.specs.Judging.{codeOf, valueOr, Fair};
+
+// ---- judging
+
+pub fn is_choose(at: Context) -> bool
+    ensures { λ r. ⌜ r ≡ isChoose at ⌝ }
+{
+    match at {
+        Context::Null => false,
+        Context::Numbered(_) => false,
+        Context::Choose => true,
+        Context::All => false,
+    }
+}
+
+// 412 or 434, or 0.
+fn room_code(at: Context, view: View) -> u32
+    ensures { λ r. ⌜ r ≡ codeOf (roomChecks at view) ⌝ }
+{
+    let there = view.there;
+    if is_choose(at) & (view.free == 0) {
+        return 412;
+    }
+    if table::MOST <= there.members {
+        return 434;
+    }
+    0
+}
+
+// The code of tests 5 and 6, or 0 for an attempt that is done.
+pub fn judge_attempt(op: Op, at: Context, view: View) -> u32
+    ensures { λ r. ⌜ r ≡ codeOf (checks op at view) ⌝ }
+{
+    let c = view::number_of(at);
+    match op {
+        Op::Add => {
+            if view.here != 0 {
+                return 433;
+            }
+            room_code(at, view)
+        }
+        Op::Modify => {
+            if view.here != c {
+                return 435;
+            }
+            0
+        }
+        Op::Subtract => {
+            if view.here != c {
+                return 435;
+            }
+            0
+        }
+        Op::Move => {
+            if view.here == 0 {
+                return 435;
+            }
+            if view.here == c {
+                return 433;
+            }
+            room_code(at, view)
+        }
+    }
+}
+
+// The number of the context that an attempt means.
+pub fn target(at: Context, view: View) -> u32
+    ensures { λ r. ⌜ r ≡ target at view ⌝ }
+{
+    if is_choose(at) {
+        view.free
+    } else {
+        view::number_of(at)
+    }
+}
+
+// The action's context after an attempt that is done.
+pub fn settled(at: Context, view: View) -> Context
+    ensures { λ r. ⌜ r ≡ settled at view ⌝ }
+{
+    if is_choose(at) {
+        Context::Numbered(view.free)
+    } else {
+        at
+    }
+}
+
+// ---- property words
+
+fn value_or(g: Given, x: u32) -> u32
+    ensures { λ r. ⌜ r ≡ valueOr g x ⌝ }
+{
+    match g {
+        Given::Keep => x,
+        Given::To(y) => y,
+    }
+}
+
+// A property word with the values given set in it.
+pub fn update(values: Values, word: u32) -> u32
+    requires { ⌜ Fair values ⌝ }
+    ensures { λ r. ⌜ r ≡ update values word ⌝ }
+{
+    let mode = values.mode;
+    let state = values.state;
+    value_or(mode, word % 8) + 8 * value_or(state, word / 8)
+}
+
+// The property word that Add starts from.
+pub fn added(i: usize, word: u32) -> u32
+    ensures { λ r. ⌜ r ≡ added i word ⌝ }
+{
+    if table::is_ephemeral(i) { 0 } else { word }
+}
+
+// The property word that Subtract leaves.
+pub fn subtracted(i: usize, word: u32) -> u32
+    ensures { λ r. ⌜ r ≡ subtracted i word ⌝ }
+{
+    if table::is_ephemeral(i) {
+        0
+    } else {
+        8 * (word / 8)
+    }
+}
+
+// ---- changing
+
+// `$` comes to be, with the record given.
+fn join(table: &mut [u32], at: Context, given: u32, view: View)
+    ensures { λ _. ⌜ now (table .exit) ≡ apply (joining at given view []) (now (table .entry)) ⌝ }
+{
+    if is_choose(at) {
+        table::set_record(table, view.free, given);
+    }
+}
+
+// A context ends with its last termination.
+fn leave(table: &mut [u32], view: View)
+    ensures { λ _. ⌜ now (table .exit) ≡ apply (leaving view []) (now (table .entry)) ⌝ }
+{
+    let from = view.from;
+    if from.members <= 1 {
+        table::set_record(table, view.here, 0);
+    }
+}
+
+// A termination put into a context, with its property word.
+fn place(table: &mut [u32], i: usize, c: u32, word: u32)
+    ensures { λ _. ⌜ now (table .exit) ≡ apply (placed i c word) (now (table .entry)) ⌝ }
+{
+    table::set_context(table, i, c);
+    table::set_property(table, i, word);
+}
+
+// What an attempt that is done writes.
+pub fn change(
+    table: &mut [u32],
+    op: Op,
+    at: Context,
+    given: u32,
+    i: usize,
+    values: Values,
+    view: View,
+)
+    requires { ⌜ Fair values ⌝ }
+    ensures { λ _. ⌜ now (table .exit) ≡ apply (changes op at given i values view) (now (table .entry)) ⌝ }
+{
+    match op {
+        Op::Add => {
+            join(table, at, given, view);
+            place(
+                table,
+                i,
+                target(at, view),
+                update(values, added(i, view.word)),
+            );
+        }
+        Op::Modify => {
+            table::set_property(table, i, update(values, view.word));
+        }
+        Op::Subtract => {
+            leave(table, view);
+            place(table, i, 0, subtracted(i, view.word));
+        }
+        Op::Move => {
+            leave(table, view);
+            join(table, at, given, view);
+            place(table, i, target(at, view), update(values, view.word));
+        }
+    }
+}

@@ -1,0 +1,242 @@
+-- The laws of the passes over a table, in the form in which `search` uses them.
+use Prim.Native.Nat.{ℕ, zero, suc, _+_, _<_, _≤_}
+use mathlib.Core.Path.{_≡_, refl, sym, ap, _∙_}
+use mathlib.Core.List.{List, [], _∷_}
+use mathlib.Core.Bool.{Bool, true, false, not, _&&_, and-false, Bool·beq}
+use native.Mathlib.Numerals.{add-one}
+use native.Mathlib.Nat.{zero-add, add-zero, suc-add}
+use native.Mathlib.Omega.{arith}
+use lib.ListN.{length, getD, set, take, drop, replicate, drop-of-length-le, length-set, length-replicate, getD-replicate}
+use lib.Seq.{drop-cons, drop-drop, take-nil, take-all, getD-set-same, getD-set-other}
+use lib.Dec.{leb, eqb}
+use mir.Syntax.{w32}
+use mir.Val.{Fits}
+use borrow.Author.Tests.{le-leb, lt-leb, eq-eqb, ne-eqb, eqb-true, eqb-false}
+use Rattle.base.specs.Pick.{pick}
+use Rattle.base.specs.Lists.{every, count}
+use Rattle.megaco.specs.Table.{lineTerminations, ephemerals, terminations, contexts, words, contextWords, propertyWords, recordWords, ephemeralContexts, ephemeralProperties, isPropertyWord, absentAreZero, recordIsSound, recordsAreSound, sound}
+use Rattle.table.proofs.TableLaws.{drop-take}
+use Rattle.sound.specs.Parts.{ephemeralIsSound, recordsMeet}
+
+-- ---- a test of each word
+
+module _ (p : ℕ → Bool) (l : List ℕ) (i : ℕ) (q : Bool) (inv : q ≡ every p (drop i l)) where
+  pub every-on : (x : Bool) → i < length l → x ≡ p (getD l i 0) → x ≡ true → q ≡ every p (drop (i + 1) l)
+  unfolding every pick
+  every-on x h e t = inv ∙ rw (drop-cons l i 0, ← e, t, add-one)
+
+  pub every-no : (x : Bool) → i < length l → x ≡ p (getD l i 0) → x ≡ false → false ≡ q
+  unfolding every pick
+  every-no x h e t = sym (inv ∙ rw (drop-cons l i 0, ← e, t))
+
+  pub every-end : length l ≤ i → true ≡ q
+  unfolding every
+  every-end h = sym (inv ∙ rw (drop-of-length-le l h))
+
+-- ---- ephemerals: both tests of a pair of words
+
+both : (a b e z : Bool) → (a && not b) ≡ true → (pick a e false && pick b false z) ≡ (e && z)
+unfolding pick
+both true true e z t = absurd (let n : _≡_ {A = ℕ} 0 1 = cc in omega arith)
+both true false e z t = refl
+both false b e z t = absurd (let n : _≡_ {A = ℕ} 0 1 = cc in omega arith)
+
+notBoth : (a b e z : Bool) → (a && not b) ≡ false → (pick a e false && pick b false z) ≡ false
+unfolding pick
+notBoth true true e z t = and-false e
+notBoth true false e z t = absurd (let n : _≡_ {A = ℕ} 0 1 = cc in omega arith)
+notBoth false b e z t = refl
+
+module _ (cs ps : List ℕ) (i : ℕ) (q : Bool) (inv : q ≡ (every isPropertyWord (drop i ps) && absentAreZero (drop i cs) (drop i ps))) (alike : length cs ≡ length ps) where
+  pub pair-on : (x : Bool) → i < length cs → x ≡ ephemeralIsSound (getD cs i 0) (getD ps i 0) → x ≡ true
+      → q ≡ (every isPropertyWord (drop (i + 1) ps) && absentAreZero (drop (i + 1) cs) (drop (i + 1) ps))
+  unfolding every absentAreZero ephemeralIsSound
+  pair-on x h e t =
+      let k : i < length ps = omega arith in
+      inv ∙ rw (drop-cons cs i 0, drop-cons ps i 0, add-one) (both _ _ _ _ (sym e ∙ t))
+
+  pub pair-no : (x : Bool) → i < length cs → x ≡ ephemeralIsSound (getD cs i 0) (getD ps i 0) → x ≡ false → false ≡ q
+  unfolding every absentAreZero ephemeralIsSound
+  pair-no x h e t =
+      let k : i < length ps = omega arith in
+      sym (inv ∙ rw (drop-cons cs i 0, drop-cons ps i 0) (notBoth _ _ _ _ (sym e ∙ t)))
+
+  pub pair-end : length cs ≤ i → true ≡ q
+  unfolding every absentAreZero
+  pair-end h =
+      let k : length ps ≤ i = omega arith in
+      sym (inv ∙ rw (drop-of-length-le cs h, drop-of-length-le ps k))
+
+-- ---- records against counters
+
+module _ (ms rs : List ℕ) (i : ℕ) (q : Bool) (inv : q ≡ recordsMeet ms (i + 1) (drop i rs)) where
+  pub meet-on : (x : Bool) → i < length rs → x ≡ recordIsSound (getD rs i 0) (getD ms (i + 1) 0) → x ≡ true
+      → q ≡ recordsMeet ms (i + 1 + 1) (drop (i + 1) rs)
+  unfolding recordsMeet pick
+  meet-on x h e t = inv ∙ rw (drop-cons rs i 0, ← e, t, add-one i)
+
+  pub meet-no : (x : Bool) → i < length rs → x ≡ recordIsSound (getD rs i 0) (getD ms (i + 1) 0) → x ≡ false → false ≡ q
+  unfolding recordsMeet pick
+  meet-no x h e t = sym (inv ∙ rw (drop-cons rs i 0, ← e, t))
+
+  pub meet-end : length rs ≤ i → true ≡ q
+  unfolding recordsMeet
+  meet-end h = sym (inv ∙ rw (drop-of-length-le rs h))
+
+-- ---- counters
+
+-- how many counters there are: contexts 0 to 128
+abbrev counted : ℕ
+counted = contexts + 1
+
+-- one word more is counted where it belongs
+count-next : (c i : ℕ) (l : List ℕ) → i < length l → count c (take (suc i) l) ≡ count c (take i l) + pick (eqb (getD l i 0) c) 1 0
+unfolding count
+count-next c i [] h = absurd (omega arith)
+count-next c zero (x ∷ l) h = omega arith
+count-next c (suc i) (x ∷ l) h = omega (arith, count-next c i l (omega arith))
+
+one-at-most : (b : Bool) → pick b 1 0 ≤ 1
+unfolding pick
+one-at-most true = omega arith
+one-at-most false = omega arith
+
+count-at-most : (c i : ℕ) (l : List ℕ) → count c (take i l) ≤ i
+unfolding count
+count-at-most c zero l = omega arith
+count-at-most c (suc i) [] = omega arith
+count-at-most c (suc i) (x ∷ l) = omega (arith, one-at-most (eqb x c), count-at-most c i l)
+
+-- counter c holds how many of the first i words are c, and none of them is over 128
+pub record Counting (row counters : List ℕ) (i : ℕ) : Type 0 where
+  pub long : length counters ≡ counted
+  pub counts : (c : ℕ) → c < counted → getD counters c 0 ≡ count c (take i row)
+  pub fits : every (λ w. leb w contexts) row ≡ every (λ w. leb w contexts) (drop i row)
+
+pub counting-start : (row : List ℕ) → Counting row (replicate counted 0) 0
+unfolding count
+counting-start row = record { long = length-replicate {A = ℕ} counted 0; counts = λ c h. getD-replicate {A = ℕ} counted c 0 0 h; fits = refl }
+
+meet-counted : (cs ms : List ℕ) (c : ℕ) (rs : List ℕ) → ((k : ℕ) → k < counted → getD ms k 0 ≡ count k cs) → c + length rs ≤ counted
+    → recordsMeet ms c rs ≡ recordsAreSound cs c rs
+unfolding recordsMeet recordsAreSound
+meet-counted cs ms c [] f h = refl
+meet-counted cs ms c (r ∷ rs) f h =
+    let here : getD ms c 0 ≡ count c cs = f c (omega arith) in
+    let rest : recordsMeet ms (c + 1) rs ≡ recordsAreSound cs (c + 1) rs = meet-counted cs ms (c + 1) rs f (omega arith) in
+    rw (here, rest)
+
+module _ (row counters : List ℕ) (i : ℕ) (k : Counting row counters i) where
+  pub counter-fits : (w : ℕ) → w ≤ contexts → i < length row → length row ≤ 65536 → Fits w32 (getD counters w 0 + 1)
+  counter-fits w h l b = record { fits = omega (arith, k .counts w (omega arith), count-at-most w i row) }
+
+  pub counting-on : i < length row → getD row i 0 ≤ contexts
+      → Counting row (set counters (getD row i 0) (getD counters (getD row i 0) 0 + 1)) (i + 1)
+  unfolding every pick
+  counting-on h b =
+      record {
+        long = length-set counters w (getD counters w 0 + 1) ∙ k .long;
+        counts = λ c l. next c l (eqb w c) refl;
+        fits = k .fits ∙ rw (drop-cons row i 0, le-leb w contexts b, add-one);
+      }
+    where
+      w : ℕ
+      w = getD row i 0
+
+      next : (c : ℕ) → c < counted → (t : Bool) → eqb w c ≡ t → getD (set counters w (getD counters w 0 + 1)) c 0 ≡ count c (take (i + 1) row)
+      next c l true e =
+          let n : count c (take (suc i) row) ≡ count c (take i row) + 1 = count-next c i row h ∙ rw e in
+          let s : w ≡ c = eqb-true w c e in
+          let a : w < length counters = omega (arith, k .long) in
+          rw (add-one i, n, ← s) (getD-set-same counters w (getD counters w 0 + 1) 0 a ∙ ap (λ (x : ℕ). x + 1) (k .counts w (omega arith)))
+      next c l false e =
+          let n : count c (take (suc i) row) ≡ count c (take i row) + 0 = count-next c i row h ∙ rw e in
+          rw (add-one i, n, add-zero) (getD-set-other counters w c (getD counters w 0 + 1) 0 (λ d. eqb-false w c e (sym d)) ∙ k .counts c l)
+
+  pub counting-no : (q : Bool) → i < length row → contexts < getD row i 0 → false ≡ (every (λ w. leb w contexts) row && q)
+  unfolding every pick
+  counting-no q h b = let e : every (λ w. leb w contexts) row ≡ false = k .fits ∙ rw (drop-cons row i 0, lt-leb (getD row i 0) contexts b) in rw e
+
+  pub counting-end : (r : Bool) (rs : List ℕ) → length row ≤ i → length rs ≤ contexts → r ≡ recordsMeet counters 1 rs
+      → r ≡ (every (λ w. leb w contexts) row && recordsAreSound row 1 rs)
+  unfolding every
+  counting-end r rs h l e =
+      let t : every (λ w. leb w contexts) row ≡ true = k .fits ∙ rw (drop-of-length-le row h) in
+      let a : take i row ≡ row = take-all i row h in
+      let m : recordsMeet counters 1 rs ≡ recordsAreSound row 1 rs = meet-counted row counters 1 rs (λ c b. k .counts c b ∙ ap (count c) a) (omega arith) in
+      rw t (e ∙ m)
+
+-- the test of a record, as the code makes it
+alike : (x y : Bool) → Bool·beq x y ≡ pick x y (not y)
+unfolding pick
+alike true true = refl
+alike true false = refl
+alike false true = refl
+alike false false = refl
+
+pub record-by : (r m : ℕ) → (leb r 32 && Bool·beq (eqb m 0) (eqb r 0) && leb m 8) ≡ recordIsSound r m
+unfolding recordIsSound
+record-by r m = rw alike
+
+-- ---- the whole table
+
+every-part : (p : ℕ → Bool) (n m : ℕ) (l : List ℕ) → every p (take (n + m) l) ≡ (every p (take n l) && every p (take m (drop n l)))
+unfolding every pick
+every-part p zero m l = rw zero-add
+every-part p (suc n) m [] = rw (take-nil, take-nil)
+every-part p (suc n) m (x ∷ l) = rw (suc-add, every-part p n m l) (and-pick (p x) _ _)
+  where
+    and-pick : (a b c : Bool) → pick a (b && c) false ≡ (pick a b false && c)
+    and-pick true b c = refl
+    and-pick false b c = refl
+
+-- the tests in the order of the passes, and in the order of the definition
+arrange : (e r l p z : Bool) → ((e && r) && l && (p && z)) ≡ (true && e && (l && p) && z && r)
+arrange false r l p z = refl
+arrange true false l p z = sym (and-false (true && true && (l && p) && z))
+arrange true true false p z = refl
+arrange true true true false z = refl
+arrange true true true true false = refl
+arrange true true true true true = refl
+
+arranged : (a b c e r l p z w : Bool) → a ≡ (e && r) → b ≡ l → c ≡ (p && z) → w ≡ (l && p) → (a && b && c) ≡ (true && e && w && z && r)
+arranged a b c e r l p z w f g h k = rw (f, g, h, k) (arrange e r l p z)
+
+-- where the properties of ephemerals stand
+abbrev ephemeralPlace : ℕ
+ephemeralPlace = terminations + lineTerminations
+
+module _ (t : List ℕ) where
+  ephemeral-contexts : ephemeralContexts t ≡ take ephemerals (drop lineTerminations t)
+  unfolding ephemeralContexts contextWords
+  ephemeral-contexts = drop-take lineTerminations ephemerals t
+
+  ephemeral-properties : ephemeralProperties t ≡ take ephemerals (drop ephemeralPlace t)
+  unfolding ephemeralProperties propertyWords
+  ephemeral-properties = drop-take lineTerminations ephemerals (drop terminations t) ∙ ap (take ephemerals) (drop-drop lineTerminations terminations t)
+
+  properties : every isPropertyWord (propertyWords t) ≡ (every isPropertyWord (take lineTerminations (drop terminations t)) && every isPropertyWord (take ephemerals (drop ephemeralPlace t)))
+  unfolding propertyWords
+  properties =
+      every-part isPropertyWord lineTerminations ephemerals (drop terminations t)
+      ∙ ap (λ (l : List ℕ). every isPropertyWord (take lineTerminations (drop terminations t)) && every isPropertyWord (take ephemerals l)) (drop-drop lineTerminations terminations t)
+
+  pub unsound : (length t ≡ words → ⊥) → false ≡ sound t
+  unfolding sound
+  unsound h = rw (ne-eqb (length t) words h)
+
+  pub sound-by : (a b c : Bool) → length t ≡ words
+      → a ≡ (every (λ w. leb w contexts) (contextWords t) && recordsAreSound (contextWords t) 1 (recordWords t))
+      → b ≡ every isPropertyWord (take lineTerminations (drop terminations t))
+      → c ≡ (every isPropertyWord (take ephemerals (drop ephemeralPlace t)) && absentAreZero (take ephemerals (drop lineTerminations t)) (take ephemerals (drop ephemeralPlace t)))
+      → (a && b && c) ≡ sound t
+  unfolding sound
+  sound-by a b c h f g k =
+      rw (eq-eqb (length t) words h, ephemeral-contexts, ephemeral-properties)
+      (arranged a b c
+      (every (λ w. leb w contexts) (contextWords t))
+      (recordsAreSound (contextWords t) 1 (recordWords t))
+      (every isPropertyWord (take lineTerminations (drop terminations t)))
+      (every isPropertyWord (take ephemerals (drop ephemeralPlace t)))
+      (absentAreZero (take ephemerals (drop lineTerminations t)) (take ephemerals (drop ephemeralPlace t)))
+      (every isPropertyWord (propertyWords t)) f g k properties)

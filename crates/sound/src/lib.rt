@@ -1,0 +1,121 @@
+// Whether a lent table is sound: one pass over the context words, one over the properties, one over the records.
+use table::CONTEXTS;
+use table::EPHEMERAL_PROPERTIES;
+use table::LINE_TERMINATIONS;
+use table::MOST;
+use table::RECORDS;
+use table::TERMINATIONS;
+use table::WORDS;
+ghost use mathlib.Core.Path.{_≡_};
+ghost use mathlib.Core.Bool.{_&&_};
+ghost use Prim.Native.Nat.{_≤_, _<_};
+ghost use lib.ListN.{length};
+ghost use lib.Dec.{leb};
+ghost use Rattle.base.specs.Lists.{every};
+ghost use Rattle.megaco.specs.Table.{contexts, isPropertyWord, absentAreZero, recordIsSound, recordsAreSound, sound};
+ghost use Rattle.sound.specs.Parts.{ephemeralIsSound, recordsMeet};
+
+// Counters for contexts 0 to 128.
+const COUNTERS: usize = CONTEXTS as usize + 1;
+
+// A table of any length.
+pub fn is_sound(table: &[u32]) -> bool
+    ensures { λ r. ⌜ r ≡ sound (now (table .entry)) ⌝ }
+{
+    if table.len() != WORDS {
+        return false;
+    }
+    contexts_are_sound(&table[0..TERMINATIONS], &table[RECORDS..WORDS])
+        & lines_are_sound(&table[TERMINATIONS..EPHEMERAL_PROPERTIES])
+        & ephemerals_are_sound(
+            &table[LINE_TERMINATIONS..TERMINATIONS],
+            &table[EPHEMERAL_PROPERTIES..RECORDS],
+        )
+}
+
+// ---- contexts
+
+// Each context word at most 128, and each record as its members ask. Counter c holds how many of the words passed are c.
+fn contexts_are_sound(row: &[u32], records: &[u32]) -> bool
+    requires { ⌜ (length (now row) ≤ 65536) × (length (now records) ≤ contexts) ⌝ }
+    ensures { λ r. ⌜ r ≡ (every (λ w. leb w contexts) (now (row .entry)) && recordsAreSound (now (row .entry)) 1 (now (records .entry))) ⌝ }
+{
+    let mut counters = [0u32; COUNTERS];
+    let mut i: usize = 0;
+    while i < row.len() {
+        let w = row[i];
+        if CONTEXTS < w {
+            return false;
+        }
+        let c = w as usize;
+        counters[c] = counters[c] + 1;
+        i += 1;
+    }
+    records_meet(&counters, records)
+}
+
+// The records from context 1 on against the counters.
+fn records_meet(counters: &[u32], records: &[u32]) -> bool
+    requires { ⌜ length (now records) < length (now counters) ⌝ }
+    ensures { λ r. ⌜ r ≡ recordsMeet (now (counters .entry)) 1 (now (records .entry)) ⌝ }
+{
+    let mut i: usize = 0;
+    while i < records.len() {
+        if record_is_sound(records[i], counters[i + 1]) {
+            i += 1;
+        } else {
+            return false;
+        }
+    }
+    true
+}
+
+fn record_is_sound(held: u32, members: u32) -> bool
+    ensures { λ r. ⌜ r ≡ recordIsSound held members ⌝ }
+{
+    (held <= 32) & ((members == 0) == (held == 0)) & (members as usize <= MOST)
+}
+
+// ---- properties
+
+fn is_property_word(word: u32) -> bool
+    ensures { λ r. ⌜ r ≡ isPropertyWord word ⌝ }
+{
+    (word % 8 <= 4) & (word / 8 <= 2)
+}
+
+fn lines_are_sound(properties: &[u32]) -> bool
+    ensures { λ r. ⌜ r ≡ every isPropertyWord (now (properties .entry)) ⌝ }
+{
+    let mut i: usize = 0;
+    while i < properties.len() {
+        if is_property_word(properties[i]) {
+            i += 1;
+        } else {
+            return false;
+        }
+    }
+    true
+}
+
+// A property word, and 0 where the context word is 0.
+fn ephemeral_is_sound(context: u32, word: u32) -> bool
+    ensures { λ r. ⌜ r ≡ ephemeralIsSound context word ⌝ }
+{
+    is_property_word(word) & !((context == 0) & (word != 0))
+}
+
+fn ephemerals_are_sound(row: &[u32], properties: &[u32]) -> bool
+    requires { ⌜ length (now row) ≡ length (now properties) ⌝ }
+    ensures { λ r. ⌜ r ≡ (every isPropertyWord (now (properties .entry)) && absentAreZero (now (row .entry)) (now (properties .entry))) ⌝ }
+{
+    let mut i: usize = 0;
+    while i < row.len() {
+        if ephemeral_is_sound(row[i], properties[i]) {
+            i += 1;
+        } else {
+            return false;
+        }
+    }
+    true
+}

@@ -1,0 +1,91 @@
+-- The laws of the table's words, in the form in which `search` uses them.
+use Prim.Native.Nat.{ℕ, zero, suc, _+_, _<_, _≤_}
+use mathlib.Core.Path.{_≡_, refl, sym, _∙_}
+use mathlib.Core.List.{List, [], _∷_}
+use mathlib.Core.Bool.{Bool, true, false}
+use native.Mathlib.Numerals.{add-one}
+use native.Mathlib.Nat.{zero-add, suc-add}
+use native.Mathlib.Omega.{arith}
+use lib.ListN.{length, getD, set, take, drop, length-take, drop-of-length-le, List·getD-eq-default}
+use lib.Seq.{drop-cons, set-out, take-nil}
+use lib.Dec.{eqb}
+use mir.Syntax.{w32}
+use mir.Val.{Fits, boolByte}
+use borrow.Author.Tests.{eq-eqb, ne-eqb}
+use Rattle.base.specs.Pick.{pick}
+use Rattle.base.specs.Lists.{count, lowestAbsent}
+
+-- past the end stands 0, and nothing is stored there
+pub read-past : (t : List ℕ) (k : ℕ) → length t ≤ k → 0 ≡ getD t k 0
+read-past t k h = sym (List·getD-eq-default t 0 h)
+
+pub read-beyond : (t : List ℕ) (k i : ℕ) → length t ≤ i → 0 ≡ getD t (k + i) 0
+read-beyond t k i h = read-past t (k + i) (omega arith)
+
+pub store-past : (t : List ℕ) (k v : ℕ) → length t ≤ k → t ≡ set t k v
+store-past t k v h = sym (set-out t k v h)
+
+pub store-beyond : (t : List ℕ) (k i v : ℕ) → length t ≤ i → t ≡ set t (k + i) v
+store-beyond t k i v h = store-past t (k + i) v (omega arith)
+
+-- a test as a number
+pub bit-small : (b : Bool) → boolByte b ≤ 1
+bit-small true = omega arith
+bit-small false = omega arith
+
+bit-pick : (b : Bool) → boolByte b ≡ pick b 1 0
+unfolding pick
+bit-pick true = refl
+bit-pick false = refl
+
+-- n of the words before i are c
+module _ (c : ℕ) (l : List ℕ) (i n q : ℕ) (inv : q ≡ n + count c (drop i l)) where
+  pub count-on : i < length l → q ≡ n + boolByte (eqb (getD l i 0) c) + count c (drop (i + 1) l)
+  unfolding count
+  count-on h =
+      let step : count c (drop i l) ≡ boolByte (eqb (getD l i 0) c) + count c (drop (i + 1) l) = rw (drop-cons l i 0, add-one, bit-pick) in
+      omega arith
+
+  pub count-end : length l ≤ i → n ≡ q
+  unfolding count
+  count-end h = let none : count c (drop i l) ≡ 0 = rw (drop-of-length-le l h) in omega arith
+
+-- no word before i is 0
+module _ (l : List ℕ) (i q : ℕ) (inv : q ≡ lowestAbsent (i + 1) (drop i l)) where
+  pub absent-on : i < length l → (getD l i 0 ≡ 0 → ⊥) → q ≡ lowestAbsent (i + 1 + 1) (drop (i + 1) l)
+  unfolding lowestAbsent pick
+  absent-on h n = inv ∙ rw (drop-cons l i 0, ne-eqb _ _ n, add-one)
+
+  pub absent-here : i < length l → getD l i 0 ≡ 0 → i + 1 ≡ q
+  unfolding lowestAbsent pick
+  absent-here h e = sym (inv ∙ rw (drop-cons l i 0, eq-eqb _ _ e))
+
+  pub absent-end : length l ≤ i → 0 ≡ q
+  unfolding lowestAbsent
+  absent-end h = sym (inv ∙ rw (drop-of-length-le l h))
+
+pick-at-most : (b : Bool) (x y m : ℕ) → x ≤ m → y ≤ m → pick b x y ≤ m
+unfolding pick
+pick-at-most true x y m h k = h
+pick-at-most false x y m h k = k
+
+pub absent-at-most : (n : ℕ) (l : List ℕ) → lowestAbsent n l ≤ n + length l
+unfolding lowestAbsent
+absent-at-most n [] = omega arith
+absent-at-most n (x ∷ l) =
+    let r : lowestAbsent (n + 1) l ≤ n + suc (length l) = omega (arith, absent-at-most (n + 1) l) in
+    pick-at-most (eqb x 0) n (lowestAbsent (n + 1) l) (n + suc (length l)) (omega arith) r
+
+-- a number that `lowestAbsent` gives of a short row fits a word
+pub absent-fits : (r k a : ℕ) (t : List ℕ) → r ≡ lowestAbsent 1 (take k (drop a t)) → k ≤ 1000 → Fits w32 r
+absent-fits r k a t e h =
+    let s : r ≤ 1 + length (take k (drop a t)) = omega (arith, e, absent-at-most 1 (take k (drop a t))) in
+    record { fits = omega (arith, length-take k (drop a t)) }
+
+-- ---- parts of the table
+
+-- the last of the first
+pub drop-take : (n m : ℕ) (l : List ℕ) → drop n (take (n + m) l) ≡ take m (drop n l)
+drop-take zero m l = rw zero-add
+drop-take (suc n) m [] = rw (take-nil, take-nil)
+drop-take (suc n) m (x ∷ l) = rw suc-add (drop-take n m l)

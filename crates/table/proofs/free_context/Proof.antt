@@ -1,0 +1,16 @@
+use Rattle.megaco.specs.Table.{freeContext, recordWords}
+use Rattle.table.proofs.TableLaws.{absent-fits}
+use borrow.Author.Needs.{needs}
+use Rattle.table.proofs.free_context.Statement.{statement}
+use Rattle.table.proofs.free_context.Tie as tie
+
+pub free-context-spec : {M : Type 1} → statement M
+free-context-spec =
+    tie.close
+    (tie.spec
+    (λ c. search needs)
+    (λ c. search needs)
+    (λ c. search needs)
+    (λ c κs. search needs)
+    (λ c. search (absent-fits, needs))
+    (λ c. unfold freeContext recordWords in c .lowest-absent .ensures))

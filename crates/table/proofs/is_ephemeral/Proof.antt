@@ -1,0 +1,10 @@
+use mathlib.Core.Path.{refl}
+use Rattle.megaco.specs.Table.{isEphemeral}
+use Rattle.table.proofs.is_ephemeral.Statement.{statement}
+use Rattle.table.proofs.is_ephemeral.Tie as tie
+
+pub is-ephemeral-spec : {M : Type 1} → statement M
+is-ephemeral-spec =
+    tie.close
+    (tie.spec
+    (λ c. unfold isEphemeral in refl))

@@ -1,0 +1,11 @@
+use borrow.Author.Needs.{needs}
+use Rattle.table.proofs.record_of.Statement.{statement}
+use Rattle.table.proofs.record_of.Tie as tie
+
+pub record-of-spec : {M : Type 1} → statement M
+record-of-spec =
+    tie.close
+    (tie.spec
+    (λ c κs. search needs)
+    (λ c κs. search needs)
+    (λ c. cc))

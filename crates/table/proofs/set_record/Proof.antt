@@ -1,0 +1,12 @@
+use borrow.Author.Needs.{needs}
+use Rattle.table.proofs.set_record.Statement.{statement}
+use Rattle.table.proofs.set_record.Tie as tie
+
+pub set-record-spec : {M : Type 1} → statement M
+set-record-spec =
+    tie.close
+    (tie.spec
+    (λ c κs. search needs)
+    (λ c κs. search needs)
+    (λ c. search needs)
+    (λ c. cc))

@@ -1,0 +1,227 @@
+// Fresh, full and trampled tables, and names. Each line of the input is a case, written again with what the functions say of it:
+//     T base k v c ..    a table with the word v at place k: whether it is sound, the members of context c, the free numbers
+//     W n                the first n words of a fresh table
+//     N name             a name
+use libc::STDIN_FILENO;
+use libc::STDOUT_FILENO;
+use megaco::Name;
+use megaco::Range;
+ghost use mathlib.Core.Path.{_≡_};
+ghost use Prim.Native.Nat.{_≤_};
+ghost use lib.ListN.{length};
+ghost use Rattle.megaco.specs.Table.{words};
+
+fn main() {
+    let mut room = [0u32; 753];
+    let mut input = io::buffer();
+    let n = io::read_full(STDIN_FILENO, &mut input);
+    run(&mut room, &input[..n]);
+}
+
+// ---- lines
+
+fn run(room: &mut [u32], s: &[u8])
+    requires { ⌜ length (now room) ≡ 753 ⌝ }
+{
+    let mut a: usize = 0;
+    while a < s.len() {
+        let e = line_end(s, a);
+        say(&s[a..e]);
+        case(room, &s[a..e]);
+        say(b"\n");
+        a = e + 1;
+    }
+}
+
+fn line_end(s: &[u8], a: usize) -> usize
+    requires { ⌜ a ≤ length (now s) ⌝ }
+    ensures { λ r. ⌜ (a ≤ r) × (r ≤ length (now (s .entry))) ⌝ }
+{
+    let mut i = a;
+    while i < s.len() {
+        if s[i] == b'\n' {
+            return i;
+        }
+        i += 1;
+    }
+    i
+}
+
+fn case(room: &mut [u32], line: &[u8])
+    requires { ⌜ length (now room) ≡ 753 ⌝ }
+{
+    if line.len() < 2 {
+        return;
+    }
+    if line[0] == b'T' {
+        table_case(&mut room[0..752], line);
+        return;
+    }
+    if line[0] == b'W' {
+        length_case(room, number(line, 1));
+        return;
+    }
+    name_case(&line[2..]);
+}
+
+// The number in field k of a line; the fields stand apart by single spaces.
+fn number(line: &[u8], k: u32) -> u32 {
+    let mut field: u32 = 0;
+    let mut n: u64 = 0;
+    let mut i: usize = 0;
+    while i < line.len() {
+        n = number_on(n, field == k, line[i]);
+        field = std::num::wrapping_add_u32(field, (line[i] == b' ') as u32);
+        i += 1;
+    }
+    word(n)
+}
+
+// A number with one digit more, if the byte is one and counts.
+fn number_on(n: u64, counts: bool, b: u8) -> u64 {
+    if counts & (48 <= b) & (b <= 57) {
+        if n < 1000000000 {
+            return n * 10 + wide(b) % 48;
+        }
+    }
+    n
+}
+
+fn wide(b: u8) -> u64 {
+    b as u64
+}
+
+fn word(n: u64) -> u32 {
+    if n < 4294967296 { n as u32 } else { 0 }
+}
+
+// ---- writing
+
+fn say(s: &[u8]) {
+    io::write_all(STDOUT_FILENO, s);
+}
+
+fn say_number(s: &[u8], n: u64) {
+    io::write_all(STDOUT_FILENO, s);
+    io::print_decimal(STDOUT_FILENO, n);
+}
+
+fn say_sound(t: &[u32]) {
+    if sound::is_sound(t) {
+        say(b": sound");
+    } else {
+        say(b": not sound");
+    }
+}
+
+// ---- tables
+
+// One word from a place up to another.
+fn put_run(t: &mut [u32], from: usize, to: usize, v: u32) {
+    let mut i = from;
+    while i < to {
+        table::put_word(t, i, v);
+        i += 1;
+    }
+}
+
+// Eight terminations from a number on in each of contexts 1, 2, ..
+fn put_eights(t: &mut [u32], from: usize) {
+    let mut i = from;
+    while i < table::TERMINATIONS {
+        table::put_word(t, i, ((i - from) / 8 + 1) as u32);
+        i += 1;
+    }
+}
+
+// A termination or more in each of 128 contexts.
+fn put_spread(t: &mut [u32]) {
+    let mut i: usize = 0;
+    while i < table::TERMINATIONS {
+        table::put_word(t, i, (i % 128 + 1) as u32);
+        i += 1;
+    }
+}
+
+// L/1/1 to L/1/3 in context 1, L/8/31 and R/1 in context 128.
+fn put_busy(t: &mut [u32]) {
+    put_run(t, 0, 3, 1);
+    put_run(t, 247, 249, 128);
+    put_run(t, 312, 315, 3);
+    put_run(t, 624, 625, 1);
+    put_run(t, 751, 752, 32);
+}
+
+// 1: busy; 2: 128 contexts; 3: contexts of 8; 4: 64 ephemerals in contexts of 8; else fresh.
+fn start(t: &mut [u32], base: u32) {
+    put_run(t, 0, 752, 0);
+    if base == 1 {
+        put_busy(t);
+        return;
+    }
+    if base == 2 {
+        put_spread(t);
+        put_run(t, 624, 752, 17);
+        return;
+    }
+    if base == 3 {
+        put_eights(t, 0);
+        put_run(t, 624, 663, 32);
+        return;
+    }
+    if base == 4 {
+        put_eights(t, 248);
+        put_run(t, 624, 632, 1);
+    }
+}
+
+fn table_case(t: &mut [u32], line: &[u8])
+    requires { ⌜ length (now t) ≡ words ⌝ }
+{
+    start(t, number(line, 1));
+    table::put_word(t, number(line, 2) as usize, number(line, 3));
+    report(t, number(line, 4));
+}
+
+fn report(t: &[u32], c: u32)
+    requires { ⌜ length (now t) ≡ words ⌝ }
+{
+    say_sound(t);
+    say_number(b", members ", table::members(t, c) as u64);
+    say_number(b", free context ", table::free_context(t) as u64);
+    say_number(b", free ephemeral ", table::free_ephemeral(t) as u64);
+}
+
+fn length_case(room: &mut [u32], n: u32) {
+    put_run(room, 0, 753, 0);
+    let e = n as usize;
+    if e <= room.len() {
+        say_sound(&room[0..e]);
+    }
+}
+
+// ---- names
+
+// What a name means; of a wildcard, how many its range takes in.
+fn name_case(n: &[u8]) {
+    let r = names::name_of(n);
+    match r {
+        Name::Termination(i) => say_number(b": termination ", i as u64),
+        Name::Root => say(b": root"),
+        Name::Chosen => say(b": chosen"),
+        Name::Unchosen => say(b": not to be chosen"),
+        Name::Wildcard(w) => say_number(b": wildcard over ", in_all(w)),
+        Name::Unmatched => say(b": matches nobody"),
+        Name::Unknown => say(b": unknown"),
+    }
+}
+
+fn in_all(w: Range) -> u64 {
+    let mut n: u64 = 0;
+    let mut i: usize = 0;
+    while i < table::TERMINATIONS {
+        n += names::in_range(w, i) as u64;
+        i += 1;
+    }
+    n
+}

@@ -1,0 +1,79 @@
+-- The laws of what an attempt sees, and of matches noted, in the form in which `search` uses them.
+use Prim.Native.Nat.{ℕ, zero, suc, _+_, _<_, _≤_}
+use mathlib.Core.Path.{_≡_, refl, sym, ap, _∙_}
+use mathlib.Core.List.{List, [], _∷_}
+use mathlib.Core.Bool.{Bool, true, false}
+use native.Mathlib.Numerals.{add-one}
+use native.Mathlib.Omega.{arith}
+use lib.ListN.{length, getD, set, drop, length-set, drop-of-length-le}
+use lib.Seq.{drop-cons}
+use Rattle.base.specs.Pick.{pick}
+use Rattle.base.specs.Bytes.{put}
+use Rattle.megaco.specs.Running.{matchesFrom}
+use Rattle.megaco.specs.declared.Op.{Op}
+use Rattle.megaco.specs.declared.Range.{Range}
+use Rattle.view.specs.Noted.{isMatch, Noted, Matched}
+
+-- ---- numbers put into a row
+
+put-nothing : (o : List ℕ) (n : ℕ) → put o n [] ≡ o
+unfolding put
+put-nothing [] n = refl
+put-nothing (y ∷ o) zero = refl
+put-nothing (y ∷ o) (suc n) = ap (λ (l : List ℕ). y ∷ l) (put-nothing o n)
+
+put-next : (o : List ℕ) (n b : ℕ) (bs : List ℕ) → put o n (b ∷ bs) ≡ put (set o n b) (suc n) bs
+unfolding put
+put-next [] n b bs = refl
+put-next (y ∷ o) zero b bs = refl
+put-next (y ∷ o) (suc n) b bs = ap (λ (l : List ℕ). y ∷ l) (put-next o n b bs)
+
+-- ---- matches
+
+-- what is still to be noted from place n on makes up the whole
+pub record Noting (is o : List ℕ) (rest o₁ : List ℕ) (n i : ℕ) : Type 0 where
+  pub row : put o 0 is ≡ put o₁ n rest
+  pub many : length is ≡ n + length rest
+  pub wide : length o₁ ≡ length o
+  pub small : n ≤ i
+
+pub noting-start : (is o : List ℕ) → Noting is o is o 0 0
+noting-start is o = record { row = refl; many = omega arith; wide = refl; small = omega arith }
+
+-- one number more, if it is to be noted
+noting-next : (is o rest o₁ o₂ : List ℕ) (n m i : ℕ) (x : Bool) → Noting is o (pick x (i ∷ rest) rest) o₁ n i → Noted o₁ n i x o₂ m
+    → Noting is o rest o₂ m (i + 1)
+unfolding pick
+noting-next is o rest o₁ o₂ n m i true k d =
+    record {
+      row = k .row ∙ put-next o₁ n i rest ∙ rw (d .row, d .next, add-one);
+      many = omega (arith, k .many, d .next);
+      wide = ap length (d .row) ∙ length-set o₁ n i ∙ k .wide;
+      small = omega (arith, k .small, d .next);
+    }
+noting-next is o rest o₁ o₂ n m i false k d =
+    record {
+      row = k .row ∙ rw (d .row, d .next);
+      many = omega (arith, k .many, d .next);
+      wide = ap length (d .row) ∙ k .wide;
+      small = omega (arith, k .small, d .next);
+    }
+
+module _ (op : Op) (c : ℕ) (r : Range) (l is o o₁ : List ℕ) (i n : ℕ) (inv : Noting is o (matchesFrom op c r i (drop i l)) o₁ n i) where
+  here : i < length l → matchesFrom op c r i (drop i l)
+      ≡ pick (isMatch op c r i (getD l i 0)) (i ∷ matchesFrom op c r (i + 1) (drop (i + 1) l)) (matchesFrom op c r (i + 1) (drop (i + 1) l))
+  unfolding matchesFrom isMatch
+  here h = rw (drop-cons l i 0, add-one)
+
+  pub noting-on : (o₂ : List ℕ) (m : ℕ) (x : Bool) → i < length l → x ≡ isMatch op c r i (getD l i 0) → Noted o₁ n i x o₂ m
+      → Noting is o (matchesFrom op c r (i + 1) (drop (i + 1) l)) o₂ m (i + 1)
+  noting-on o₂ m x h e d =
+      let s = matchesFrom op c r (i + 1) (drop (i + 1) l) in
+      let f : matchesFrom op c r i (drop i l) ≡ pick x (i ∷ s) s = here h ∙ ap (λ (t : Bool). pick t (i ∷ s) s) (sym e) in
+      noting-next is o s o₁ o₂ n m i x (rw f at inv) d
+
+  pub noting-end : length l ≤ i → Matched is o o₁ n
+  unfolding matchesFrom
+  noting-end h =
+      let e : matchesFrom op c r i (drop i l) ≡ [] = rw (drop-of-length-le l h) in
+      record { row = sym (inv .row ∙ ap (put o₁ n) e ∙ put-nothing o₁ n); many = omega (arith, inv .many, ap length e) }
