@@ -1,0 +1,36 @@
+use mathlib.Core.Path.{_≡_, refl}
+use Rattle.syntax.specs.Places.{listAt, actionAt}
+use Rattle.actions.proofs.ActionLaws.{parts}
+use Rattle.syntax.proofs.ListLaws.{list-none, list-fault, list-last, list-cut, list-more}
+use borrow.Author.Needs.{needs}
+use Rattle.actions.proofs.actions.Statement.{statement}
+use Rattle.actions.proofs.actions.Tie as tie
+
+abbrev Inv-loop : tie.InvT-loop
+Inv-loop s at i₀ left₀ i left = listAt (actionAt s) s 16 at ≡ listAt (actionAt s) s left i
+
+abbrev μ-loop : tie.MeasureT-loop
+μ-loop s at i₀ left₀ i left = left
+
+pub actions-spec : {M : Type 1} → statement M
+actions-spec =
+    tie.close
+    (tie.spec
+    Inv-loop
+    μ-loop
+    (λ c. refl)
+    (λ c κs. search needs)
+    (λ c. search needs)
+    (λ c. search needs)
+    (λ c. search list-fault)
+    (λ c κs. search needs)
+    (λ c. search parts)
+    (λ c κs. search needs)
+    (λ c. search needs)
+    (λ c. search needs)
+    (λ c. search list-cut)
+    (λ c. search needs)
+    (λ c. search needs)
+    (λ c. search list-more)
+    (λ c. search list-last)
+    (λ c. search list-none))

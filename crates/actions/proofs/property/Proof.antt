@@ -1,0 +1,18 @@
+use Rattle.syntax.specs.Places.{propertyAt}
+use Rattle.actions.proofs.ActionLaws.{parts}
+use borrow.Author.Needs.{needs}
+use Rattle.actions.proofs.property.Statement.{statement}
+use Rattle.actions.proofs.property.Tie as tie
+
+pub property-spec : {M : Type 1} → statement M
+property-spec =
+    tie.close
+    (tie.spec
+    (λ c κs. search needs)
+    (λ c κs. search needs)
+    (λ c κs. search needs)
+    (λ c. unfold propertyAt in search parts depth 9)
+    (λ c κs. search needs)
+    (λ c κs. search needs)
+    (λ c κs. search needs)
+    (λ c. unfold propertyAt in search parts depth 9))

@@ -1,0 +1,12 @@
+use Rattle.megaco.specs.Reading.{isProperty}
+use borrow.Author.Needs.{needs}
+use Rattle.actions.proofs.property_here.Statement.{statement}
+use Rattle.actions.proofs.property_here.Tie as tie
+
+pub property-here-spec : {M : Type 1} → statement M
+property-here-spec =
+    tie.close
+    (tie.spec
+    (λ c κs. search needs)
+    (λ c κs. search needs)
+    (λ c. unfold isProperty in rw (c .before .here-spells .ensures, c .here-spells2 .ensures)))

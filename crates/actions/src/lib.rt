@@ -1,0 +1,170 @@
+// Reading actions: a context, then properties and commands in braces.
+ghost use mathlib.Core.Path.{_≡_};
+ghost use Rattle.megaco.specs.Keywords.{spells};
+ghost use Rattle.megaco.specs.Tokens.{afterNumber};
+ghost use Rattle.megaco.specs.Reading.{keyAt, wordHere, isProperty, unlimited};
+ghost use Rattle.megaco.specs.declared.Parsed.the-variants.{Next};
+ghost use Rattle.syntax.specs.Places.{listAt, contextAt, priorityAt, propertyAt, bodyAt, openingAt, actionAt};
+use megaco::Class;
+use megaco::Number;
+use megaco::Parsed;
+use megaco::Token;
+
+// A keyword and `=`.
+pub fn key(s: &[u8], at: usize, k: Token) -> Parsed
+    ensures { λ r. ⌜ r ≡ keyAt k (now (s .entry)) at ⌝ }
+{
+    let w = tokens::keyword(s, at, k);
+    let Parsed::Next(p) = w else {
+        return Parsed::Fault;
+    };
+    let x = text::white(s, p);
+    let Parsed::Next(q) = x else {
+        return Parsed::Fault;
+    };
+    text::sign(s, q, 0x3d)
+}
+
+// The place after a number.
+pub fn number_place(n: Number) -> Parsed
+    ensures { λ r. ⌜ r ≡ afterNumber n Next ⌝ }
+{
+    match n {
+        Number::Got { value: _, next } => Parsed::Next(next),
+        Number::Bad => Parsed::Fault,
+    }
+}
+
+// A number, `-`, `$` or `*`.
+fn context(s: &[u8], at: usize) -> Parsed
+    ensures { λ r. ⌜ r ≡ contextAt (now (s .entry)) at ⌝ }
+{
+    if text::is_at(s, at, 0x2d) {
+        return Parsed::Next(at + 1);
+    }
+    if text::is_at(s, at, 0x24) {
+        return Parsed::Next(at + 1);
+    }
+    if text::is_at(s, at, 0x2a) {
+        return Parsed::Next(at + 1);
+    }
+    number_place(tokens::number(s, at, 10, 4294967295))
+}
+
+// ---- properties
+
+// Whether the word that stands here is the keyword.
+pub fn here_spells(s: &[u8], at: usize, k: Token) -> bool
+    ensures { λ r. ⌜ r ≡ spells k (wordHere (now (s .entry)) at) ⌝ }
+{
+    let w = syntax::piece_of(s, at, text::row(s, at, Class::WordByte));
+    let a = w.from;
+    let e = w.to;
+    text::spells(k, &s[a..e])
+}
+
+// Whether a property stands here.
+pub fn property_here(s: &[u8], at: usize) -> bool
+    ensures { λ r. ⌜ r ≡ isProperty (wordHere (now (s .entry)) at) ⌝ }
+{
+    here_spells(s, at, Token::PriorityToken) | here_spells(s, at, Token::EmergencyToken)
+}
+
+// The number of a priority.
+pub fn priority(s: &[u8], at: usize) -> Number
+    ensures { λ r. ⌜ r ≡ priorityAt (now (s .entry)) at ⌝ }
+{
+    let k = key(s, at, Token::PriorityToken);
+    let Parsed::Next(p) = k else {
+        return Number::Bad;
+    };
+    tokens::number(s, p, 5, 99999)
+}
+
+fn property(s: &[u8], at: usize) -> Parsed
+    ensures { λ r. ⌜ r ≡ propertyAt (now (s .entry)) at ⌝ }
+{
+    if here_spells(s, at, Token::EmergencyToken) {
+        return syntax::spaced(s, tokens::word(s, at));
+    }
+    syntax::spaced(s, number_place(priority(s, at)))
+}
+
+// ---- actions
+
+// Properties, then commands, all joined by commas, at least one of either.
+fn body(s: &[u8], at: usize) -> Parsed
+    ensures { λ r. ⌜ r ≡ bodyAt (unlimited (now (s .entry))) (now (s .entry)) at ⌝ }
+{
+    let mut i = at;
+    while property_here(s, i) {
+        let a = property(s, i);
+        let Parsed::Next(p) = a else {
+            return Parsed::Fault;
+        };
+        if text::is_at(s, p, 0x2c) {
+            let c = text::white(s, p + 1);
+            let Parsed::Next(q) = c else {
+                return Parsed::Fault;
+            };
+            i = q;
+        } else {
+            return Parsed::Next(p);
+        }
+    }
+    syntax::commands(s, i)
+}
+
+// An action through its opening brace.
+fn opening(s: &[u8], at: usize) -> Parsed
+    ensures { λ r. ⌜ r ≡ openingAt (now (s .entry)) at ⌝ }
+{
+    let k = key(s, at, Token::CtxToken);
+    let Parsed::Next(p) = k else {
+        return Parsed::Fault;
+    };
+    let c = syntax::spaced(s, context(s, p));
+    let Parsed::Next(q) = c else {
+        return Parsed::Fault;
+    };
+    text::sign(s, q, 0x7b)
+}
+
+fn action(s: &[u8], at: usize) -> Parsed
+    ensures { λ r. ⌜ r ≡ actionAt (now (s .entry)) at ⌝ }
+{
+    let o = opening(s, at);
+    let Parsed::Next(p) = o else {
+        return Parsed::Fault;
+    };
+    let b = body(s, p);
+    let Parsed::Next(q) = b else {
+        return Parsed::Fault;
+    };
+    text::sign(s, q, 0x7d)
+}
+
+// One to 16 actions.
+pub fn actions(s: &[u8], at: usize) -> Parsed
+    ensures { λ r. ⌜ r ≡ listAt (actionAt (now (s .entry))) (now (s .entry)) 16 at ⌝ }
+{
+    let mut i = at;
+    let mut left: usize = 16;
+    while 0 < left {
+        let a = action(s, i);
+        let Parsed::Next(p) = a else {
+            return Parsed::Fault;
+        };
+        if text::is_at(s, p, 0x2c) {
+            let c = text::white(s, p + 1);
+            let Parsed::Next(q) = c else {
+                return Parsed::Fault;
+            };
+            i = q;
+            left -= 1;
+        } else {
+            return Parsed::Next(p);
+        }
+    }
+    Parsed::Fault
+}

@@ -1,0 +1,20 @@
+use Rattle.syntax.specs.Places.{actionsAt}
+use Rattle.message.proofs.VerdictLaws.{verdicts}
+use borrow.Author.Needs.{needs}
+use Rattle.message.proofs.braced.Statement.{statement}
+use Rattle.message.proofs.braced.Tie as tie
+
+pub braced-spec : {M : Type 1} → statement M
+braced-spec =
+    tie.close
+    (tie.spec
+    (λ c κs. search needs)
+    (λ c. search needs)
+    (λ c. search needs)
+    (λ c. unfold actionsAt in search verdicts depth 9)
+    (λ c κs. search needs)
+    (λ c. search needs)
+    (λ c. search needs)
+    (λ c. unfold actionsAt in search verdicts depth 9)
+    (λ c κs. search needs)
+    (λ c. unfold actionsAt in search verdicts depth 9))

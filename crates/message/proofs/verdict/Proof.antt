@@ -1,0 +1,21 @@
+use Rattle.syntax.specs.Places.{verdict}
+use Rattle.message.proofs.VerdictLaws.{verdicts}
+use borrow.Author.Needs.{needs}
+use Rattle.message.proofs.verdict.Statement.{statement}
+use Rattle.message.proofs.verdict.Tie as tie
+
+pub verdict-spec : {M : Type 1} → statement M
+verdict-spec =
+    tie.close
+    (tie.spec
+    (λ c κs. search needs)
+    (λ c. search needs)
+    (λ c. search needs)
+    (λ c. unfold verdict in search verdicts depth 9)
+    (λ c κs. search needs)
+    (λ c. search needs)
+    (λ c. search needs)
+    (λ c. unfold verdict in search verdicts depth 9)
+    (λ c κs. search needs)
+    (λ c. unfold verdict in search verdicts depth 9)
+    (λ c. unfold verdict in search verdicts depth 9))

@@ -1,0 +1,28 @@
+use mathlib.Core.Path.{_≡_, refl}
+use Rattle.syntax.specs.Extraction.{listEnd, actionEnd, actionsEnd}
+use Rattle.outline.proofs.OutlineLaws.{end-none, end-last, end-more}
+use borrow.Author.Needs.{needs}
+use Rattle.outline.proofs.actions_end.Statement.{statement}
+use Rattle.outline.proofs.actions_end.Tie as tie
+
+abbrev Inv-loop : tie.InvT-loop
+Inv-loop s at i₀ left₀ i left = actionsEnd s at ≡ listEnd (actionEnd s) s left i
+
+abbrev μ-loop : tie.MeasureT-loop
+μ-loop s at i₀ left₀ i left = left
+
+pub actions-end-spec : {M : Type 1} → statement M
+actions-end-spec =
+    tie.close
+    (tie.spec
+    Inv-loop
+    μ-loop
+    (λ c. unfold actionsEnd in refl)
+    (λ c κs. search needs)
+    (λ c κs. search needs)
+    (λ c κs. search needs)
+    (λ c. search needs)
+    (λ c. search needs)
+    (λ c. search end-more)
+    (λ c. search end-last)
+    (λ c. search end-none))

@@ -1,0 +1,13 @@
+use Rattle.syntax.specs.Extraction.{bodyEnd}
+use Rattle.base.specs.Pick.{picks}
+use borrow.Author.Needs.{needs}
+use Rattle.outline.proofs.body_end.Statement.{statement}
+use Rattle.outline.proofs.body_end.Tie as tie
+
+pub body-end-spec : {M : Type 1} → statement M
+body-end-spec =
+    tie.close
+    (tie.spec
+    (λ c κs. search needs)
+    (λ c. unfold bodyEnd in search picks)
+    (λ c. unfold bodyEnd in search picks))

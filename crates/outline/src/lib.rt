@@ -1,0 +1,250 @@
+// The parts of actions and transactions in a well-formed message: where each stands and ends. Nothing can fail here: where no such part
+// stands, what is found has no meaning.
+ghost use mathlib.Core.Path.{_≡_};
+ghost use Rattle.megaco.specs.Reading.{unlimited};
+ghost use Rattle.syntax.specs.Extraction.{valueIn, nextIn, commandEnd, commandsEnd, bodyEnd, restOf, actionEnd, actionsEnd, closingEnd, transactionEnd, headerEnd};
+ghost use Rattle.outline.specs.Outline.{contextPlaces, actionPlaces, propertyPlaces, transactionPlaces};
+use megaco::Class;
+use megaco::Context;
+use megaco::Number;
+use megaco::Property;
+use megaco::Token;
+use syntax::Rest;
+
+// A context, and the place behind it.
+pub struct ContextPlaces {
+    pub context: Context,
+    pub end: usize,
+}
+
+// An action: its context, and where its properties or commands begin.
+pub struct ActionPlaces {
+    pub context: Context,
+    pub body: usize,
+}
+
+// A property, and the place behind it.
+pub struct PropertyPlaces {
+    pub property: Property,
+    pub end: usize,
+}
+
+// A transaction: its identifier, and where its actions begin.
+pub struct TransactionPlaces {
+    pub id: u32,
+    pub body: usize,
+}
+
+fn value_in(n: Number) -> u32
+    ensures { λ r. ⌜ r ≡ valueIn n ⌝ }
+{
+    match n {
+        Number::Got { value, next: _ } => value,
+        Number::Bad => 0,
+    }
+}
+
+fn next_in(n: Number) -> usize
+    ensures { λ r. ⌜ r ≡ nextIn n ⌝ }
+{
+    match n {
+        Number::Got { value: _, next } => next,
+        Number::Bad => 0,
+    }
+}
+
+// ---- actions
+
+fn context_places(s: &[u8], at: usize) -> ContextPlaces
+    ensures { λ r. ⌜ r ≡ contextPlaces (now (s .entry)) at ⌝ }
+{
+    if text::is_at(s, at, 0x2d) {
+        return ContextPlaces {
+            context: Context::Null,
+            end: at + 1,
+        };
+    }
+    if text::is_at(s, at, 0x24) {
+        return ContextPlaces {
+            context: Context::Choose,
+            end: at + 1,
+        };
+    }
+    if text::is_at(s, at, 0x2a) {
+        return ContextPlaces {
+            context: Context::All,
+            end: at + 1,
+        };
+    }
+    let n = tokens::number(s, at, 10, 4294967295);
+    ContextPlaces {
+        context: Context::Numbered(value_in(n)),
+        end: next_in(n),
+    }
+}
+
+// An action.
+pub fn action_places(s: &[u8], at: usize) -> ActionPlaces
+    ensures { λ r. ⌜ r ≡ actionPlaces (now (s .entry)) at ⌝ }
+{
+    let p = parts::end_of(actions::key(s, at, Token::CtxToken));
+    let x = context_places(s, p);
+    let c = x.context;
+    let e = x.end;
+    ActionPlaces {
+        context: c,
+        body: parts::past_opening(s, parts::past_white(s, e)),
+    }
+}
+
+// A property.
+pub fn property_places(s: &[u8], at: usize) -> PropertyPlaces
+    ensures { λ r. ⌜ r ≡ propertyPlaces (now (s .entry)) at ⌝ }
+{
+    if actions::here_spells(s, at, Token::EmergencyToken) {
+        let e = text::row(s, at, Class::WordByte);
+        return PropertyPlaces {
+            property: Property::Emergency,
+            end: parts::past_white(s, e),
+        };
+    }
+    let n = actions::priority(s, at);
+    PropertyPlaces {
+        property: Property::Priority(value_in(n)),
+        end: parts::past_white(s, next_in(n)),
+    }
+}
+
+// What follows the properties that begin here.
+pub fn rest_of(s: &[u8], at: usize) -> Rest
+    ensures { λ r. ⌜ r ≡ restOf (unlimited (now (s .entry))) (now (s .entry)) at ⌝ }
+{
+    let mut i = at;
+    let mut n = 0;
+    while n <= s.len() {
+        if actions::property_here(s, i) {
+            let p = property_places(s, i);
+            let e = p.end;
+            if text::is_at(s, e, 0x2c) {
+                i = parts::past_comma(s, e);
+                n += 1;
+            } else {
+                return Rest {
+                    commands: false,
+                    at: e,
+                };
+            }
+        } else {
+            return Rest {
+                commands: true,
+                at: i,
+            };
+        }
+    }
+    Rest {
+        commands: false,
+        at: i,
+    }
+}
+
+// ---- ends
+
+pub fn command_end(s: &[u8], at: usize) -> usize
+    ensures { λ r. ⌜ r ≡ commandEnd (now (s .entry)) at ⌝ }
+{
+    let p = parts::command_places(s, at);
+    let e = p.end;
+    parts::braces_end(s, 8, e)
+}
+
+// The end of the commands that begin here.
+pub fn commands_end(s: &[u8], at: usize) -> usize
+    ensures { λ r. ⌜ r ≡ commandsEnd (now (s .entry)) at ⌝ }
+{
+    let mut i = at;
+    let mut left: usize = 64;
+    while 0 < left {
+        let e = command_end(s, i);
+        if text::is_at(s, e, 0x2c) {
+            i = parts::past_comma(s, e);
+            left -= 1;
+        } else {
+            return e;
+        }
+    }
+    i
+}
+
+// The end of what stands in an action's braces, behind its properties.
+pub fn body_end(s: &[u8], r: Rest) -> usize
+    ensures { λ e. ⌜ e ≡ bodyEnd (now (s .entry)) r ⌝ }
+{
+    let at = r.at;
+    if r.commands {
+        return commands_end(s, at);
+    }
+    at
+}
+
+pub fn action_end(s: &[u8], at: usize) -> usize
+    ensures { λ r. ⌜ r ≡ actionEnd (now (s .entry)) at ⌝ }
+{
+    let a = action_places(s, at);
+    let b = a.body;
+    parts::past_closing(s, body_end(s, rest_of(s, b)))
+}
+
+// The end of the actions that begin here.
+pub fn actions_end(s: &[u8], at: usize) -> usize
+    ensures { λ r. ⌜ r ≡ actionsEnd (now (s .entry)) at ⌝ }
+{
+    let mut i = at;
+    let mut left: usize = 16;
+    while 0 < left {
+        let e = action_end(s, i);
+        if text::is_at(s, e, 0x2c) {
+            i = parts::past_comma(s, e);
+            left -= 1;
+        } else {
+            return e;
+        }
+    }
+    i
+}
+
+// ---- transactions
+
+// A transaction.
+pub fn transaction_places(s: &[u8], at: usize) -> TransactionPlaces
+    ensures { λ r. ⌜ r ≡ transactionPlaces (now (s .entry)) at ⌝ }
+{
+    let n = message::identifier(s, at);
+    let b = parts::end_of(message::brace(s, next_in(n)));
+    TransactionPlaces {
+        id: value_in(n),
+        body: parts::past_white(s, b),
+    }
+}
+
+// The end of the transaction whose actions end here, and white space.
+pub fn closing_end(s: &[u8], at: usize) -> usize
+    ensures { λ r. ⌜ r ≡ closingEnd (now (s .entry)) at ⌝ }
+{
+    parts::past_white(s, parts::end_of(text::mark(s, at, 0x7d)))
+}
+
+pub fn transaction_end(s: &[u8], at: usize) -> usize
+    ensures { λ r. ⌜ r ≡ transactionEnd (now (s .entry)) at ⌝ }
+{
+    let p = transaction_places(s, at);
+    let b = p.body;
+    closing_end(s, actions_end(s, b))
+}
+
+// Where the transactions begin.
+pub fn header_end(s: &[u8]) -> usize
+    ensures { λ r. ⌜ r ≡ headerEnd (now (s .entry)) ⌝ }
+{
+    let v = message::version(s);
+    parts::end_of(message::sender(s, next_in(v)))
+}

@@ -1,0 +1,121 @@
+-- The parts that are found are those of the tree told by position.
+use Prim.Native.Nat.{ℕ, _+_}
+use mathlib.Core.Path.{_≡_, ap, _∙_}
+use mathlib.Core.Bool.{Bool, true, false}
+use mathlib.Core.List.{List}
+use native.Mathlib.Omega.{arith}
+use lib.Dec.{ltb}
+use borrow.Author.Tests.{lt-ltb, le-ltb}
+use Rattle.base.specs.Pick.{pick}
+use Rattle.base.specs.Lists.{isAt}
+use Rattle.megaco.specs.Bytes.{equal, leftBrace, slash, quote}
+use Rattle.megaco.specs.Tokens.{rowAt, valueAt, terminationAt}
+use Rattle.megaco.specs.Tree.{plain, quoted}
+use Rattle.megaco.specs.Reading.{valueOf, prefixAt, prefixEnd}
+use Rattle.megaco.specs.declared.Parsed.{Parsed}
+use Rattle.megaco.specs.declared.Parsed.the-variants.{Next, Fault}
+use Rattle.megaco.specs.declared.Class.the-variants.{WordByte}
+use Rattle.syntax.specs.declared.Piece.{Piece}
+use Rattle.syntax.specs.Places.{orderStart}
+use Rattle.syntax.specs.Pieces.{Holds}
+use Rattle.syntax.specs.Extraction.{bracesEnd, itemEnd, commandEnd, endOf, pastWhite, pastSign, wordEnd, secondEnd, equalPlace, valueEnd, valueItemEnd, headEnd, secondOf, valueItemOf, bracesOf, itemOf, orderEnd, nameStart, nameEnd, commandHeadEnd, commandOf}
+use Rattle.parts.specs.declared.ValuePlaces.{ValuePlaces}
+use Rattle.parts.specs.declared.ItemPlaces.{ItemPlaces}
+use Rattle.parts.specs.declared.Marks.{Marks}
+use Rattle.parts.specs.declared.CommandPlaces.{CommandPlaces}
+use Rattle.parts.specs.Found.{inQuotes, valueFrom, OfValue, OfItem, itemFrom, marksOf, OfCommand, itemsFrom, commandFrom}
+
+-- where a reader stopped
+pub end-next : (x : Parsed) (p : ℕ) → x ≡ Next p → p ≡ endOf x
+unfolding endOf
+end-next x p e = rw e
+
+pub end-fault : (x : Parsed) → x ≡ Fault → 0 ≡ endOf x
+unfolding endOf
+end-fault x e = rw e
+
+-- the end of what a call read
+pub end-by : (e : ℕ) (x y : Parsed) → e ≡ endOf y → y ≡ x → e ≡ endOf x
+end-by e x y h g = rw (← g) h
+
+-- ---- items: what the parts tell is the tree
+
+pub item-is : {A : Type 0} (inner : ℕ → List A) (s : List ℕ) (at : ℕ) (r : ItemPlaces) → OfItem s at r → itemOf inner s at ≡ itemFrom inner s at r
+unfolding itemOf itemFrom secondOf bracesOf
+item-is inner s at r h = rw (h .word .bytes, h .second, h .braces, h .inside, h .value .tree)
+
+pub command-is : (s : List ℕ) (at : ℕ) (r : CommandPlaces) → OfCommand s at r → commandOf s at ≡ commandFrom s r
+unfolding commandOf commandFrom itemsFrom bracesOf
+command-is s at r h = rw (h .optional, h .wild, h .word .bytes, h .name .bytes, h .braces, h .inside)
+
+-- the braces end the part
+pub item-ends : (k : ℕ) (s : List ℕ) (at e : ℕ) (r : ItemPlaces) → OfItem s at r → e ≡ bracesEnd k s (r .value .end) → e ≡ itemEnd k s at
+unfolding itemEnd headEnd
+item-ends k s at e r h f = f ∙ rw (h .value .end)
+
+pub command-ends : (s : List ℕ) (at e : ℕ) (r : CommandPlaces) → OfCommand s at r → e ≡ bracesEnd 8 s (r .end) → e ≡ commandEnd s at
+unfolding commandEnd
+command-ends s at e r h f = f ∙ rw (h .end)
+
+-- ---- a value that was found
+
+module _ (s : List ℕ) (at : ℕ) (x : Bool) (g : x ≡ isAt s at equal) where
+  pub value-given : (a e z : ℕ) (v : Parsed) (q : Bool) (p : Piece) → x ≡ true → a ≡ pastSign equal s at → v ≡ valueAt s a → e ≡ endOf v → q ≡ isAt s a quote → Holds s a e p
+      → z ≡ pastWhite s e → OfValue s at (record { given = true; quoted = q; plain = p; end = z })
+  unfolding valueItemOf valueItemEnd valueEnd valueFrom valueOf inQuotes pick
+  value-given a e z v q p t ea ev ee eq w ez =
+      record {
+        tree = rw (← g, t, ← ea, ← ev, ← ee, eq, w .bytes);
+        ordered = w .ordered;
+        inside = w .inside;
+        end = ez ∙ rw (← g, t, ← ea, ← ev, ← ee);
+      }
+
+  pub value-none : (p : Piece) (a e : ℕ) → x ≡ false → Holds s a e p → OfValue s at (record { given = false; quoted = false; plain = p; end = at })
+  unfolding valueItemOf valueItemEnd valueFrom pick
+  value-none p a e f w = record { tree = rw (← g, f); ordered = w .ordered; inside = w .inside; end = rw (← g, f) }
+
+-- ---- an item that was found
+
+pub item-found : (s : List ℕ) (at w u q i : ℕ) (p : Piece) (x b : Bool) (v : ValuePlaces) → w ≡ rowAt WordByte s at → Holds s at w p → x ≡ isAt s w slash → u ≡ secondEnd s w
+    → q ≡ pastWhite s u → OfValue s q v → b ≡ isAt s (v .end) leftBrace → i ≡ pastSign leftBrace s (v .end)
+    → OfItem s at (record { word = p; second = x; value = v; braces = b; inside = i })
+unfolding wordEnd equalPlace headEnd
+item-found s at w u q i p x b v ew ep ex eu eq ev eb ei =
+    let e : q ≡ pastWhite s (secondEnd s (rowAt WordByte s at)) = eq ∙ rw (eu, ew) in
+    record { word = rw (← ew) ep; second = rw (← ew) ex; value = rw (← e) ev; braces = rw (← e, ← ev .end) eb; inside = rw (← e, ← ev .end) ei }
+
+-- ---- a command that was found
+
+-- a prefix stands where its end is further on
+prefix-told : (b : ℕ) (s : List ℕ) (at o : ℕ) → o ≡ prefixEnd b s at → ltb at o ≡ prefixAt b s at
+unfolding prefixEnd pick
+prefix-told b s at o e = rw e (by (prefixAt b s at))
+  where
+    by : (t : Bool) → ltb at (pick t (at + 2) at) ≡ t
+    by true = lt-ltb at (at + 2) (omega arith)
+    by false = le-ltb at at (omega arith)
+
+pub marks-found : (s : List ℕ) (at o w : ℕ) → o ≡ prefixEnd 0x4f s at → w ≡ prefixEnd 0x57 s o → record { optional = ltb at o; wild = ltb o w; at = w } ≡ marksOf s at
+unfolding marksOf orderStart
+marks-found s at o w e f = rw (prefix-told 0x4f s at o e, prefix-told 0x57 s o w f, f, e)
+
+pub command-found : (s : List ℕ) (at e f p n z i : ℕ) (m : Marks) (word name : Piece) (x : Parsed) (b : Bool) → m ≡ marksOf s at → e ≡ rowAt WordByte s (m .at) → Holds s (m .at) e word
+    → p ≡ pastWhite s e → n ≡ pastSign equal s p → x ≡ terminationAt s n → f ≡ endOf x → Holds s n f name → z ≡ pastWhite s f → b ≡ isAt s z leftBrace → i ≡ pastSign leftBrace s z
+    → OfCommand s at (record { optional = m .optional; wild = m .wild; word = word; name = name; end = z; braces = b; inside = i })
+unfolding marksOf wordEnd orderEnd nameStart nameEnd commandHeadEnd
+command-found s at e f p n z i m word name x b em ee ew ep en ex ef ea ez eb ei =
+    let ms : m .at ≡ orderStart s at = ap (λ (y : Marks). y .at) em in
+    let es : e ≡ rowAt WordByte s (orderStart s at) = ee ∙ rw ms in
+    let ns : n ≡ pastSign equal s (pastWhite s (rowAt WordByte s (orderStart s at))) = en ∙ rw (ep, es) in
+    let fs : f ≡ endOf (terminationAt s (pastSign equal s (pastWhite s (rowAt WordByte s (orderStart s at))))) = ef ∙ rw (ex, ns) in
+    let zs : z ≡ pastWhite s (endOf (terminationAt s (pastSign equal s (pastWhite s (rowAt WordByte s (orderStart s at)))))) = ez ∙ rw fs in
+    record {
+      optional = ap (λ (y : Marks). y .optional) em;
+      wild = ap (λ (y : Marks). y .wild) em;
+      word = rw (← ms, ← ee) ew;
+      name = rw (← fs, ← ns) ea;
+      end = zs;
+      braces = rw (← zs) eb;
+      inside = rw (← zs) ei;
+    }

@@ -1,0 +1,5 @@
+pub mod Onward
+pub mod ListLaws
+pub mod ItemLaws
+pub mod CommandLaws
+pub mod PartLaws

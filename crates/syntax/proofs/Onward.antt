@@ -1,0 +1,199 @@
+-- No reader goes back: what it finds is at or past the place where it began.
+use Prim.Native.Nat.{ℕ, zero, suc, _+_, _-_, _≤_}
+use mathlib.Core.Path.{_≡_, refl}
+use mathlib.Core.Bool.{Bool, false}
+use mathlib.Core.List.{List, [], _∷_}
+use native.Mathlib.Omega.{arith}
+use native.Mathlib.Nat.{le-refl, le-trans, le-add-right}
+use lib.ListN.{drop}
+use lib.Dec.{ltb, leb}
+use Rattle.base.specs.Pick.{pick}
+use Rattle.base.specs.Lists.{isAt, part}
+use Rattle.megaco.specs.Bytes.{equal, comma, leftBrace, rightBrace, slash, quote, isDigit}
+use Rattle.megaco.specs.White.{after, goesOn, insideAfter, stopAt, whiteFrom, whiteAt}
+use Rattle.megaco.specs.Keywords.{spells}
+use Rattle.megaco.specs.Tokens.{markAt, signAt, rowAt, upTo64, letterAt, wordAt, keywordAt, numberEnd, numberFrom, numberAt, afterNumber, quotedAt, plainAt, valueAt}
+use Rattle.megaco.specs.Reading.{unlimited, keyAt, wordHere}
+use Rattle.megaco.specs.declared.Parsed.{Parsed}
+use Rattle.megaco.specs.declared.Parsed.the-variants.{Next, Fault}
+use Rattle.megaco.specs.declared.Number.{Number}
+use Rattle.megaco.specs.declared.Number.the-variants.{Got, Bad}
+use Rattle.megaco.specs.declared.Class.{Class}
+use Rattle.megaco.specs.declared.Class.the-variants.{WordByte, SafeByte, QuotedByte}
+use Rattle.megaco.specs.declared.Token.{Token}
+use Rattle.megaco.specs.declared.Token.the-variants.{PriorityToken, EmergencyToken}
+use Rattle.tokens.proofs.TokenLaws.{pick-ind, row-ahead}
+use Rattle.syntax.specs.Places.{spacedAt, numberAfter, joinedAt, listAt, secondAt, valueItemAt, bracesAt, headAt, itemAt, itemsAt, priorityAt, propertyAt}
+
+abbrev pub Onward : ℕ → Parsed → Type 0
+Onward at x = (p : ℕ) → x ≡ Next p → at ≤ p
+
+fault-on : (at : ℕ) → Onward at Fault
+fault-on at p e = let z : _≡_ {A = ℕ} 0 1 = cc in absurd (omega arith)
+
+next-on : (at e : ℕ) → at ≤ e → Onward at (Next e)
+next-on at e h p n = let z : e ≡ p = cc in omega arith
+
+pick-on : (at : ℕ) (t : Bool) (x y : Parsed) → Onward at x → Onward at y → Onward at (pick t x y)
+pick-on at t x y h k = pick-ind (Onward at) t x y h k
+
+after-on : (at : ℕ) (x : Parsed) (f : ℕ → Parsed) → Onward at x → ((p : ℕ) → Onward p (f p)) → Onward at (after x f)
+unfolding after
+after-on at (Next q) f h k p e = le-trans (h q refl) (k q p e)
+after-on at Fault f h k p e = fault-on at p e
+
+-- from a place before
+earlier : (a at : ℕ) (x : Parsed) → a ≤ at → Onward at x → Onward a x
+earlier a at x h k p e = le-trans h (k p e)
+
+-- ---- leaves
+
+row-on : (k : Class) (s : List ℕ) (at : ℕ) → at ≤ rowAt k s at
+row-on k s at = row-ahead k s at (rowAt k s at) refl
+
+white-from : (l : List ℕ) (n : ℕ) (inside : Bool) → Onward n (whiteFrom l n inside)
+unfolding whiteFrom stopAt
+white-from [] n inside = pick-on n inside _ _ (fault-on n) (next-on n n (le-refl n))
+white-from (b ∷ t) n inside =
+    pick-on n (goesOn inside b) _ _
+    (earlier n (n + 1) _ (le-add-right n 1) (white-from t (n + 1) (insideAfter inside b)))
+    (pick-on n inside _ _ (fault-on n) (next-on n n (le-refl n)))
+
+pub white-on : (s : List ℕ) (at : ℕ) → Onward at (whiteAt s at)
+unfolding whiteAt
+white-on s at = white-from (drop at s) at false
+
+mark-on : (b : ℕ) (s : List ℕ) (at : ℕ) → Onward (at + 1) (markAt b s at)
+unfolding markAt
+mark-on b s at = pick-on (at + 1) (isAt s at b) _ _ (next-on (at + 1) (at + 1) (le-refl (at + 1))) (fault-on (at + 1))
+
+pub sign-on : (b : ℕ) (s : List ℕ) (at : ℕ) → Onward (at + 1) (signAt b s at)
+unfolding signAt
+sign-on b s at = after-on (at + 1) (markAt b s at) (whiteAt s) (mark-on b s at) (white-on s)
+
+up-to-on : (a e : ℕ) → Onward e (upTo64 a e)
+unfolding upTo64
+up-to-on a e = pick-on e (ltb 64 (e - a)) _ _ (fault-on e) (next-on e e (le-refl e))
+
+word-on : (s : List ℕ) (at : ℕ) → Onward at (wordAt s at)
+unfolding wordAt
+word-on s at = pick-on at (letterAt s at) _ _ (earlier at _ _ (row-on WordByte s at) (up-to-on at _)) (fault-on at)
+
+quoted-on : (s : List ℕ) (at : ℕ) → Onward at (quotedAt s at)
+unfolding quotedAt
+quoted-on s at =
+    let e : ℕ = rowAt QuotedByte s (at + 1) in
+    earlier at (at + 1) _ (le-add-right at 1)
+    (after-on (at + 1) (upTo64 (at + 1) e) (markAt quote s) (earlier (at + 1) e _ (row-on QuotedByte s (at + 1)) (up-to-on (at + 1) e))
+    (λ p. earlier p (p + 1) _ (le-add-right p 1) (mark-on quote s p)))
+
+plain-on : (s : List ℕ) (at : ℕ) → Onward at (plainAt s at)
+unfolding plainAt
+plain-on s at = pick-on at _ _ _ (earlier at _ _ (row-on SafeByte s at) (up-to-on at _)) (fault-on at)
+
+value-on : (s : List ℕ) (at : ℕ) → Onward at (valueAt s at)
+unfolding valueAt
+value-on s at = pick-on at (isAt s at quote) _ _ (quoted-on s at) (plain-on s at)
+
+spaced-on : (s : List ℕ) (at : ℕ) (x : Parsed) → Onward at x → Onward at (spacedAt s x)
+unfolding spacedAt
+spaced-on s at x h = after-on at x (whiteAt s) h (white-on s)
+
+-- ---- items
+
+sign-past : (b : ℕ) (s : List ℕ) (at : ℕ) → Onward at (signAt b s at)
+sign-past b s at = earlier at (at + 1) _ (le-add-right at 1) (sign-on b s at)
+
+second-on : (s : List ℕ) (at : ℕ) → Onward at (secondAt s at)
+unfolding secondAt
+second-on s at = pick-on at (isAt s at slash) _ _ (earlier at (at + 1) _ (le-add-right at 1) (word-on s (at + 1))) (next-on at at (le-refl at))
+
+value-item-on : (s : List ℕ) (at : ℕ) → Onward at (valueItemAt s at)
+unfolding valueItemAt
+value-item-on s at =
+    pick-on at (isAt s at equal) _ _
+    (after-on at (signAt equal s at) _ (sign-past equal s at) (λ p. spaced-on s p (valueAt s p) (value-on s p)))
+    (next-on at at (le-refl at))
+
+pub head-on : (s : List ℕ) (at : ℕ) → Onward at (headAt s at)
+unfolding headAt
+head-on s at =
+    after-on at (wordAt s at) _ (word-on s at)
+    (λ p. after-on p (spacedAt s (secondAt s p)) (valueItemAt s) (spaced-on s p (secondAt s p) (second-on s p)) (value-item-on s))
+
+module _ (inner : ℕ → Parsed) (s : List ℕ) (h : (i : ℕ) → Onward i (inner i)) where
+  braces-on : (at : ℕ) → Onward at (bracesAt inner s at)
+  unfolding bracesAt
+  braces-on at =
+      pick-on at (isAt s at leftBrace) _ _
+      (after-on at (signAt leftBrace s at) _ (sign-past leftBrace s at) (λ p. after-on p (inner p) (signAt rightBrace s) (h p) (sign-past rightBrace s)))
+      (next-on at at (le-refl at))
+
+  list-on : (k at : ℕ) → Onward at (listAt inner s k at)
+  unfolding listAt joinedAt
+  list-on zero at = fault-on at
+  list-on (suc k) at =
+      after-on at (inner at) _ (h at)
+      (λ p. pick-on p (isAt s p comma) _ _ (after-on p (signAt comma s p) (listAt inner s k) (sign-past comma s p) (list-on k)) (next-on p p (le-refl p)))
+
+item-over : (inner : ℕ → Parsed) (s : List ℕ) → ((i : ℕ) → Onward i (inner i)) → (at : ℕ) → Onward at (itemAt inner s at)
+unfolding itemAt
+item-over inner s h at = after-on at (headAt s at) (bracesAt inner s) (head-on s at) (braces-on inner s h)
+
+items-on : (k : ℕ) (s : List ℕ) (at : ℕ) → Onward at (itemsAt k s at)
+unfolding itemsAt
+items-on zero s at = fault-on at
+items-on (suc k) s at = list-on (itemAt (itemsAt k s) s) s (item-over (itemsAt k s) s (items-on k s)) (unlimited s) at
+
+pub item-on : (k : ℕ) (s : List ℕ) (at : ℕ) → Onward at (itemAt (itemsAt k s) s at)
+item-on k s at = item-over (itemsAt k s) s (items-on k s) at
+
+-- ---- properties
+
+abbrev NumberOn : ℕ → Number → Type 0
+NumberOn at x = (v p : ℕ) → x ≡ Got v p → at ≤ p
+
+bad-on : (at : ℕ) → NumberOn at Bad
+bad-on at v p e = let z : _≡_ {A = ℕ} 0 1 = cc in absurd (omega arith)
+
+number-end-on : (at n v : ℕ) → NumberOn n (numberEnd at n v)
+unfolding numberEnd
+number-end-on at n v = pick-ind (NumberOn n) (ltb at n) _ _ (λ w p e. let z : n ≡ p = cc in omega arith) (bad-on n)
+
+number-from : (at most limit : ℕ) (l : List ℕ) (n v : ℕ) → NumberOn n (numberFrom at most limit l n v)
+unfolding numberFrom
+number-from at most limit [] n v = number-end-on at n v
+number-from at most limit (b ∷ t) n v =
+    pick-ind (NumberOn n) (isDigit b) _ _
+    (pick-ind (NumberOn n) (leb most (n - at)) _ _ (bad-on n)
+    (pick-ind (NumberOn n) _ _ _ (bad-on n) (λ w p e. le-trans (le-add-right n 1) (number-from at most limit t (n + 1) _ w p e))))
+    (number-end-on at n v)
+
+number-on : (s : List ℕ) (at most limit : ℕ) → NumberOn at (numberAt s at most limit)
+unfolding numberAt
+number-on s at most limit = number-from at most limit (drop at s) at 0
+
+after-number-on : (at : ℕ) (n : Number) → NumberOn at n → Onward at (afterNumber n Next)
+unfolding afterNumber
+after-number-on at (Got v q) h p e = let z : q ≡ p = cc in let m : at ≤ q = h v q refl in omega arith
+after-number-on at Bad h p e = fault-on at p e
+
+number-after-on : (at : ℕ) (x : Parsed) (f : ℕ → Number) → Onward at x → ((p : ℕ) → NumberOn p (f p)) → NumberOn at (numberAfter x f)
+unfolding numberAfter
+number-after-on at (Next q) f h k v p e = le-trans (h q refl) (k q v p e)
+number-after-on at Fault f h k v p e = bad-on at v p e
+
+keyword-on : (k : Token) (s : List ℕ) (at : ℕ) → Onward at (keywordAt k s at)
+unfolding keywordAt
+keyword-on k s at = after-on at (wordAt s at) _ (word-on s at) (λ p. pick-on p (spells k (part s at p)) _ _ (next-on p p (le-refl p)) (fault-on p))
+
+key-on : (k : Token) (s : List ℕ) (at : ℕ) → Onward at (keyAt k s at)
+unfolding keyAt
+key-on k s at = after-on at (keywordAt k s at) _ (keyword-on k s at) (λ p. after-on p (whiteAt s p) (signAt equal s) (white-on s p) (sign-past equal s))
+
+pub property-on : (s : List ℕ) (at : ℕ) → Onward at (propertyAt s at)
+unfolding propertyAt priorityAt
+property-on s at =
+    pick-on at (spells EmergencyToken (wordHere s at)) _ _
+    (spaced-on s at (wordAt s at) (word-on s at))
+    (spaced-on s at _ (after-number-on at _ (number-after-on at (keyAt PriorityToken s at) _ (key-on PriorityToken s at) (λ p. number-on s p 5 99999))))
