@@ -1,13 +1,13 @@
 -- The code of an attempt tells its result; and the laws by which `search codes` follows the tests of the code.
 use Prim.Native.Nat.{ℕ, zero, suc}
-use mathlib.Core.Path.{_≡_, refl, sym, ap, _∙_}
+use mathlib.Core.Path.{_≡_, refl, sym, _∙_}
 use mathlib.Core.List.{List, [], _∷_}
 use mathlib.Core.Bool.{Bool, true, false, not, _&&_, true≢false}
 use lib.Dec.{eqb}
 use borrow.Author.Tests.{eq-eqb, ne-eqb, le-leb, lt-leb}
 use Rattle.base.specs.Pick.{pick}
 use Rattle.megaco.specs.Table.{Write}
-use Rattle.megaco.specs.Running.{Check, check, Result, refused, done, judge, numberOf, roomChecks, checks, changes, attempt}
+use Rattle.megaco.specs.Running.{Check, check, refused, done, judge, numberOf, roomChecks, checks, changes, attempt}
 use Rattle.megaco.specs.declared.Op.{Op}
 use Rattle.megaco.specs.declared.Op.the-variants.{Add, Modify, Subtract, Move}
 use Rattle.megaco.specs.declared.Context.{Context}

@@ -32,7 +32,7 @@ fn room_code(at: Context, view: View) -> u32
     if is_choose(at) & (view.free == 0) {
         return 412;
     }
-    if 8 <= there.members {
+    if table::MOST <= there.members {
         return 434;
     }
     0

@@ -1,5 +1,5 @@
 -- The laws of names, in the form in which `search` uses them.
-use Prim.Native.Nat.{ℕ, zero, suc, _+_, _*_, _-_, _<_, _≤_}
+use Prim.Native.Nat.{ℕ, suc, _+_, _*_, _-_, _<_, _≤_}
 use mathlib.Core.Path.{_≡_, refl, sym, ap, _∙_}
 use mathlib.Core.List.{List, [], _∷_}
 use mathlib.Core.Bool.{Bool, true, false, not, _&&_, _||_, and-false}
@@ -14,6 +14,7 @@ use Rattle.base.specs.Pick.{pick}
 use Rattle.base.specs.Lists.{same, has, before, behind}
 use Rattle.base.specs.Bytes.{text}
 use Rattle.megaco.specs.Bytes.{slash, star, dollar, isDigit, capital, capitals}
+use Rattle.megaco.specs.Table.{lines, channels, lineTerminations, ephemerals}
 use Rattle.megaco.specs.Names.{numeral, within, lineName, ephemeralName, plainName, lineRange, wildcardName, capitalName, nameOf}
 use Rattle.megaco.specs.declared.Range.the-variants.{ChannelsOf}
 use Rattle.megaco.specs.declared.Name.{Name}
@@ -205,19 +206,19 @@ numeral-none (a ∷ b ∷ c ∷ n) h k = refl
 
 -- ---- forms of names
 
-pub line-yes : (l s a b : ℕ) (x y : Bool) → x ≡ within l 8 → y ≡ within s 31 → (x && y) ≡ true → a ≡ l - 1 → b ≡ s - 1 → Termination (31 * a + b) ≡ lineName l s
+pub line-yes : (l s a b : ℕ) (x y : Bool) → x ≡ within l lines → y ≡ within s channels → (x && y) ≡ true → a ≡ l - 1 → b ≡ s - 1 → Termination (channels * a + b) ≡ lineName l s
 unfolding lineName pick
 line-yes l s a b x y e f t g h = rw (← e, ← f, t, g, h)
 
-pub line-no : (l s : ℕ) (x y : Bool) → x ≡ within l 8 → y ≡ within s 31 → (x && y) ≡ false → Unknown ≡ lineName l s
+pub line-no : (l s : ℕ) (x y : Bool) → x ≡ within l lines → y ≡ within s channels → (x && y) ≡ false → Unknown ≡ lineName l s
 unfolding lineName pick
 line-no l s x y e f t = rw (← e, ← f, t)
 
-pub ephemeral-yes : (n a : ℕ) (x : Bool) → x ≡ within n 64 → x ≡ true → a ≡ n - 1 → Termination (248 + a) ≡ ephemeralName n
+pub ephemeral-yes : (n a : ℕ) (x : Bool) → x ≡ within n ephemerals → x ≡ true → a ≡ n - 1 → Termination (lineTerminations + a) ≡ ephemeralName n
 unfolding ephemeralName pick
 ephemeral-yes n a x e t g = rw (← e, t, g)
 
-pub ephemeral-no : (n : ℕ) (x : Bool) → x ≡ within n 64 → x ≡ false → Unknown ≡ ephemeralName n
+pub ephemeral-no : (n : ℕ) (x : Bool) → x ≡ within n ephemerals → x ≡ false → Unknown ≡ ephemeralName n
 unfolding ephemeralName pick
 ephemeral-no n x e t = rw (← e, t)
 
@@ -278,14 +279,14 @@ module _ (n tail head : List ℕ) (rest-is : tail ≡ behind slash n) (head-is :
       rw (head-capitals, ← e, t, same-head, ← f, u)
 
   range-by : (m k : List ℕ) (l : ℕ) (x y z : Bool) → m ≡ before slash tail → l ≡ numeral m → k ≡ behind slash tail
-      → x ≡ same (capitals head) (text "L") → y ≡ same (capitals k) (text "*") → z ≡ within l 8
+      → x ≡ same (capitals head) (text "L") → y ≡ same (capitals k) (text "*") → z ≡ within l lines
       → lineRange (capitals n) ≡ pick (x && y && z) (Wildcard (ChannelsOf l)) Unmatched
   unfolding lineRange
   range-by m k l x y z f g h e d c =
       rw (numeral-before m l f g, head-capitals, tail-capitals, behind-capitals slash tail (omega arith), ← h, ← e, ← d, ← c)
 
   module _ (m k : List ℕ) (l : ℕ) (x y z : Bool) (f : m ≡ before slash tail) (g : l ≡ numeral m) (h : k ≡ behind slash tail)
-      (e : x ≡ same (capitals head) (text "L")) (d : y ≡ same (capitals k) (text "*")) (c : z ≡ within l 8) where
+      (e : x ≡ same (capitals head) (text "L")) (d : y ≡ same (capitals k) (text "*")) (c : z ≡ within l lines) where
     pub range-yes : (x && y && z) ≡ true → Wildcard (ChannelsOf l) ≡ lineRange (capitals n)
     unfolding pick
     range-yes t = sym (range-by m k l x y z f g h e d c ∙ rw t)

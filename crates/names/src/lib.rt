@@ -6,7 +6,7 @@ use table::EPHEMERALS;
 use table::LINE_TERMINATIONS;
 use table::LINES;
 ghost use mathlib.Core.Path.{_≡_};
-ghost use Prim.Native.Nat.{ℕ, _-_, _≤_};
+ghost use Prim.Native.Nat.{_-_, _≤_};
 ghost use lib.ListN.{length};
 ghost use lib.Dec.{eqb};
 ghost use Rattle.base.specs.Lists.{same, has, before, behind};

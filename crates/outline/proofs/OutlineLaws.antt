@@ -20,9 +20,7 @@ use Rattle.megaco.specs.declared.Property.the-variants.{Priority, Emergency}
 use Rattle.megaco.specs.declared.Token.the-variants.{CtxToken, EmergencyToken}
 use Rattle.syntax.specs.declared.Rest.{Rest}
 use Rattle.syntax.specs.Places.{priorityAt, braceAt, identifierAt, versionAt}
-use Rattle.syntax.specs.Extraction.{endOf, valueIn, nextIn, pastWhite, pastSign, wordEnd, listEnd, bracesEnd, commandEnd, contextStart, contextOf, contextEnd, bodyStart, propertyOf, propertyEnd, rest, restOf, restIn, bodyEnd, actionEnd, actionsStart, actionsEnd, closingEnd, transactionEnd, headerEnd}
-use Rattle.parts.specs.declared.CommandPlaces.{CommandPlaces}
-use Rattle.parts.specs.Found.{OfCommand}
+use Rattle.syntax.specs.Extraction.{endOf, valueIn, nextIn, pastWhite, pastSign, wordEnd, listEnd, contextStart, contextOf, contextEnd, bodyStart, propertyOf, propertyEnd, rest, restOf, restIn, bodyEnd, actionEnd, actionsStart, actionsEnd, closingEnd, transactionEnd, headerEnd}
 use Rattle.outline.specs.declared.ContextPlaces.{ContextPlaces}
 use Rattle.outline.specs.declared.ActionPlaces.{ActionPlaces}
 use Rattle.outline.specs.declared.PropertyPlaces.{PropertyPlaces}
@@ -122,10 +120,6 @@ module _ (s : List ℕ) (n i : ℕ) (q : Rest) (inv : q ≡ restOf (length s + 1
       rest-more u f l = turn ∙ rw (t, ← ends, ← g, f, ← l)
 
 -- ---- ends
-
-pub command-ends : (s : List ℕ) (at r : ℕ) (p : CommandPlaces) → OfCommand s at p → r ≡ bracesEnd 8 s (p .end) → r ≡ commandEnd s at
-unfolding commandEnd
-command-ends s at r p h e = e ∙ rw (h .end)
 
 -- a list, from the place that was reached
 module _ (end : ℕ → ℕ) (s : List ℕ) (k i q : ℕ) (inv : q ≡ listEnd end s k i) where

@@ -18,7 +18,7 @@ use Rattle.megaco.specs.declared.Class.the-variants.{WordByte}
 use Rattle.syntax.specs.declared.Piece.{Piece}
 use Rattle.syntax.specs.Places.{orderStart}
 use Rattle.syntax.specs.Pieces.{Holds}
-use Rattle.syntax.specs.Extraction.{endOf, pastWhite, pastSign, wordEnd, secondEnd, equalPlace, valueEnd, valueItemEnd, headEnd, secondOf, valueItemOf, bracesOf, itemOf, orderEnd, nameStart, nameEnd, commandHeadEnd, commandOf}
+use Rattle.syntax.specs.Extraction.{bracesEnd, itemEnd, commandEnd, endOf, pastWhite, pastSign, wordEnd, secondEnd, equalPlace, valueEnd, valueItemEnd, headEnd, secondOf, valueItemOf, bracesOf, itemOf, orderEnd, nameStart, nameEnd, commandHeadEnd, commandOf}
 use Rattle.parts.specs.declared.ValuePlaces.{ValuePlaces}
 use Rattle.parts.specs.declared.ItemPlaces.{ItemPlaces}
 use Rattle.parts.specs.declared.Marks.{Marks}
@@ -47,6 +47,15 @@ item-is inner s at r h = rw (h .word .bytes, h .second, h .braces, h .inside, h 
 pub command-is : (s : List ℕ) (at : ℕ) (r : CommandPlaces) → OfCommand s at r → commandOf s at ≡ commandFrom s r
 unfolding commandOf commandFrom itemsFrom bracesOf
 command-is s at r h = rw (h .optional, h .wild, h .word .bytes, h .name .bytes, h .braces, h .inside)
+
+-- the braces end the part
+pub item-ends : (k : ℕ) (s : List ℕ) (at e : ℕ) (r : ItemPlaces) → OfItem s at r → e ≡ bracesEnd k s (r .value .end) → e ≡ itemEnd k s at
+unfolding itemEnd headEnd
+item-ends k s at e r h f = f ∙ rw (h .value .end)
+
+pub command-ends : (s : List ℕ) (at e : ℕ) (r : CommandPlaces) → OfCommand s at r → e ≡ bracesEnd 8 s (r .end) → e ≡ commandEnd s at
+unfolding commandEnd
+command-ends s at e r h f = f ∙ rw (h .end)
 
 -- ---- a value that was found
 

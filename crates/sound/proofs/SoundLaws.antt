@@ -14,7 +14,7 @@ use mir.Val.{Fits}
 use borrow.Author.Tests.{le-leb, lt-leb, eq-eqb, ne-eqb, eqb-true, eqb-false}
 use Rattle.base.specs.Pick.{pick}
 use Rattle.base.specs.Lists.{every, count}
-use Rattle.megaco.specs.Table.{contexts, words, contextWords, propertyWords, recordWords, ephemeralContexts, ephemeralProperties, isPropertyWord, absentAreZero, recordIsSound, recordsAreSound, sound}
+use Rattle.megaco.specs.Table.{lineTerminations, ephemerals, terminations, contexts, words, contextWords, propertyWords, recordWords, ephemeralContexts, ephemeralProperties, isPropertyWord, absentAreZero, recordIsSound, recordsAreSound, sound}
 use Rattle.table.proofs.TableLaws.{drop-take}
 use Rattle.sound.specs.Parts.{ephemeralIsSound, recordsMeet}
 
@@ -85,6 +85,10 @@ module _ (ms rs : List ℕ) (i : ℕ) (q : Bool) (inv : q ≡ recordsMeet ms (i 
 
 -- ---- counters
 
+-- how many counters there are: contexts 0 to 128
+abbrev counted : ℕ
+counted = contexts + 1
+
 -- one word more is counted where it belongs
 count-next : (c i : ℕ) (l : List ℕ) → i < length l → count c (take (suc i) l) ≡ count c (take i l) + pick (eqb (getD l i 0) c) 1 0
 unfolding count
@@ -105,15 +109,15 @@ count-at-most c (suc i) (x ∷ l) = omega (arith, one-at-most (eqb x c), count-a
 
 -- counter c holds how many of the first i words are c, and none of them is over 128
 pub record Counting (row counters : List ℕ) (i : ℕ) : Type 0 where
-  pub long : length counters ≡ 129
-  pub counts : (c : ℕ) → c < 129 → getD counters c 0 ≡ count c (take i row)
+  pub long : length counters ≡ counted
+  pub counts : (c : ℕ) → c < counted → getD counters c 0 ≡ count c (take i row)
   pub fits : every (λ w. leb w contexts) row ≡ every (λ w. leb w contexts) (drop i row)
 
-pub counting-start : (row : List ℕ) → Counting row (replicate 129 0) 0
+pub counting-start : (row : List ℕ) → Counting row (replicate counted 0) 0
 unfolding count
-counting-start row = record { long = length-replicate {A = ℕ} 129 0; counts = λ c h. getD-replicate {A = ℕ} 129 c 0 0 h; fits = refl }
+counting-start row = record { long = length-replicate {A = ℕ} counted 0; counts = λ c h. getD-replicate {A = ℕ} counted c 0 0 h; fits = refl }
 
-meet-counted : (cs ms : List ℕ) (c : ℕ) (rs : List ℕ) → ((k : ℕ) → k < 129 → getD ms k 0 ≡ count k cs) → c + length rs ≤ 129
+meet-counted : (cs ms : List ℕ) (c : ℕ) (rs : List ℕ) → ((k : ℕ) → k < counted → getD ms k 0 ≡ count k cs) → c + length rs ≤ counted
     → recordsMeet ms c rs ≡ recordsAreSound cs c rs
 unfolding recordsMeet recordsAreSound
 meet-counted cs ms c [] f h = refl
@@ -139,7 +143,7 @@ module _ (row counters : List ℕ) (i : ℕ) (k : Counting row counters i) where
       w : ℕ
       w = getD row i 0
 
-      next : (c : ℕ) → c < 129 → (t : Bool) → eqb w c ≡ t → getD (set counters w (getD counters w 0 + 1)) c 0 ≡ count c (take (i + 1) row)
+      next : (c : ℕ) → c < counted → (t : Bool) → eqb w c ≡ t → getD (set counters w (getD counters w 0 + 1)) c 0 ≡ count c (take (i + 1) row)
       next c l true e =
           let n : count c (take (suc i) row) ≡ count c (take i row) + 1 = count-next c i row h ∙ rw e in
           let s : w ≡ c = eqb-true w c e in
@@ -198,20 +202,24 @@ arrange true true true true true = refl
 arranged : (a b c e r l p z w : Bool) → a ≡ (e && r) → b ≡ l → c ≡ (p && z) → w ≡ (l && p) → (a && b && c) ≡ (true && e && w && z && r)
 arranged a b c e r l p z w f g h k = rw (f, g, h, k) (arrange e r l p z)
 
+-- where the properties of ephemerals stand
+abbrev ephemeralPlace : ℕ
+ephemeralPlace = terminations + lineTerminations
+
 module _ (t : List ℕ) where
-  ephemeral-contexts : ephemeralContexts t ≡ take 64 (drop 248 t)
+  ephemeral-contexts : ephemeralContexts t ≡ take ephemerals (drop lineTerminations t)
   unfolding ephemeralContexts contextWords
-  ephemeral-contexts = drop-take 248 64 t
+  ephemeral-contexts = drop-take lineTerminations ephemerals t
 
-  ephemeral-properties : ephemeralProperties t ≡ take 64 (drop 560 t)
+  ephemeral-properties : ephemeralProperties t ≡ take ephemerals (drop ephemeralPlace t)
   unfolding ephemeralProperties propertyWords
-  ephemeral-properties = drop-take 248 64 (drop 312 t) ∙ ap (take 64) (drop-drop 248 312 t)
+  ephemeral-properties = drop-take lineTerminations ephemerals (drop terminations t) ∙ ap (take ephemerals) (drop-drop lineTerminations terminations t)
 
-  properties : every isPropertyWord (propertyWords t) ≡ (every isPropertyWord (take 248 (drop 312 t)) && every isPropertyWord (take 64 (drop 560 t)))
+  properties : every isPropertyWord (propertyWords t) ≡ (every isPropertyWord (take lineTerminations (drop terminations t)) && every isPropertyWord (take ephemerals (drop ephemeralPlace t)))
   unfolding propertyWords
   properties =
-      every-part isPropertyWord 248 64 (drop 312 t)
-      ∙ ap (λ (l : List ℕ). every isPropertyWord (take 248 (drop 312 t)) && every isPropertyWord (take 64 l)) (drop-drop 248 312 t)
+      every-part isPropertyWord lineTerminations ephemerals (drop terminations t)
+      ∙ ap (λ (l : List ℕ). every isPropertyWord (take lineTerminations (drop terminations t)) && every isPropertyWord (take ephemerals l)) (drop-drop lineTerminations terminations t)
 
   pub unsound : (length t ≡ words → ⊥) → false ≡ sound t
   unfolding sound
@@ -219,8 +227,8 @@ module _ (t : List ℕ) where
 
   pub sound-by : (a b c : Bool) → length t ≡ words
       → a ≡ (every (λ w. leb w contexts) (contextWords t) && recordsAreSound (contextWords t) 1 (recordWords t))
-      → b ≡ every isPropertyWord (take 248 (drop 312 t))
-      → c ≡ (every isPropertyWord (take 64 (drop 560 t)) && absentAreZero (take 64 (drop 248 t)) (take 64 (drop 560 t)))
+      → b ≡ every isPropertyWord (take lineTerminations (drop terminations t))
+      → c ≡ (every isPropertyWord (take ephemerals (drop ephemeralPlace t)) && absentAreZero (take ephemerals (drop lineTerminations t)) (take ephemerals (drop ephemeralPlace t)))
       → (a && b && c) ≡ sound t
   unfolding sound
   sound-by a b c h f g k =
@@ -228,7 +236,7 @@ module _ (t : List ℕ) where
       (arranged a b c
       (every (λ w. leb w contexts) (contextWords t))
       (recordsAreSound (contextWords t) 1 (recordWords t))
-      (every isPropertyWord (take 248 (drop 312 t)))
-      (every isPropertyWord (take 64 (drop 560 t)))
-      (absentAreZero (take 64 (drop 248 t)) (take 64 (drop 560 t)))
+      (every isPropertyWord (take lineTerminations (drop terminations t)))
+      (every isPropertyWord (take ephemerals (drop ephemeralPlace t)))
+      (absentAreZero (take ephemerals (drop lineTerminations t)) (take ephemerals (drop ephemeralPlace t)))
       (every isPropertyWord (propertyWords t)) f g k properties)

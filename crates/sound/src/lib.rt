@@ -2,17 +2,21 @@
 use table::CONTEXTS;
 use table::EPHEMERAL_PROPERTIES;
 use table::LINE_TERMINATIONS;
+use table::MOST;
 use table::RECORDS;
 use table::TERMINATIONS;
 use table::WORDS;
 ghost use mathlib.Core.Path.{_≡_};
 ghost use mathlib.Core.Bool.{_&&_};
-ghost use Prim.Native.Nat.{ℕ, _+_, _≤_, _<_};
+ghost use Prim.Native.Nat.{_≤_, _<_};
 ghost use lib.ListN.{length};
 ghost use lib.Dec.{leb};
 ghost use Rattle.base.specs.Lists.{every};
 ghost use Rattle.megaco.specs.Table.{contexts, isPropertyWord, absentAreZero, recordIsSound, recordsAreSound, sound};
 ghost use Rattle.sound.specs.Parts.{ephemeralIsSound, recordsMeet};
+
+// Counters for contexts 0 to 128.
+const COUNTERS: usize = CONTEXTS as usize + 1;
 
 // A table of any length.
 pub fn is_sound(table: &[u32]) -> bool
@@ -36,7 +40,7 @@ fn contexts_are_sound(row: &[u32], records: &[u32]) -> bool
     requires { ⌜ (length (now row) ≤ 65536) × (length (now records) ≤ contexts) ⌝ }
     ensures { λ r. ⌜ r ≡ (every (λ w. leb w contexts) (now (row .entry)) && recordsAreSound (now (row .entry)) 1 (now (records .entry))) ⌝ }
 {
-    let mut counters = [0u32; 129];
+    let mut counters = [0u32; COUNTERS];
     let mut i: usize = 0;
     while i < row.len() {
         let w = row[i];
@@ -69,7 +73,7 @@ fn records_meet(counters: &[u32], records: &[u32]) -> bool
 fn record_is_sound(held: u32, members: u32) -> bool
     ensures { λ r. ⌜ r ≡ recordIsSound held members ⌝ }
 {
-    (held <= 32) & ((members == 0) == (held == 0)) & (members <= 8)
+    (held <= 32) & ((members == 0) == (held == 0)) & (members as usize <= MOST)
 }
 
 // ---- properties

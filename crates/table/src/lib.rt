@@ -1,32 +1,35 @@
 // The lent table of 752 words, read and written by the number of a termination and by the number of a context.
 ghost use mathlib.Core.Path.{_≡_};
-ghost use Prim.Native.Nat.{ℕ, _≤_};
 ghost use lib.ListN.{length, getD, set};
 ghost use Rattle.base.specs.Lists.{count, lowestAbsent};
-ghost use Rattle.megaco.specs.Table.{words, prop, rec, ctx, cell, address, get, write, store, isEphemeral, exists, known, members, freeContext, freeEphemeral};
+ghost use Rattle.megaco.specs.Table.{words, prop, rec, ctx, cell, address, get, write, store, isEphemeral, exists, members, freeContext, freeEphemeral};
 
-// The lines fitted, the channels of each, and the ephemerals.
+// The lines fitted; all other sizes follow from it.
 pub const LINES: u32 = 8;
 
+// Speech channels of a line.
 pub const CHANNELS: usize = 31;
 
 pub const EPHEMERALS: u32 = 64;
 
+pub const CONTEXTS: u32 = 128;
+
+// The most terminations that a context holds.
+pub const MOST: usize = 8;
+
 // Terminations of lines have the numbers before this one, ephemerals those from it on.
-pub const LINE_TERMINATIONS: usize = 248;
+pub const LINE_TERMINATIONS: usize = CHANNELS * LINES as usize;
 
 // All terminations; their properties start at this word.
-pub const TERMINATIONS: usize = 312;
+pub const TERMINATIONS: usize = LINE_TERMINATIONS + EPHEMERALS as usize;
 
 // The properties of ephemerals start at this word.
-pub const EPHEMERAL_PROPERTIES: usize = 560;
+pub const EPHEMERAL_PROPERTIES: usize = TERMINATIONS + LINE_TERMINATIONS;
 
 // The records of the contexts start at this word.
-pub const RECORDS: usize = 624;
+pub const RECORDS: usize = TERMINATIONS + TERMINATIONS;
 
-pub const WORDS: usize = 752;
-
-pub const CONTEXTS: u32 = 128;
+pub const WORDS: usize = RECORDS + CONTEXTS as usize;
 
 // ---- one word
 

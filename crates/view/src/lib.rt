@@ -5,13 +5,9 @@ use megaco::Range;
 use megaco::Seen;
 use megaco::View;
 ghost use mathlib.Core.Path.{_≡_};
-ghost use mathlib.Core.Bool.{_&&_};
-ghost use Prim.Native.Nat.{ℕ, _+_, _<_};
-ghost use lib.ListN.{length, set};
-ghost use Rattle.base.specs.Pick.{pick};
-ghost use Rattle.base.specs.Bytes.{put};
-ghost use Rattle.megaco.specs.Table.{words, exists};
-ghost use Rattle.megaco.specs.Names.{inRange};
+ghost use Prim.Native.Nat.{_<_};
+ghost use lib.ListN.{length};
+ghost use Rattle.megaco.specs.Table.{words};
 ghost use Rattle.megaco.specs.Running.{seen, numberOf, freeAt, look, wanted, matchesFrom, matches};
 ghost use Rattle.view.specs.Noted.{isMatch, Noted, Matched};
 

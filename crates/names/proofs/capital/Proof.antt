@@ -1,6 +1,4 @@
 use borrow.Author.Needs.{needs}
-use Rattle.base.specs.Pick.{picks}
-use Rattle.megaco.specs.Bytes.{capital}
 use Rattle.names.proofs.NameLaws.{capital-yes, capital-low, capital-high}
 use Rattle.names.proofs.capital.Statement.{statement}
 use Rattle.names.proofs.capital.Tie as tie

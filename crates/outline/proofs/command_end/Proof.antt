@@ -1,4 +1,4 @@
-use Rattle.outline.proofs.OutlineLaws.{command-ends}
+use Rattle.parts.proofs.PlaceLaws.{command-ends}
 use borrow.Author.Needs.{needs}
 use Rattle.outline.proofs.command_end.Statement.{statement}
 use Rattle.outline.proofs.command_end.Tie as tie

@@ -1,4 +1,3 @@
-use Rattle.megaco.specs.Table.{recordIsSound}
 use Rattle.sound.proofs.SoundLaws.{record-by}
 use Rattle.sound.proofs.record_is_sound.Statement.{statement}
 use Rattle.sound.proofs.record_is_sound.Tie as tie
