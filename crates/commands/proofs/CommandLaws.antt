@@ -15,8 +15,7 @@ use Rattle.megaco.specs.declared.Context.{Context}
 use Rattle.megaco.specs.declared.Op.{Op}
 use Rattle.megaco.specs.declared.Judged.{Judged}
 use Rattle.syntax.specs.Extraction.{commandOf}
-use Rattle.syntax.specs.Pieces.{Within}
-use Rattle.parts.specs.Places.{itemsFrom, commandFrom, OfCommand}
+use Rattle.parts.specs.Found.{itemsFrom, commandFrom, OfCommand}
 use Rattle.parts.proofs.PlaceLaws.{command-is}
 use Rattle.parts.specs.declared.CommandPlaces.{CommandPlaces}
 use Rattle.tries.specs.Contract.{Did}

@@ -4,7 +4,7 @@ ghost use mathlib.Core.Option.{some};
 ghost use lib.ListN.{length};
 ghost use Rattle.megaco.specs.Table.{words};
 ghost use Rattle.megaco.specs.Running.{opOf, tested, ordered, runCommand};
-ghost use Rattle.parts.specs.Places.{itemsFrom};
+ghost use Rattle.parts.specs.Found.{itemsFrom};
 ghost use Rattle.syntax.specs.Extraction.{commandOf};
 ghost use Rattle.tries.specs.Contract.{Did};
 ghost use Rattle.commands.specs.Fails.{optionally, Failed};
@@ -13,6 +13,20 @@ use megaco::Op;
 use orders::Found;
 use parts::CommandPlaces;
 use tries::Went;
+
+// Tests 2 to 6.
+fn run_tested(s: &[u8], places: CommandPlaces, op: Op, name: &[u8], given: u32, at: Context, first: bool, table: &mut [u32], out: &mut [u8], p: usize) -> Went
+    requires { ⌜ length (now table) ≡ words ⌝ }
+    ensures { λ r. ⌜ Did (tested op (now (name .entry)) (itemsFrom (now (s .entry)) places) given at (now (table .entry))) first (now (out .entry)) p (now (table .exit)) (now (out .exit)) r ⌝ }
+{
+    let held = orders::held_at(table, at);
+    if orders::is_lost(op, at, held) {
+        let n = tries::put_received(out, p, first, op, name, 411);
+        return Went { next: n, at: at, going: false };
+    }
+    let judged = items::judge_items(s, places, aims::is_subtract(op));
+    orders::run_judged(op, name, places.braces, given, judged, at, first, table, out, p)
+}
 
 // The transaction goes on after an optional command that failed.
 fn past_optional(optional: bool, w: Went) -> Went
@@ -23,7 +37,7 @@ fn past_optional(optional: bool, w: Went) -> Went
 }
 
 // An action error.
-fn fail(code: u32, at: Context, first: bool, out: &mut [u8], p: usize) -> Went
+pub fn fail(code: u32, at: Context, first: bool, out: &mut [u8], p: usize) -> Went
     ensures { λ r. ⌜ Failed code at first (now (out .entry)) p (now (out .exit)) r ⌝ }
 {
     let q = report::put_separator(out, p, first);
@@ -31,3 +45,41 @@ fn fail(code: u32, at: Context, first: bool, out: &mut [u8], p: usize) -> Went
     Went { next: n, at: at, going: false }
 }
 
+// A command that is built: test 1's 421, then the others.
+fn run_built(s: &[u8], places: CommandPlaces, op: Op, name: &[u8], given: u32, at: Context, first: bool, table: &mut [u32], out: &mut [u8], p: usize) -> Went
+    requires { ⌜ length (now table) ≡ words ⌝ }
+    ensures { λ r. ⌜ Did (ordered (places .optional) (some op) (now (name .entry)) (itemsFrom (now (s .entry)) places) given at (now (table .entry))) first (now (out .entry)) p (now (table .exit)) (now (out .exit)) r ⌝ }
+{
+    if orders::is_barred(op, at) {
+        return fail(421, at, first, out, p);
+    }
+    let w = run_tested(s, places, op, name, given, at, first, table, out, p);
+    past_optional(places.optional, w)
+}
+
+// A command whose parts are found.
+fn run_found(s: &[u8], places: CommandPlaces, word: &[u8], name: &[u8], given: u32, at: Context, first: bool, table: &mut [u32], out: &mut [u8], p: usize) -> Went
+    requires { ⌜ length (now table) ≡ words ⌝ }
+    ensures { λ r. ⌜ Did (ordered (places .optional) (opOf (places .wild) (now (word .entry))) (now (name .entry)) (itemsFrom (now (s .entry)) places) given at (now (table .entry))) first (now (out .entry)) p (now (table .exit)) (now (out .exit)) r ⌝ }
+{
+    let f = orders::op_of(places.wild, word);
+    match f {
+        Found::Built(op) => run_built(s, places, op, name, given, at, first, table, out, p),
+        Found::Unbuilt => fail(443, at, first, out, p),
+    }
+}
+
+// The command that stands at a place of the message.
+pub fn run_command(s: &[u8], i: usize, given: u32, at: Context, first: bool, table: &mut [u32], out: &mut [u8], p: usize) -> Went
+    requires { ⌜ length (now table) ≡ words ⌝ }
+    ensures { λ r. ⌜ Did (runCommand (commandOf (now (s .entry)) i) given at (now (table .entry))) first (now (out .entry)) p (now (table .exit)) (now (out .exit)) r ⌝ }
+{
+    let places = parts::command_places(s, i);
+    let word = places.word;
+    let name = places.name;
+    let a = word.from;
+    let b = word.to;
+    let c = name.from;
+    let d = name.to;
+    run_found(s, places, &s[a..b], &s[c..d], given, at, first, table, out, p)
+}

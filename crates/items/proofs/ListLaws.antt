@@ -20,7 +20,7 @@ use Rattle.megaco.specs.declared.Kind.{Kind}
 use Rattle.megaco.specs.declared.Values.{Values}
 use Rattle.syntax.specs.Extraction.{pastSign, listOf, headEnd, itemOf, itemEnd, itemsOf}
 use Rattle.parts.specs.declared.ItemPlaces.{ItemPlaces}
-use Rattle.parts.specs.Places.{OfItem}
+use Rattle.parts.specs.Found.{OfItem}
 use Rattle.items.specs.declared.Descriptors.{Descriptors}
 use Rattle.items.specs.Judging.{nextOf, kindOf, stoodAfter}
 use Rattle.items.proofs.OneLaws.{by-kind, mediaAll, stoodNext}

@@ -25,7 +25,7 @@ use Rattle.syntax.specs.Extraction.{pastSign, bracesEnd, itemOf, itemsOf}
 use Rattle.parts.specs.declared.ValuePlaces.{ValuePlaces}
 use Rattle.parts.specs.declared.ItemPlaces.{ItemPlaces}
 use Rattle.parts.specs.declared.CommandPlaces.{CommandPlaces}
-use Rattle.parts.specs.Places.{inQuotes, bytesOf, valueFrom, OfItem, itemFrom, itemsFrom}
+use Rattle.parts.specs.Found.{inQuotes, bytesOf, valueFrom, OfItem, itemFrom, itemsFrom}
 use Rattle.parts.proofs.PlaceLaws.{item-is}
 use Rattle.items.specs.declared.Descriptors.{Descriptors}
 use Rattle.items.specs.Judging.{calledBy, valueBy, nextOf, propertyBy, calledIn, kindOf, stoodAfter, mediaBy, topBy}

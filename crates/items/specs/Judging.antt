@@ -23,7 +23,7 @@ use Rattle.megaco.specs.declared.Kind.the-variants.{InControl, InState}
 use Rattle.megaco.specs.declared.Values.{Values}
 use Rattle.syntax.specs.Extraction.{pastSign, bracesEnd, itemsOf}
 use Rattle.parts.specs.declared.ItemPlaces.{ItemPlaces}
-use Rattle.parts.specs.Places.{bytesOf}
+use Rattle.parts.specs.Found.{bytesOf}
 use Rattle.items.specs.declared.Descriptors.{Descriptors}
 
 -- an item's word and its plain value lie within the message

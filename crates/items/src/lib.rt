@@ -5,7 +5,7 @@ ghost use mathlib.Core.Option.{some};
 ghost use Rattle.megaco.specs.Tree.{plain};
 ghost use Rattle.megaco.specs.Items.{modeGiven, stateGiven, propertyToken, valueGiven, setValue, propertyItems, mediaItems, topItems, judgeItems};
 ghost use Rattle.syntax.specs.Extraction.{itemsOf};
-ghost use Rattle.parts.specs.Places.{itemsFrom};
+ghost use Rattle.parts.specs.Found.{itemsFrom};
 ghost use Rattle.items.specs.Judging.{Lies, calledBy, calledIn, kindOf, stoodAfter, valueBy, nextOf, propertyBy, mediaBy, topBy};
 use megaco::Given;
 use megaco::Judged;
