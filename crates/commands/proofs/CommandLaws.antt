@@ -1,9 +1,10 @@
 -- A command's tests in order.
-use Prim.Native.Nat.{ℕ}
+use Prim.Native.Nat.{ℕ, _-_}
 use mathlib.Core.Path.{_≡_, refl, sym, ap, _∙_, subst}
 use mathlib.Core.List.{List, [], _∷_}
 use mathlib.Core.Option.{Option, none, some}
 use mathlib.Core.Bool.{Bool, true, false, _||_}
+use lib.ListN.{take, drop}
 use Rattle.base.specs.Pick.{pick}
 use Rattle.base.specs.Lists.{part}
 use Rattle.base.specs.Out.{Appended}
@@ -14,6 +15,8 @@ use Rattle.megaco.specs.Running.{Outcome, outcome, seen, numberOf, opOf, lost, 
 use Rattle.megaco.specs.declared.Context.{Context}
 use Rattle.megaco.specs.declared.Op.{Op}
 use Rattle.megaco.specs.declared.Judged.{Judged}
+use Rattle.megaco.specs.declared.Judged.the-variants.{Wrong, Right}
+use Rattle.items.proofs.FairLaws.{judged-fair}
 use Rattle.syntax.specs.Extraction.{commandOf}
 use Rattle.parts.specs.Found.{itemsFrom, commandFrom, OfCommand}
 use Rattle.parts.proofs.PlaceLaws.{command-is}
@@ -70,9 +73,15 @@ pub found-unbuilt : (s : List ℕ) (r : CommandPlaces) (name : List ℕ) (given 
 unfolding foundOf ordered actionError
 found-unbuilt s r name given at first t o p o′ f x w e g a = rw (sym e ∙ ap foundOf g) (record { table = refl; text = a .text; place = a .place; going = a .going })
 
-pub command-runs : (s : List ℕ) (i : ℕ) (r : CommandPlaces) (word name : List ℕ) (given : ℕ) (at : Context) (first : Bool) (t o : List ℕ) (p : ℕ) (t′ o′ : List ℕ) (w : Went)
-    → OfCommand s i r → word ≡ part s (r .word .from) (r .word .to) → name ≡ part s (r .name .from) (r .name .to)
-    → Did (ordered (r .optional) (opOf (r .wild) word) name (itemsFrom s r) given at t) first o p t′ o′ w
+pub command-runs : (s : List ℕ) (i : ℕ) (r : CommandPlaces) (given : ℕ) (at : Context) (first : Bool) (t o : List ℕ) (p : ℕ) (t′ o′ : List ℕ) (w : Went) → OfCommand s i r
+    → Did
+    (ordered (r .optional) (opOf (r .wild) (take (r .word .to - r .word .from) (drop (r .word .from) s))) (take (r .name .to - r .name .from) (drop (r .name .from) s)) (itemsFrom s r) given at t)
+    first o p t′ o′ w
     → Did (runCommand (commandOf s i) given at t) first o p t′ o′ w
-unfolding runCommand commandFrom
-command-runs s i r word name given at first t o p t′ o′ w f e g d = rw (command-is s i r f, ← e, ← g) d
+unfolding runCommand commandFrom part
+command-runs s i r given at first t o p t′ o′ w f d = rw (command-is s i r f) d
+
+-- what items give is a mode and a state
+pub items-judged : (b : Bool) (is : Items) (j : Judged) → j ≡ judgeItems b is → FairJudged j
+items-judged b is (Wrong code) e = tt
+items-judged b is (Right vs) e = judged-fair b is vs (sym e)

@@ -15,17 +15,43 @@ use parts::CommandPlaces;
 use tries::Went;
 
 // Tests 2 to 6.
-fn run_tested(s: &[u8], places: CommandPlaces, op: Op, name: &[u8], given: u32, at: Context, first: bool, table: &mut [u32], out: &mut [u8], p: usize) -> Went
+fn run_tested(
+    s: &[u8],
+    places: CommandPlaces,
+    op: Op,
+    name: &[u8],
+    given: u32,
+    at: Context,
+    first: bool,
+    table: &mut [u32],
+    out: &mut [u8],
+    p: usize,
+) -> Went
     requires { ⌜ length (now table) ≡ words ⌝ }
     ensures { λ r. ⌜ Did (tested op (now (name .entry)) (itemsFrom (now (s .entry)) places) given at (now (table .entry))) first (now (out .entry)) p (now (table .exit)) (now (out .exit)) r ⌝ }
 {
     let held = orders::held_at(table, at);
     if orders::is_lost(op, at, held) {
         let n = tries::put_received(out, p, first, op, name, 411);
-        return Went { next: n, at: at, going: false };
+        return Went {
+            next: n,
+            at: at,
+            going: false,
+        };
     }
     let judged = items::judge_items(s, places, aims::is_subtract(op));
-    orders::run_judged(op, name, places.braces, given, judged, at, first, table, out, p)
+    orders::run_judged(
+        op,
+        name,
+        places.braces,
+        given,
+        judged,
+        at,
+        first,
+        table,
+        out,
+        p,
+    )
 }
 
 // The transaction goes on after an optional command that failed.
@@ -33,7 +59,11 @@ fn past_optional(optional: bool, w: Went) -> Went
     ensures { λ r. ⌜ r ≡ optionally optional w ⌝ }
 {
     let c = w.at;
-    Went { next: w.next, at: c, going: w.going | optional }
+    Went {
+        next: w.next,
+        at: c,
+        going: w.going | optional,
+    }
 }
 
 // An action error.
@@ -42,11 +72,26 @@ pub fn fail(code: u32, at: Context, first: bool, out: &mut [u8], p: usize) -> We
 {
     let q = report::put_separator(out, p, first);
     let n = report::put_failed(out, q, code);
-    Went { next: n, at: at, going: false }
+    Went {
+        next: n,
+        at: at,
+        going: false,
+    }
 }
 
 // A command that is built: test 1's 421, then the others.
-fn run_built(s: &[u8], places: CommandPlaces, op: Op, name: &[u8], given: u32, at: Context, first: bool, table: &mut [u32], out: &mut [u8], p: usize) -> Went
+fn run_built(
+    s: &[u8],
+    places: CommandPlaces,
+    op: Op,
+    name: &[u8],
+    given: u32,
+    at: Context,
+    first: bool,
+    table: &mut [u32],
+    out: &mut [u8],
+    p: usize,
+) -> Went
     requires { ⌜ length (now table) ≡ words ⌝ }
     ensures { λ r. ⌜ Did (ordered (places .optional) (some op) (now (name .entry)) (itemsFrom (now (s .entry)) places) given at (now (table .entry))) first (now (out .entry)) p (now (table .exit)) (now (out .exit)) r ⌝ }
 {
@@ -58,7 +103,18 @@ fn run_built(s: &[u8], places: CommandPlaces, op: Op, name: &[u8], given: u32, a
 }
 
 // A command whose parts are found.
-fn run_found(s: &[u8], places: CommandPlaces, word: &[u8], name: &[u8], given: u32, at: Context, first: bool, table: &mut [u32], out: &mut [u8], p: usize) -> Went
+fn run_found(
+    s: &[u8],
+    places: CommandPlaces,
+    word: &[u8],
+    name: &[u8],
+    given: u32,
+    at: Context,
+    first: bool,
+    table: &mut [u32],
+    out: &mut [u8],
+    p: usize,
+) -> Went
     requires { ⌜ length (now table) ≡ words ⌝ }
     ensures { λ r. ⌜ Did (ordered (places .optional) (opOf (places .wild) (now (word .entry))) (now (name .entry)) (itemsFrom (now (s .entry)) places) given at (now (table .entry))) first (now (out .entry)) p (now (table .exit)) (now (out .exit)) r ⌝ }
 {
@@ -70,7 +126,16 @@ fn run_found(s: &[u8], places: CommandPlaces, word: &[u8], name: &[u8], given: u
 }
 
 // The command that stands at a place of the message.
-pub fn run_command(s: &[u8], i: usize, given: u32, at: Context, first: bool, table: &mut [u32], out: &mut [u8], p: usize) -> Went
+pub fn run_command(
+    s: &[u8],
+    i: usize,
+    given: u32,
+    at: Context,
+    first: bool,
+    table: &mut [u32],
+    out: &mut [u8],
+    p: usize,
+) -> Went
     requires { ⌜ length (now table) ≡ words ⌝ }
     ensures { λ r. ⌜ Did (runCommand (commandOf (now (s .entry)) i) given at (now (table .entry))) first (now (out .entry)) p (now (table .exit)) (now (out .exit)) r ⌝ }
 {
@@ -81,5 +146,16 @@ pub fn run_command(s: &[u8], i: usize, given: u32, at: Context, first: bool, tab
     let b = word.to;
     let c = name.from;
     let d = name.to;
-    run_found(s, places, &s[a..b], &s[c..d], given, at, first, table, out, p)
+    run_found(
+        s,
+        places,
+        &s[a..b],
+        &s[c..d],
+        given,
+        at,
+        first,
+        table,
+        out,
+        p,
+    )
 }

@@ -1,0 +1,21 @@
+use borrow.Author.Needs.{needs}
+use Rattle.commands.proofs.CommandLaws.{tested-lost, tested-on, items-judged}
+use Rattle.commands.proofs.run_tested.Statement.{statement}
+use Rattle.commands.proofs.run_tested.Tie as tie
+
+pub run-tested-spec : {M : Type 1} → statement M
+run-tested-spec =
+    tie.close
+    (tie.spec
+    (λ c κs. search needs)
+    (λ c κs. search needs)
+    (λ c κs. search needs)
+    (λ c. search needs)
+    (λ c. search needs)
+    (λ c. search tested-lost)
+    (λ c κs. search needs)
+    (λ c κs. search needs)
+    (λ c κs. (search needs, search items-judged))
+    (λ c. search needs)
+    (λ c. search needs)
+    (λ c. search tested-on))
