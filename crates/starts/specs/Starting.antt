@@ -29,10 +29,10 @@ setOne Emergency r = 1 + priorityOf r + 16
 unfoldable pub propertiesIn : List ℕ → ℕ → List Property
 propertiesIn s at = propertiesOf (unlimited s) s at
 
-pub record OfProperties (s : List ℕ) (at held : ℕ) (r : Given) : Type 0 where
+pub record OfProperties (s : List ℕ) (at was : ℕ) (r : Given) : Type 0 where
   pub over : r .over ≡ over15 (propertiesIn s at)
   pub fresh : r .over ≡ false → r .fresh ≡ setProperties (propertiesIn s at) newRecord
-  pub held : r .over ≡ false → r .held ≡ setProperties (propertiesIn s at) held
+  pub held : r .over ≡ false → r .held ≡ setProperties (propertiesIn s at) was
 
 -- the code of the first test that fails at the start, 0 if there is none
 unfoldable pub startCode : Context → Bool → Bool → Bool → ℕ → ℕ

@@ -1,0 +1,184 @@
+-- An action's start: the properties one by one, the code of its tests, and what it writes.
+use Prim.Native.Nat.{ℕ, zero, suc, _+_, _*_, _-_, _/_, _%_, _<_, _≤_}
+use mathlib.Core.Path.{_≡_, refl, sym, ap, _∙_}
+use mathlib.Core.Bool.{Bool, true, false, _&&_, _||_, true≢false}
+use mathlib.Core.List.{List, [], _∷_}
+use native.Mathlib.Omega.{arith}
+use lib.ListN.{length}
+use borrow.Author.Tests.{ltb-false}
+use lib.Dec.{ltb, eqb}
+use Rattle.base.specs.Pick.{pick}
+use Rattle.base.specs.Lists.{isAt}
+use Rattle.megaco.specs.Bytes.{comma}
+use Rattle.megaco.specs.Table.{Write, write, cell, rec, store, apply, priorityOf, emergencyOf}
+use Rattle.megaco.specs.Reading.{unlimited, isProperty, wordHere}
+use Rattle.megaco.specs.Running.{Check, check, Result, refused, done, judge, newRecord, anyGiven, over15, setProperties, startChecks, startWrites}
+use Rattle.megaco.specs.declared.Context.{Context}
+use Rattle.megaco.specs.declared.Context.the-variants.{Null, Numbered, Choose, All}
+use Rattle.megaco.specs.declared.Property.{Property}
+use Rattle.megaco.specs.declared.Property.the-variants.{Priority, Emergency}
+use Rattle.syntax.specs.Extraction.{pastSign, propertyOf, propertyEnd, propertiesOf}
+use Rattle.outline.specs.declared.PropertyPlaces.{PropertyPlaces}
+use Rattle.outline.specs.Outline.{propertyPlaces}
+use Rattle.attempt.specs.Judging.{codeOf, coded, byCode}
+use Rattle.attempt.proofs.JudgeLaws.{judge-code}
+use Rattle.starts.specs.declared.Given.{Given}
+use Rattle.starts.specs.Starting.{overOne, setOne, propertiesIn, OfProperties, startCode, wroteStart}
+
+-- ---- one property
+
+module _ (x : Property) where
+  pub over-priority : (n : ℕ) → x ≡ Priority n → ltb 15 n ≡ overOne x
+  unfolding overOne
+  over-priority n e = rw e
+
+  pub over-emergency : x ≡ Emergency → false ≡ overOne x
+  unfolding overOne
+  over-emergency e = rw e
+
+  pub priority-small : (n : ℕ) → overOne x ≡ false → x ≡ Priority n → n ≤ 15
+  unfolding overOne
+  priority-small n f e = ltb-false 15 n (rw e at f)
+
+  module _ (r k : ℕ) where
+    pub set-priority : (n : ℕ) → x ≡ Priority n → k ≡ emergencyOf r → 1 + n + 16 * k ≡ setOne x r
+    unfolding setOne
+    set-priority n e p = rw (e, p)
+
+    pub priority-fits : (n : ℕ) → overOne x ≡ false → r ≤ 32 → x ≡ Priority n → k ≡ emergencyOf r → 1 + n + 16 * k ≤ 32
+    priority-fits n f h e p = let z : n ≤ 15 = priority-small n f e in omega arith
+
+    pub set-emergency : x ≡ Emergency → k ≡ priorityOf r → 1 + k + 16 ≡ setOne x r
+    unfolding setOne
+    set-emergency e p = rw (e, p)
+
+-- ---- the properties in turn
+
+pub over-cons : (x : Property) (ps : List Property) → over15 (x ∷ ps) ≡ (overOne x || over15 ps)
+unfolding over15 overOne
+over-cons (Priority n) ps = refl
+over-cons Emergency ps = refl
+
+pub set-cons : (x : Property) (ps : List Property) (r : ℕ) → setProperties (x ∷ ps) r ≡ setProperties ps (setOne x r)
+unfolding setProperties setOne
+set-cons (Priority n) ps r = refl
+set-cons Emergency ps r = refl
+
+-- the properties ps, of which those in rs are still to be set: in a new context's record, now a, and in the one held, now b
+pub record Leads (ps rs : List Property) (was a b : ℕ) : Type 0 where
+  pub over : over15 ps ≡ over15 rs
+  pub fresh : setProperties ps newRecord ≡ setProperties rs a
+  pub held : setProperties ps was ≡ setProperties rs b
+
+module _ (ps : List Property) (was a b : ℕ) where
+  leads-as : (rs qs : List Property) → Leads ps rs was a b → rs ≡ qs → Leads ps qs was a b
+  leads-as rs qs h e = rw e at h
+
+  leads-on : (x : Property) (rs : List Property) → overOne x ≡ false → Leads ps (x ∷ rs) was a b → Leads ps rs was (setOne x a) (setOne x b)
+  leads-on x rs f h =
+      record { over = h .over ∙ over-cons x rs ∙ rw f; fresh = h .fresh ∙ set-cons x rs a; held = h .held ∙ set-cons x rs b }
+
+abbrev given : Bool → ℕ → ℕ → Given
+given over fresh held = record { over = over; fresh = fresh; held = held }
+
+pub not-over : (o : Bool) (x : Property) → o ≡ overOne x → o ≡ false → overOne x ≡ false
+not-over o x e f = sym e ∙ f
+
+pub read-start : (s : List ℕ) (at held : ℕ) → Leads (propertiesIn s at) (propertiesOf (length s + 1 - 0) s at) held newRecord held
+unfolding propertiesIn unlimited
+read-start s at held = let z : length s + 1 - 0 ≡ length s + 1 = omega arith in rw z (record { over = refl; fresh = refl; held = refl })
+
+module _ (s : List ℕ) (at held n i a b : ℕ) (inv : Leads (propertiesIn s at) (propertiesOf (length s + 1 - n) s i) held a b) where
+  now : (rs : List Property) → propertiesOf (length s + 1 - n) s i ≡ rs → Leads (propertiesIn s at) rs held a b
+  now rs e = leads-as (propertiesIn s at) held a b (propertiesOf (length s + 1 - n) s i) rs inv e
+
+  all-set : (a′ b′ : ℕ) → Leads (propertiesIn s at) [] held a′ b′ → OfProperties s at held (given false a′ b′)
+  unfolding over15 setProperties
+  all-set a′ b′ h = record { over = sym (h .over); fresh = λ _. sym (h .fresh); held = λ _. sym (h .held) }
+
+  pub read-none : length s < n → OfProperties s at held (given false a b)
+  unfolding propertiesOf
+  read-none h =
+      let z : length s + 1 - n ≡ 0 = omega arith in
+      all-set a b (now [] (rw z))
+
+  module _ (h : n ≤ length s) (z : Bool) (d : z ≡ isProperty (wordHere s i)) where
+    turn : propertiesOf (length s + 1 - n) s i
+        ≡ pick z (propertyOf s i ∷ pick (isAt s (propertyEnd s i) comma) (propertiesOf (length s + 1 - (n + 1)) s (pastSign comma s (propertyEnd s i))) []) []
+    unfolding propertiesOf
+    turn = let k : length s + 1 - n ≡ suc (length s + 1 - (n + 1)) = omega arith in rw (k, d)
+
+    pub read-end : z ≡ false → OfProperties s at held (given false a b)
+    unfolding pick
+    read-end f = all-set a b (now [] (turn ∙ rw f))
+
+    module _ (t : z ≡ true) (p : PropertyPlaces) (e : p ≡ propertyPlaces s i) where
+      behind : List Property
+      behind = pick (isAt s (p .end) comma) (propertiesOf (length s + 1 - (n + 1)) s (pastSign comma s (p .end))) []
+
+      one : Leads (propertiesIn s at) (p .property ∷ behind) held a b
+      unfolding pick propertyPlaces behind
+      one =
+          let x : p .property ≡ propertyOf s i = ap (λ (y : PropertyPlaces). y .property) e in
+          let q : p .end ≡ propertyEnd s i = ap (λ (y : PropertyPlaces). y .end) e in
+          now (p .property ∷ behind) (turn ∙ rw (t, x, q))
+
+      module _ (o : Bool) (w : o ≡ overOne (p .property)) where
+        pub read-over : o ≡ true → OfProperties s at held (given true a b)
+        read-over f =
+            let x : overOne (p .property) ≡ true = sym w ∙ f in
+            record { over = sym (one .over ∙ over-cons (p .property) behind ∙ rw x); fresh = λ y. absurd (true≢false y); held = λ y. absurd (true≢false y) }
+
+        module _ (f : o ≡ false) (a′ b′ : ℕ) (ea : a′ ≡ setOne (p .property) a) (eb : b′ ≡ setOne (p .property) b) (x : Bool) (g : x ≡ isAt s (p .end) comma) where
+          next : (rs : List Property) → behind ≡ rs → Leads (propertiesIn s at) rs held a′ b′
+          next rs k = rw (ea, eb, ← k) (leads-on (propertiesIn s at) held a b (p .property) behind (sym w ∙ f) one)
+
+          pub read-last : x ≡ false → OfProperties s at held (given false a′ b′)
+          unfolding pick behind
+          read-last k = all-set a′ b′ (next [] (rw (← g, k)))
+
+          pub read-more : (u : ℕ) → x ≡ true → u ≡ pastSign comma s (p .end) → Leads (propertiesIn s at) (propertiesOf (length s + 1 - (n + 1)) s u) held a′ b′
+          unfolding pick behind
+          read-more u k l = next (propertiesOf (length s + 1 - (n + 1)) s u) (rw (← g, k, l))
+
+-- ---- the code of the tests
+
+module _ (c : Context) (any over alone : Bool) (held r : ℕ) where
+  pub code-null : c ≡ Null → r ≡ pick any 421 0 → r ≡ startCode c any over alone held
+  unfolding startCode
+  code-null e p = rw e p
+
+  pub code-numbered : (n : ℕ) → c ≡ Numbered n → r ≡ pick over 449 (pick (any && eqb held 0) 411 0) → r ≡ startCode c any over alone held
+  unfolding startCode
+  code-numbered n e p = rw e p
+
+  pub code-choose : c ≡ Choose → r ≡ pick (any && alone) 421 (pick over 449 0) → r ≡ startCode c any over alone held
+  unfolding startCode
+  code-choose e p = rw e p
+
+  pub code-all : c ≡ All → r ≡ 421 → r ≡ startCode c any over alone held
+  unfolding startCode
+  code-all e p = rw e p
+
+-- ---- what it writes
+
+module _ (c : Context) (any : Bool) (held : ℕ) (t : List ℕ) where
+  pub wrote-null : c ≡ Null → t ≡ apply (wroteStart c any held) t
+  unfolding wroteStart apply
+  wrote-null e = rw e
+
+  pub wrote-choose : c ≡ Choose → t ≡ apply (wroteStart c any held) t
+  unfolding wroteStart apply
+  wrote-choose e = rw e
+
+  pub wrote-all : c ≡ All → t ≡ apply (wroteStart c any held) t
+  unfolding wroteStart apply
+  wrote-all e = rw e
+
+  pub wrote-record : (n : ℕ) (u : List ℕ) → c ≡ Numbered n → any ≡ true → u ≡ store (write (cell (rec n)) held) t → u ≡ apply (wroteStart c any held) t
+  unfolding wroteStart apply pick
+  wrote-record n u e f p = rw (e, f) p
+
+  pub wrote-none : (n : ℕ) → c ≡ Numbered n → any ≡ false → t ≡ apply (wroteStart c any held) t
+  unfolding wroteStart apply pick
+  wrote-none n e f = rw (e, f)
