@@ -2,3 +2,4 @@ pub mod FoldLaws
 pub mod Lists
 pub mod RunLaws
 pub mod ActsLaws
+pub mod StartedLaws

@@ -1,7 +1,150 @@
-// Running actions, transactions and messages.
+// Running the actions of a transaction, and the transactions of a message that reads.
+ghost use mathlib.Core.Path.{_≡_};
+ghost use mathlib.Core.Bool.{true, false};
+ghost use Prim.Native.Nat.{_≤_, min};
+ghost use lib.ListN.{length, take};
+ghost use Rattle.megaco.specs.Table.{words, sound};
+ghost use mathlib.Core.List.{[], _∷_};
+ghost use Rattle.base.specs.Out.{Appended};
+ghost use Rattle.megaco.specs.Reply.{standing, reportsText};
+ghost use Rattle.megaco.specs.Tree.{action};
+ghost use Rattle.syntax.specs.Extraction.{commandsOf, commandsIn, actionOf, actionsOf};
+ghost use Rattle.orders.specs.Orders.{heldAt};
+ghost use Rattle.starts.specs.Starting.{propertiesIn};
+ghost use Rattle.tries.specs.Contract.{Did};
+ghost use Rattle.running.specs.Fold.{runCommands, runAction, runActions};
+ghost use Rattle.running.specs.Promises.{Copied, Acts, Wrote};
+use megaco::Context;
+use syntax::Rest;
+use tries::Went;
 
 // Where an action ends: the place after its text, and whether the transaction goes on.
 pub struct Moved {
     pub next: usize,
     pub going: bool,
+}
+
+// The commands of an action, in order, until one stops the transaction.
+fn run_commands(s: &[u8], from: usize, given: u32, at: Context, table: &mut [u32], out: &mut [u8], p: usize) -> Went
+    requires { ⌜ length (now table) ≡ words ⌝ }
+    ensures { λ r. ⌜ Did (runCommands (commandsOf (now (s .entry)) from) given at (now (table .entry))) true (now (out .entry)) p (now (table .exit)) (now (out .exit)) r ⌝ }
+{
+    let mut i = from;
+    let mut left: usize = 64;
+    let mut q = p;
+    let mut c = at;
+    let mut f = true;
+    while 0 < left {
+        let w = commands::run_command(s, i, given, c, f, table, out, q);
+        let going = w.going;
+        if going {
+            let e = outline::command_end(s, i);
+            if text::is_at(s, e, 0x2c) {
+                i = parts::past_comma(s, e);
+                q = w.next;
+                c = w.at;
+                f = false;
+                left -= 1;
+            } else {
+                return w;
+            }
+        } else {
+            return w;
+        }
+    }
+    Went { next: q, at: c, going: true }
+}
+
+// An action from its start on, its reports being put into a buffer of their own.
+fn run_inner(s: &[u8], c: Context, body: usize, rest: Rest, table: &mut [u32], out: &mut [u8]) -> Went
+    requires { ⌜ (length (now table) ≡ words) × (heldAt c (now table) ≤ 32) ⌝ }
+    ensures { λ r. ⌜ Did (runAction (action c (propertiesIn (now (s .entry)) body) (commandsIn (now (s .entry)) rest)) (now (table .entry))) true (now (out .entry)) 0 (now (table .exit)) (now (out .exit)) r ⌝ }
+{
+    let held = orders::held_at(table, c);
+    let any = actions::property_here(s, body);
+    let g = starts::read_properties(s, body, held);
+    let follow = rest.commands;
+    let code = starts::start_code(c, any, g.over, !follow, held);
+    if code == 0 {
+        starts::start_write(table, c, any, g.held);
+        if follow {
+            let from = rest.at;
+            return run_commands(s, from, g.fresh, c, table, out, 0);
+        }
+        let n = put_alone(out, g.held);
+        return Went { next: n, at: c, going: true };
+    }
+    commands::fail(code, c, true, out, 0)
+}
+
+// The report of properties alone.
+fn put_alone(out: &mut [u8], held: u32) -> usize
+    ensures { λ r. ⌜ Appended (now (out .entry)) 0 (reportsText true (standing held ∷ [])) (now (out .exit)) r ⌝ }
+{
+    let q = report::put_separator(out, 0, true);
+    report::put_standing(out, q, held)
+}
+
+// The bytes that were put into a scratch buffer, appended in another.
+fn copy(out: &mut [u8], p: usize, inner: &[u8], n: usize) -> usize
+    ensures { λ r. ⌜ Appended (now (out .entry)) p (take n (now (inner .entry))) (now (out .exit)) r ⌝ }
+{
+    let e = tries::low(n, inner.len());
+    writer::put_bytes(out, p, &inner[0..e])
+}
+
+// An action's text around its reports.
+fn put_action(out: &mut [u8], p: usize, first: bool, c: Context, inner: &[u8], n: usize) -> usize
+    ensures { λ r. ⌜ Copied first c (now (inner .entry)) n (now (out .entry)) p (now (out .exit)) r ⌝ }
+{
+    let q = report::put_separator(out, p, first);
+    let u = reply::put_action_open(out, q, c);
+    let v = copy(out, u, inner, n);
+    writer::put_byte(out, v, 125)
+}
+
+// The action that stands at a place of the message.
+fn run_action(s: &[u8], i: usize, first: bool, table: &mut [u32], out: &mut [u8], p: usize) -> Moved
+    requires { ⌜ (sound (now table) ≡ true) × (length (now out) ≤ 2049) ⌝ }
+    ensures { λ r. ⌜ Acts (runAction (actionOf (now (s .entry)) i) (now (table .entry))) first (now (out .entry)) p (now (table .exit)) (now (out .exit)) r ⌝ }
+{
+    let a = outline::action_places(s, i);
+    let c = a.context;
+    let body = a.body;
+    let rest = outline::rest_of(s, body);
+    let mut inner = [0u8; 2049];
+    let w = run_inner(s, c, body, rest, table, &mut inner);
+    let at = w.at;
+    let n = w.next;
+    let q = put_action(out, p, first, at, &inner, n);
+    Moved { next: q, going: w.going }
+}
+
+// The actions of a transaction, in order, until one stops it.
+fn run_actions(s: &[u8], from: usize, table: &mut [u32], out: &mut [u8], p: usize) -> usize
+    requires { ⌜ (sound (now table) ≡ true) × (length (now out) ≤ 2049) ⌝ }
+    ensures { λ r. ⌜ Wrote (runActions (actionsOf (now (s .entry)) from) true (now (table .entry))) (now (out .entry)) p (now (table .exit)) (now (out .exit)) r ⌝ }
+{
+    let mut i = from;
+    let mut left: usize = 16;
+    let mut q = p;
+    let mut f = true;
+    while 0 < left {
+        let m = run_action(s, i, f, table, out, q);
+        let going = m.going;
+        if going {
+            let e = outline::action_end(s, i);
+            if text::is_at(s, e, 0x2c) {
+                i = parts::past_comma(s, e);
+                q = m.next;
+                f = false;
+                left -= 1;
+            } else {
+                return m.next;
+            }
+        } else {
+            return m.next;
+        }
+    }
+    q
 }

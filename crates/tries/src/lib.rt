@@ -156,7 +156,7 @@ fn try_each(
     }
 }
 
-fn low(a: usize, b: usize) -> usize
+pub fn low(a: usize, b: usize) -> usize
     ensures { λ r. ⌜ r ≡ min a b ⌝ }
 {
     if a < b { a } else { b }

@@ -1,0 +1,147 @@
+-- An action from its start on.
+use Prim.Native.Nat.{ℕ, _<_, _≤_}
+use mathlib.Core.Path.{_≡_, refl, sym, ap, _∙_, subst}
+use mathlib.Core.List.{List, [], _∷_, _++_}
+use mathlib.Core.Bool.{Bool, true, false, not, _&&_}
+use lib.ListN.{length}
+use lib.Dec.{ltb, leb}
+use borrow.Author.Tests.{ltb-true, leb-true}
+use native.Mathlib.Omega.{arith}
+use Rattle.base.specs.Pick.{pick}
+use Rattle.base.specs.Out.{Appended}
+use Rattle.base.proofs.PickLaws.{pick-ind}
+use Rattle.base.proofs.TestLaws.{and-both}
+use Rattle.megaco.specs.Table.{words, contexts, sound, known, cell, rec, get, Write, apply}
+use Rattle.megaco.specs.Reading.{isProperty, wordHere}
+use Rattle.megaco.specs.Tree.{Command, action}
+use Rattle.megaco.specs.Reply.{Acted, standing, failed, reportsText}
+use Rattle.megaco.specs.Running.{Outcome, outcome, Start, Result, refused, done, judge, seen, numberOf, anyGiven, over15, newRecord, setProperties, startChecks, startWrites, startReports, startedBy, started, noCommands}
+use Rattle.megaco.specs.declared.Context.{Context}
+use Rattle.megaco.specs.declared.Property.{Property}
+use Rattle.syntax.specs.Extraction.{listOf, commandsOf, commandsIn}
+use Rattle.syntax.specs.declared.Rest.{Rest}
+use Rattle.orders.specs.Orders.{heldAt}
+use Rattle.starts.specs.Starting.{propertiesIn, startCode, wroteStart, OfProperties}
+use Rattle.starts.specs.declared.Given.{Given}
+use Rattle.starts.proofs.StartLaws.{start-writes-is, start-done, start-refused, start-over, any-given}
+use Rattle.commands.specs.Fails.{Failed}
+use Rattle.laws.specs.Sound.{Whole, sound-whole}
+use Rattle.tries.specs.Contract.{Did}
+use Rattle.tries.specs.declared.Went.{Went}
+use Rattle.tries.proofs.DidLaws.{went}
+use Rattle.running.specs.Fold.{runCommands, afterStart, runAction}
+use Rattle.running.proofs.Lists.{picked, left-out}
+
+-- there are no commands where none follow
+some-commands : (s : List ℕ) (at : ℕ) → noCommands (commandsOf s at) ≡ false
+unfolding commandsOf listOf noCommands
+some-commands s at = refl
+
+alone-is : (s : List ℕ) (r : Rest) → noCommands (commandsIn s r) ≡ not (r .commands)
+unfolding commandsIn
+alone-is s r = by (r .commands)
+  where
+    by : (b : Bool) → noCommands (pick b (commandsOf s (r .at)) []) ≡ not b
+    by true = ap noCommands (picked true (commandsOf s (r .at)) [] refl) ∙ some-commands s (r .at)
+    by false = ap noCommands (left-out false (commandsOf s (r .at)) [] refl) ∙ (unfold noCommands in refl)
+
+-- an action by what its start is judged
+module _ (c : Context) (ps : List Property) (cs : List Command) (t : List ℕ) where
+  action-refused : (code : ℕ) → judge (startChecks c ps (noCommands cs) (heldAt c t)) (startWrites c ps (heldAt c t)) ≡ refused code
+      → runAction (action c ps cs) t ≡ outcome t (failed code ∷ []) c false
+  unfolding runAction started startedBy afterStart heldAt apply pick
+  action-refused code e = rw e
+
+  action-done : judge (startChecks c ps (noCommands cs) (heldAt c t)) (startWrites c ps (heldAt c t)) ≡ done (startWrites c ps (heldAt c t))
+      → runAction (action c ps cs) t
+      ≡ (let x = runCommands cs (setProperties ps newRecord) c (apply (startWrites c ps (heldAt c t)) t) in
+      outcome (x .table) (startReports ps (noCommands cs) (heldAt c t) ++ x .reports) (x .at) (x .going))
+  unfolding runAction started startedBy afterStart heldAt pick
+  action-done e = rw e
+
+no-runs : (given : ℕ) (c : Context) (t : List ℕ) → runCommands [] given c t ≡ outcome t [] c true
+unfolding runCommands
+no-runs given c t = refl
+
+reports-alone : (ps : List Property) (held : ℕ) → startReports ps true held ≡ standing (setProperties ps held) ∷ []
+unfolding startReports pick
+reports-alone ps held = refl
+
+reports-none : (ps : List Property) (held : ℕ) → startReports ps false held ≡ []
+unfolding startReports pick
+reports-none ps held = refl
+
+module _ (s : List ℕ) (c : Context) (body : ℕ) (rest : Rest) (t o : List ℕ) (held : ℕ) (any : Bool) (g : Given) (code : ℕ) (e : held ≡ heldAt c t)
+    (f : any ≡ isProperty (wordHere s body)) (h : OfProperties s body held g) (k : code ≡ startCode c any (g .over) (not (rest .commands)) held) where
+  abbrev ps : List Property
+  ps = propertiesIn s body
+
+  abbrev cs : List Command
+  cs = commandsIn s rest
+
+  any-is : any ≡ anyGiven ps
+  any-is = f ∙ sym (any-given s body)
+
+  code-is : code ≡ startCode c (anyGiven ps) (over15 ps) (noCommands cs) (heldAt c t)
+  code-is = k ∙ (λ i. startCode c (any-is i) (h .over i) (sym (alone-is s rest) i) (e i))
+
+  -- an action error
+  pub inner-fails : (o′ : List ℕ) (w : Went) → (code ≡ 0 → ⊥) → Failed code c true o 0 o′ w → Did (runAction (action c ps cs) t) true o 0 t o′ w
+  inner-fails o′ w n a =
+      rw (action-refused c ps cs t code (start-refused c ps (noCommands cs) (heldAt c t) (startWrites c ps (heldAt c t)) (λ z. n (code-is ∙ z)) ∙ ap refused (sym code-is)))
+      (record { table = refl; text = a .text; place = a .place; going = a .going })
+
+  passed : code ≡ 0 → judge (startChecks c ps (noCommands cs) (heldAt c t)) (startWrites c ps (heldAt c t)) ≡ done (startWrites c ps (heldAt c t))
+  passed z = start-done c ps (noCommands cs) (heldAt c t) (startWrites c ps (heldAt c t)) (sym code-is ∙ z)
+
+  small : code ≡ 0 → g .over ≡ false
+  small z = h .over ∙ start-over c ps (noCommands cs) (heldAt c t) (sym code-is ∙ z)
+
+  wrote : (u : List ℕ) → code ≡ 0 → u ≡ apply (wroteStart c any (g .held)) t → u ≡ apply (startWrites c ps (heldAt c t)) t
+  wrote u z q =
+      q
+      ∙ ap (λ (ws : List Write). apply ws t)
+      ((λ i. wroteStart c (any-is i) ((h .held (small z) ∙ ap (setProperties ps) e) i)) ∙ start-writes-is c ps (heldAt c t))
+
+  -- commands follow
+  pub inner-commands : (u t′ o′ : List ℕ) (w : Went) → code ≡ 0 → u ≡ apply (wroteStart c any (g .held)) t → rest .commands ≡ true
+      → Did (runCommands (commandsOf s (rest .at)) (g .fresh) c u) true o 0 t′ o′ w → Did (runAction (action c ps cs) t) true o 0 t′ o′ w
+  inner-commands u t′ o′ w z q b d =
+      let l : cs ≡ commandsOf s (rest .at) = (unfold commandsIn in picked (rest .commands) (commandsOf s (rest .at)) [] b) in
+      let r : startReports ps (noCommands cs) (heldAt c t) ≡ [] = ap (λ (x : Bool). startReports ps x (heldAt c t)) (alone-is s rest ∙ ap not b) ∙ reports-none ps (heldAt c t) in
+      let x : Outcome = runCommands (commandsOf s (rest .at)) (g .fresh) c u in
+      let y : Outcome = runCommands cs (setProperties ps newRecord) c (apply (startWrites c ps (heldAt c t)) t) in
+      let m : x ≡ y = λ i. runCommands (sym l i) (h .fresh (small z) i) c (wrote u z q i) in
+      rw (action-done c ps cs t (passed z), r) (subst (λ (v : Outcome). Did (outcome (v .table) (v .reports) (v .at) (v .going)) true o 0 t′ o′ w) m d)
+
+  -- properties alone
+  pub inner-alone : (u o′ : List ℕ) (n : ℕ) → code ≡ 0 → u ≡ apply (wroteStart c any (g .held)) t → rest .commands ≡ false
+      → Appended o 0 (reportsText true (standing (g .held) ∷ [])) o′ n → Did (runAction (action c ps cs) t) true o 0 u o′ (went n c true)
+  inner-alone u o′ n z q b a =
+      let l : cs ≡ [] = (unfold commandsIn in left-out (rest .commands) (commandsOf s (rest .at)) [] b) in
+      let r : startReports ps (noCommands cs) (heldAt c t) ≡ standing (setProperties ps (heldAt c t)) ∷ [] =
+      ap (λ (x : Bool). startReports ps x (heldAt c t)) (alone-is s rest ∙ ap not b) ∙ reports-alone ps (heldAt c t) in
+      let y : runCommands cs (setProperties ps newRecord) c (apply (startWrites c ps (heldAt c t)) t) ≡ outcome (apply (startWrites c ps (heldAt c t)) t) [] c true =
+      ap (λ (x : List Command). runCommands x (setProperties ps newRecord) c (apply (startWrites c ps (heldAt c t)) t)) l ∙ no-runs (setProperties ps newRecord) c (apply (startWrites c ps (heldAt c t)) t) in
+      let v : g .held ≡ setProperties ps (heldAt c t) = h .held (small z) ∙ ap (setProperties ps) e in
+      rw (action-done c ps cs t (passed z), y, r) (record { table = wrote u z q; text = rw (← v) a; place = refl; going = refl })
+
+-- a sound table's record
+known-within : (n : ℕ) → known n ≡ true → (0 < n) × (n ≤ contexts)
+unfolding known
+known-within n e = let b = and-both (ltb 0 n) (leb n contexts) e in (ltb-true 0 n (b .0), leb-true n contexts (b .1))
+
+pub held-small : (c : Context) (t : List ℕ) → sound t ≡ true → heldAt c t ≤ 32
+unfolding heldAt seen pick
+held-small c t h = by (known (numberOf c)) refl
+  where
+    by : (b : Bool) → known (numberOf c) ≡ b → heldAt c t ≤ 32
+    by true e =
+        let b = known-within (numberOf c) e in
+        let r = sound-whole t h .held (numberOf c) (b .0) (b .1) in
+        let q : get t (cell (rec (numberOf c))) ≤ 32 = omega arith in
+        rw e q
+    by false e = rw e (omega arith)
+
+pub sound-long : (t : List ℕ) → sound t ≡ true → length t ≡ words
+sound-long t h = sound-whole t h .long
