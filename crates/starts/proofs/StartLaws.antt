@@ -4,6 +4,7 @@ use mathlib.Core.Path.{_≡_, refl, sym, ap, _∙_}
 use mathlib.Core.Bool.{Bool, true, false, _&&_, _||_, true≢false}
 use mathlib.Core.List.{List, [], _∷_}
 use native.Mathlib.Omega.{arith}
+use native.Mathlib.Numerals.{add-one}
 use lib.ListN.{length}
 use borrow.Author.Tests.{ltb-false}
 use lib.Dec.{ltb, eqb}
@@ -127,7 +128,11 @@ module _ (s : List ℕ) (at held n i a b : ℕ) (inv : Leads (propertiesIn s at)
         pub read-over : o ≡ true → OfProperties s at held (given true a b)
         read-over f =
             let x : overOne (p .property) ≡ true = sym w ∙ f in
-            record { over = sym (one .over ∙ over-cons (p .property) behind ∙ rw x); fresh = λ y. absurd (true≢false y); held = λ y. absurd (true≢false y) }
+            record {
+              over = sym (one .over ∙ over-cons (p .property) behind ∙ rw x);
+              fresh = λ y. absurd (true≢false y);
+              held = λ y. absurd (true≢false y);
+            }
 
         module _ (f : o ≡ false) (a′ b′ : ℕ) (ea : a′ ≡ setOne (p .property) a) (eb : b′ ≡ setOne (p .property) b) (x : Bool) (g : x ≡ isAt s (p .end) comma) where
           next : (rs : List Property) → behind ≡ rs → Leads (propertiesIn s at) rs held a′ b′
@@ -137,7 +142,8 @@ module _ (s : List ℕ) (at held n i a b : ℕ) (inv : Leads (propertiesIn s at)
           unfolding pick behind
           read-last k = all-set a′ b′ (next [] (rw (← g, k)))
 
-          pub read-more : (u : ℕ) → x ≡ true → u ≡ pastSign comma s (p .end) → Leads (propertiesIn s at) (propertiesOf (length s + 1 - (n + 1)) s u) held a′ b′
+          pub read-more : (u : ℕ) → x ≡ true → u ≡ pastSign comma s (p .end)
+              → Leads (propertiesIn s at) (propertiesOf (length s + 1 - (n + 1)) s u) held a′ b′
           unfolding pick behind
           read-more u k l = next (propertiesOf (length s + 1 - (n + 1)) s u) (rw (← g, k, l))
 
@@ -175,10 +181,84 @@ module _ (c : Context) (any : Bool) (held : ℕ) (t : List ℕ) where
   unfolding wroteStart apply
   wrote-all e = rw e
 
-  pub wrote-record : (n : ℕ) (u : List ℕ) → c ≡ Numbered n → any ≡ true → u ≡ store (write (cell (rec n)) held) t → u ≡ apply (wroteStart c any held) t
+  pub wrote-record : (n : ℕ) (u : List ℕ) → c ≡ Numbered n → any ≡ true → u ≡ store (write (cell (rec n)) held) t
+      → u ≡ apply (wroteStart c any held) t
   unfolding wroteStart apply pick
   wrote-record n u e f p = rw (e, f) p
 
   pub wrote-none : (n : ℕ) → c ≡ Numbered n → any ≡ false → t ≡ apply (wroteStart c any held) t
   unfolding wroteStart apply pick
   wrote-none n e f = rw (e, f)
+
+pub start-writes-is : (c : Context) (ps : List Property) (held : ℕ) → wroteStart c (anyGiven ps) (setProperties ps held) ≡ startWrites c ps held
+unfolding wroteStart startWrites
+start-writes-is Null ps held = refl
+start-writes-is (Numbered n) ps held = refl
+start-writes-is Choose ps held = refl
+start-writes-is All ps held = refl
+
+-- ---- the code tells how the tests are judged
+
+pub start-code-is : (c : Context) (ps : List Property) (alone : Bool) (held : ℕ)
+    → startCode c (anyGiven ps) (over15 ps) alone held ≡ codeOf (startChecks c ps alone held)
+unfolding startCode startChecks codeOf pick
+start-code-is Null ps alone held = refl
+start-code-is (Numbered n) ps alone held = refl
+start-code-is Choose ps alone held = refl
+start-code-is All ps alone held = refl
+
+checks-coded : (c : Context) (ps : List Property) (alone : Bool) (held : ℕ) → coded (startChecks c ps alone held) ≡ true
+unfolding startChecks coded
+checks-coded Null ps alone held = refl
+checks-coded (Numbered n) ps alone held = refl
+checks-coded Choose ps alone held = refl
+checks-coded All ps alone held = refl
+
+by-refused : (k : ℕ) (ws : List Write) → (k ≡ 0 → ⊥) → byCode k ws ≡ refused k
+unfolding byCode
+by-refused zero ws h = absurd (h refl)
+by-refused (suc k) ws h = refl
+
+module _ (c : Context) (ps : List Property) (alone : Bool) (held : ℕ) where
+  start-judged : (ws : List Write) → judge (startChecks c ps alone held) ws ≡ byCode (startCode c (anyGiven ps) (over15 ps) alone held) ws
+  start-judged ws = judge-code (startChecks c ps alone held) ws (checks-coded c ps alone held) ∙ rw (start-code-is c ps alone held)
+
+  pub start-done : (ws : List Write) → startCode c (anyGiven ps) (over15 ps) alone held ≡ 0 → judge (startChecks c ps alone held) ws ≡ done ws
+  unfolding byCode
+  start-done ws e = start-judged ws ∙ rw e
+
+  pub start-refused : (ws : List Write) → (startCode c (anyGiven ps) (over15 ps) alone held ≡ 0 → ⊥)
+      → judge (startChecks c ps alone held) ws ≡ refused (startCode c (anyGiven ps) (over15 ps) alone held)
+  start-refused ws n = start-judged ws ∙ by-refused (startCode c (anyGiven ps) (over15 ps) alone held) ws n
+
+-- nothing is over 15 where no test fails: in `-` none is given then
+over-given : (ps : List Property) → anyGiven ps ≡ false → over15 ps ≡ false
+unfolding anyGiven over15
+over-given [] e = refl
+over-given (x ∷ ps) e = absurd (true≢false e)
+
+passed : (b : Bool) (k r : ℕ) → pick b (suc k) r ≡ 0 → (b ≡ false) × (r ≡ 0)
+unfolding pick
+passed true k r e = absurd (let z : suc k ≡ 0 = e in omega arith)
+passed false k r e = (refl, e)
+
+pub start-over : (c : Context) (ps : List Property) (alone : Bool) (held : ℕ)
+    → startCode c (anyGiven ps) (over15 ps) alone held ≡ 0 → over15 ps ≡ false
+unfolding startCode
+start-over Null ps alone held e = over-given ps (passed (anyGiven ps) 420 0 e .0)
+start-over (Numbered n) ps alone held e = passed (over15 ps) 448 (pick (anyGiven ps && eqb held 0) 411 0) e .0
+start-over Choose ps alone held e = passed (over15 ps) 448 0 (passed (anyGiven ps && alone) 420 (pick (over15 ps) 449 0) e .1) .0
+start-over All ps alone held e = absurd (let z : _≡_ {A = ℕ} 421 0 = e in omega arith)
+
+-- ---- properties are given where a property stands
+
+any-pick : (z : Bool) (x : Property) (rs : List Property) → anyGiven (pick z (x ∷ rs) []) ≡ z
+unfolding anyGiven pick
+any-pick true x rs = refl
+any-pick false x rs = refl
+
+pub any-given : (s : List ℕ) (at : ℕ) → anyGiven (propertiesIn s at) ≡ isProperty (wordHere s at)
+unfolding propertiesIn unlimited propertiesOf
+any-given s at =
+    let more = pick (isAt s (propertyEnd s at) comma) (propertiesOf (length s) s (pastSign comma s (propertyEnd s at))) [] in
+    rw (add-one (length s)) (any-pick (isProperty (wordHere s at)) (propertyOf s at) more)

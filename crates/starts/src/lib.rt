@@ -71,7 +71,11 @@ pub fn read_properties(s: &[u8], at: usize, held: u32) -> Given
             let x = p.property;
             let e = p.end;
             if is_over(x) {
-                return Given { over: true, fresh: a, held: b };
+                return Given {
+                    over: true,
+                    fresh: a,
+                    held: b,
+                };
             }
             a = set_one(x, a);
             b = set_one(x, b);
@@ -79,13 +83,25 @@ pub fn read_properties(s: &[u8], at: usize, held: u32) -> Given
                 i = parts::past_comma(s, e);
                 n += 1;
             } else {
-                return Given { over: false, fresh: a, held: b };
+                return Given {
+                    over: false,
+                    fresh: a,
+                    held: b,
+                };
             }
         } else {
-            return Given { over: false, fresh: a, held: b };
+            return Given {
+                over: false,
+                fresh: a,
+                held: b,
+            };
         }
     }
-    Given { over: false, fresh: a, held: b }
+    Given {
+        over: false,
+        fresh: a,
+        held: b,
+    }
 }
 
 // The code of an action error at the start, or 0.
