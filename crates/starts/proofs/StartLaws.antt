@@ -1,5 +1,5 @@
 -- An action's start: the properties one by one, the code of its tests, and what it writes.
-use Prim.Native.Nat.{ℕ, zero, suc, _+_, _*_, _-_, _/_, _%_, _<_, _≤_}
+use Prim.Native.Nat.{ℕ, zero, suc, _+_, _*_, _-_, _<_, _≤_}
 use mathlib.Core.Path.{_≡_, refl, sym, ap, _∙_}
 use mathlib.Core.Bool.{Bool, true, false, _&&_, _||_, true≢false}
 use mathlib.Core.List.{List, [], _∷_}
@@ -13,7 +13,7 @@ use Rattle.base.specs.Lists.{isAt}
 use Rattle.megaco.specs.Bytes.{comma}
 use Rattle.megaco.specs.Table.{Write, write, cell, rec, store, apply, priorityOf, emergencyOf}
 use Rattle.megaco.specs.Reading.{unlimited, isProperty, wordHere}
-use Rattle.megaco.specs.Running.{Check, check, Result, refused, done, judge, newRecord, anyGiven, over15, setProperties, startChecks, startWrites}
+use Rattle.megaco.specs.Running.{refused, done, judge, newRecord, anyGiven, over15, setProperties, startChecks, startWrites}
 use Rattle.megaco.specs.declared.Context.{Context}
 use Rattle.megaco.specs.declared.Context.the-variants.{Null, Numbered, Choose, All}
 use Rattle.megaco.specs.declared.Property.{Property}

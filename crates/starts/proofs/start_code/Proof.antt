@@ -1,5 +1,4 @@
 use borrow.Author.Needs.{needs}
-use mathlib.Core.Path.{refl}
 use Rattle.base.specs.Pick.{pick-yes, pick-no}
 use Rattle.starts.proofs.StartLaws.{code-null, code-numbered, code-choose, code-all}
 use Rattle.starts.proofs.start_code.Statement.{statement}
