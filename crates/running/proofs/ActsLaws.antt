@@ -1,9 +1,9 @@
 -- The loops over a transaction's actions and a message's transactions.
-use Prim.Native.Nat.{ℕ, zero, suc, _+_, _-_, _<_, _≤_}
+use Prim.Native.Nat.{ℕ, zero, suc, _+_, _-_, _<_, _≤_, min}
 use mathlib.Core.Path.{_≡_, refl, sym, ap, _∙_, subst}
 use mathlib.Core.List.{List, [], _∷_}
 use mathlib.Core.Bool.{Bool, true, false}
-use lib.ListN.{length, replicate}
+use lib.ListN.{length, replicate, take, drop, length-replicate}
 use lib.Dec.{ltb}
 use borrow.Author.Tests.{lt-ltb, le-ltb}
 use native.Mathlib.Omega.{arith}
@@ -11,20 +11,26 @@ use Rattle.base.specs.Pick.{pick}
 use Rattle.base.specs.Lists.{isAt}
 use Rattle.base.specs.Bytes.{text, _then_}
 use Rattle.base.specs.Out.{Appended}
-use Rattle.base.proofs.OutLaws.{_▸_, none, copied}
+use Rattle.base.proofs.OutLaws.{_▸_, none, copied, same-length-by}
 use Rattle.base.proofs.TextLaws.{then-assoc, then-none}
 use Rattle.megaco.specs.Bytes.{comma}
 use Rattle.megaco.specs.Table.{sound}
-use Rattle.megaco.specs.Tree.{Action, Transaction, transaction}
+use Rattle.megaco.specs.Reading.{unlimited}
+use Rattle.megaco.specs.Tree.{Action, action, Transaction, transaction}
 use Rattle.megaco.specs.Reply.{Report, reportsText, separator, actionText, replyText, limited}
 use Rattle.megaco.specs.Running.{Outcome, Ran, ran, runTransaction, runTransactions}
 use Rattle.megaco.specs.declared.Context.{Context}
-use Rattle.syntax.specs.Extraction.{pastSign, listOf, actionOf, actionEnd, actionsOf, transactionOf, transactionEnd, transactionsOf}
+use Rattle.syntax.specs.Extraction.{pastSign, listOf, commandsIn, restOf, restIn, actionOf, actionEnd, transactionOf, transactionEnd, transactionsOf}
+use Rattle.syntax.specs.declared.Rest.{Rest}
+use Rattle.outline.specs.Outline.{actionPlaces}
+use Rattle.outline.specs.declared.ActionPlaces.{ActionPlaces}
+use Rattle.starts.specs.Starting.{propertiesIn}
 use Rattle.reply.specs.Texts.{replyOpen, actionOpen, Limited}
 use Rattle.reply.proofs.ReplyLaws.{action-is, reply-is, limited-is}
 use Rattle.laws.specs.Kept.{transaction-sound}
 use Rattle.tries.specs.Contract.{Did}
 use Rattle.tries.specs.declared.Went.{Went}
+use Rattle.tries.proofs.DidLaws.{lent-first}
 use Rattle.running.specs.Fold.{runAction, runActions, outcomeText}
 use Rattle.running.specs.Promises.{Acts, Wrote, Copied}
 use Rattle.running.specs.declared.Moved.{Moved}
@@ -33,11 +39,25 @@ use Rattle.running.proofs.FoldLaws.{transaction-is}
 
 -- ---- an action's text
 
+-- the bytes of a scratch buffer, as they are lent
+pub copy-is : (inner : List ℕ) (n e : ℕ) (o : List ℕ) (at : ℕ) (o′ : List ℕ) (r : ℕ) → e ≡ min n (length inner) → Appended o at (take (e - 0) (drop 0 inner)) o′ r → Appended o at (take n inner) o′ r
+copy-is inner n e o at o′ r q a = subst (λ (l : List ℕ). Appended o at l o′ r) (lent-first inner n e q) a
+
 -- its parts as they are written
-pub copied-is : (first : Bool) (c : Context) (inner : List ℕ) (n : ℕ) (o : List ℕ) (at : ℕ) (o₁ o₂ o₃ o₄ : List ℕ) (p q u r : ℕ) (e : ℕ) (l : List ℕ)
-    → Appended o at (separator first) o₁ p → Appended o₁ p (actionOpen c) o₂ q → l ≡ inner → e ≡ n → length o₂ ≡ length o
-    → ((bs : List ℕ) → Appended (replicate 2049 0) 0 bs inner n → length o₂ ≤ 2049 → Appended o₂ q bs o₃ u) → Appended o₃ u (text "}") o₄ r → Copied first c inner n o at o₄ r
-copied-is first c inner n o at o₁ o₂ o₃ o₄ p q u r e l f g _ _ h k m = record { is = λ bs w z. f ▸ g ▸ k bs w (rw h z) ▸ m }
+pub action-copied : (first : Bool) (c : Context) (inner : List ℕ) (n : ℕ) (o : List ℕ) (at : ℕ) (o₁ o₂ o₃ o₄ : List ℕ) (p q u r : ℕ)
+    → Appended o at (separator first) o₁ p → Appended o₁ p (actionOpen c) o₂ q → Appended o₂ q (take n inner) o₃ u → Appended o₃ u (text "}") o₄ r → Copied first c inner n o at o₄ r
+action-copied first c inner n o at o₁ o₂ o₃ o₄ p q u r f g k m =
+    record {
+      is = λ bs w z.
+          let l : length o₂ ≡ length o = same-length-by o₁ p (actionOpen c) o₂ q g ∙ same-length-by o at (separator first) o₁ p f in
+          let h : length o₂ ≤ q + length {A = ℕ} (replicate 2049 0) = rw (l, length-replicate {A = ℕ} 2049 0) (omega arith) in
+          f ▸ g ▸ copied (replicate 2049 0) bs inner n o₂ q o₃ u w h k ▸ m;
+    }
+
+action-at : (s : List ℕ) (i : ℕ) (a : ActionPlaces) (rest : Rest) → a ≡ actionPlaces s i → rest ≡ restOf (unlimited s) s (a .body)
+    → action (a .context) (propertiesIn s (a .body)) (commandsIn s rest) ≡ actionOf s i
+unfolding actionOf actionPlaces propertiesIn restIn
+action-at s i a rest e f = rw (f, e)
 
 -- an action whose reports were put into a buffer of their own
 pub acts-by : (x : Outcome) (first : Bool) (t′ inner : List ℕ) (w : Went) (o : List ℕ) (at : ℕ) (o′ : List ℕ) (r : ℕ)
@@ -53,6 +73,18 @@ acts-by x first t′ inner w o at o′ r d k h =
           (k .is (reportsText true (x .reports)) (d .text) h);
       going = d .going;
     }
+
+-- the action at a place, its parts found
+pub action-acts : (s : List ℕ) (i : ℕ) (a : ActionPlaces) (rest : Rest) (first : Bool) (t t′ z inner : List ℕ) (w : Went) (o : List ℕ) (at : ℕ) (o′ : List ℕ) (r : ℕ)
+    → a ≡ actionPlaces s i → rest ≡ restOf (unlimited s) s (a .body) → z ≡ replicate 2049 0
+    → Did (runAction (action (a .context) (propertiesIn s (a .body)) (commandsIn s rest)) t) true z 0 t′ inner w → Copied first (w .at) inner (w .next) o at o′ r → length o ≤ 2049
+    → Acts (runAction (actionOf s i) t) first o at t′ o′ (record { next = r; going = w .going })
+action-acts s i a rest first t t′ z inner w o at o′ r e f g d k h =
+    let b : Action = action (a .context) (propertiesIn s (a .body)) (commandsIn s rest) in
+    let q : b ≡ actionOf s i = action-at s i a rest e f in
+    let v : Did (runAction b t) true (replicate 2049 0) 0 t′ inner w = subst (λ (y : List ℕ). Did (runAction b t) true y 0 t′ inner w) g d in
+    subst (λ (b : Action). Acts (runAction b t) first o at t′ o′ (record { next = r; going = w .going })) q
+    (acts-by (runAction b t) first t′ inner w o at o′ r v k h)
 
 -- ---- actions in order
 
@@ -91,6 +123,9 @@ action-sound a t h =
     one : (b : Bool) → runAction a t .going ≡ b → runActions (a ∷ []) true t .table ≡ runAction a t .table
     one true g = ap (λ (r : Ran). r .table) (acts-on a [] true t g) ∙ ap (λ (r : Ran). r .table) (no-actions false (runAction a t .table))
     one false g = ap (λ (r : Ran). r .table) (acts-end a [] true t g)
+
+pub acts-sound : (a : Action) (f : Bool) (t o₁ : List ℕ) (p : ℕ) (t₂ o₂ : List ℕ) (m : Moved) → Acts (runAction a t) f o₁ p t₂ o₂ m → sound t ≡ true → sound t₂ ≡ true
+acts-sound a f t o₁ p t₂ o₂ m d h = rw (d .table) (action-sound a t h)
 
 module _ (x : Ran) (o : List ℕ) (p₀ : ℕ) (s : List ℕ) (k i : ℕ) (f : Bool) (t o₁ : List ℕ) (p : ℕ)
     (l : Leads x o p₀ (runActions (listOf (actionOf s) (actionEnd s) s k i) f t) o₁ p) where

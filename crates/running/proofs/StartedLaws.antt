@@ -140,8 +140,8 @@ held-small c t h = by (known (numberOf c)) refl
         let b = known-within (numberOf c) e in
         let r = sound-whole t h .held (numberOf c) (b .0) (b .1) in
         let q : get t (cell (rec (numberOf c))) ≤ 32 = omega arith in
-        rw e q
-    by false e = rw e (omega arith)
+        rw (e, heldAt, seen) q
+    by false e = rw (e, heldAt, seen) (omega arith)
 
 pub sound-long : (t : List ℕ) → sound t ≡ true → length t ≡ words
 sound-long t h = sound-whole t h .long

@@ -25,7 +25,15 @@ pub struct Moved {
 }
 
 // The commands of an action, in order, until one stops the transaction.
-fn run_commands(s: &[u8], from: usize, given: u32, at: Context, table: &mut [u32], out: &mut [u8], p: usize) -> Went
+fn run_commands(
+    s: &[u8],
+    from: usize,
+    given: u32,
+    at: Context,
+    table: &mut [u32],
+    out: &mut [u8],
+    p: usize,
+) -> Went
     requires { ⌜ length (now table) ≡ words ⌝ }
     ensures { λ r. ⌜ Did (runCommands (commandsOf (now (s .entry)) from) given at (now (table .entry))) true (now (out .entry)) p (now (table .exit)) (now (out .exit)) r ⌝ }
 {
@@ -52,11 +60,22 @@ fn run_commands(s: &[u8], from: usize, given: u32, at: Context, table: &mut [u32
             return w;
         }
     }
-    Went { next: q, at: c, going: true }
+    Went {
+        next: q,
+        at: c,
+        going: true,
+    }
 }
 
 // An action from its start on, its reports being put into a buffer of their own.
-fn run_inner(s: &[u8], c: Context, body: usize, rest: Rest, table: &mut [u32], out: &mut [u8]) -> Went
+fn run_inner(
+    s: &[u8],
+    c: Context,
+    body: usize,
+    rest: Rest,
+    table: &mut [u32],
+    out: &mut [u8],
+) -> Went
     requires { ⌜ (length (now table) ≡ words) × (heldAt c (now table) ≤ 32) ⌝ }
     ensures { λ r. ⌜ Did (runAction (action c (propertiesIn (now (s .entry)) body) (commandsIn (now (s .entry)) rest)) (now (table .entry))) true (now (out .entry)) 0 (now (table .exit)) (now (out .exit)) r ⌝ }
 {
@@ -72,7 +91,11 @@ fn run_inner(s: &[u8], c: Context, body: usize, rest: Rest, table: &mut [u32], o
             return run_commands(s, from, g.fresh, c, table, out, 0);
         }
         let n = put_alone(out, g.held);
-        return Went { next: n, at: c, going: true };
+        return Went {
+            next: n,
+            at: c,
+            going: true,
+        };
     }
     commands::fail(code, c, true, out, 0)
 }
@@ -117,11 +140,14 @@ fn run_action(s: &[u8], i: usize, first: bool, table: &mut [u32], out: &mut [u8]
     let at = w.at;
     let n = w.next;
     let q = put_action(out, p, first, at, &inner, n);
-    Moved { next: q, going: w.going }
+    Moved {
+        next: q,
+        going: w.going,
+    }
 }
 
 // The actions of a transaction, in order, until one stops it.
-fn run_actions(s: &[u8], from: usize, table: &mut [u32], out: &mut [u8], p: usize) -> usize
+pub fn run_actions(s: &[u8], from: usize, table: &mut [u32], out: &mut [u8], p: usize) -> usize
     requires { ⌜ (sound (now table) ≡ true) × (length (now out) ≤ 2049) ⌝ }
     ensures { λ r. ⌜ Wrote (runActions (actionsOf (now (s .entry)) from) true (now (table .entry))) (now (out .entry)) p (now (table .exit)) (now (out .exit)) r ⌝ }
 {

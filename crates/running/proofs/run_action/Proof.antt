@@ -1,0 +1,19 @@
+use borrow.Author.Needs.{needs}
+use Rattle.running.proofs.StartedLaws.{sound-long, held-small}
+use Rattle.running.proofs.ActsLaws.{action-acts}
+use Rattle.running.proofs.run_action.Statement.{statement}
+use Rattle.running.proofs.run_action.Tie as tie
+
+pub run-action-spec : {M : Type 1} → statement M
+run-action-spec =
+    tie.close
+    (tie.spec
+    (λ c κs. search needs)
+    (λ c κs. search needs)
+    (λ c. search needs)
+    (λ c κs. (search sound-long, search held-small))
+    (λ c. search needs)
+    (λ c κs. search needs)
+    (λ c. search needs)
+    (λ c. search needs)
+    (λ c. search action-acts))

@@ -1,0 +1,42 @@
+use borrow.Author.Needs.{needs}
+use mathlib.Core.Path.{_≡_, refl}
+use mathlib.Core.Bool.{true}
+use lib.ListN.{length}
+use Rattle.megaco.specs.Table.{sound}
+use Rattle.syntax.specs.Extraction.{listOf, actionOf, actionEnd, actionsOf}
+use Rattle.running.specs.Fold.{runActions}
+use Rattle.running.proofs.ActsLaws.{Leads, begins, acts-sound, actions-none, actions-stop, actions-last, actions-more}
+use Rattle.running.proofs.run_actions.Statement.{statement}
+use Rattle.running.proofs.run_actions.Tie as tie
+
+abbrev Inv-loop : tie.InvT-loop
+Inv-loop s from table₀ out₀ p i₀ left₀ q₀ f₀ table out i left q f =
+    (length table ≡ length table₀) × (length out ≡ length out₀) × (sound table ≡ true)
+    × Leads (runActions (actionsOf s from) true table₀) out₀ p (runActions (listOf (actionOf s) (actionEnd s) s left i) f table) out q
+
+abbrev μ-loop : tie.MeasureT-loop
+μ-loop s from table₀ out₀ p i₀ left₀ q₀ f₀ table out i left q f = left
+
+pub run-actions-spec : {M : Type 1} → statement M
+run-actions-spec =
+    tie.close
+    (tie.spec
+    Inv-loop
+    μ-loop
+    (λ c. (refl, refl, search needs, unfold actionsOf in begins _ _ _))
+    (λ c κs. (search needs, search needs))
+    (λ c κs. search needs)
+    (λ c κs. search needs)
+    (λ c κs. search needs)
+    (λ c. search needs)
+    (λ c. search needs)
+    (λ c. (search needs, search needs, search acts-sound, search actions-more))
+    (λ c. search needs)
+    (λ c. search needs)
+    (λ c. search actions-last)
+    (λ c. search needs)
+    (λ c. search needs)
+    (λ c. search actions-stop)
+    (λ c. search needs)
+    (λ c. search needs)
+    (λ c. search actions-none))

@@ -1,0 +1,26 @@
+use borrow.Author.Needs.{needs}
+use Rattle.running.proofs.StartedLaws.{inner-fails, inner-commands, inner-alone}
+use Rattle.running.proofs.run_inner.Statement.{statement}
+use Rattle.running.proofs.run_inner.Tie as tie
+
+pub run-inner-spec : {M : Type 1} → statement M
+run-inner-spec =
+    tie.close
+    (tie.spec
+    (λ c κs. search needs)
+    (λ c κs. search needs)
+    (λ c κs. search needs)
+    (λ c κs. search needs)
+    (λ c κs. search needs)
+    (λ c κs. search needs)
+    (λ c. search needs)
+    (λ c. search needs)
+    (λ c. search inner-commands)
+    (λ c κs. search needs)
+    (λ c. search needs)
+    (λ c. search needs)
+    (λ c. search inner-alone)
+    (λ c κs. search needs)
+    (λ c. search needs)
+    (λ c. search needs)
+    (λ c. search inner-fails))
