@@ -1,0 +1,23 @@
+use borrow.Author.Needs.{needs}
+use Rattle.gateway.proofs.CallLaws.{short-reply, unsound-table, unfit-mid, unfit-message, is-taken, sound-by}
+use Rattle.gateway.proofs.answer.Statement.{statement}
+use Rattle.gateway.proofs.answer.Tie as tie
+
+pub answer-spec : {M : Type 1} → statement M
+answer-spec =
+    tie.close
+    (tie.spec
+    (λ c. search short-reply)
+    (λ c κs. search needs)
+    (λ c κs. search needs)
+    (λ c. search needs)
+    (λ c. search unfit-message)
+    (λ c κs. search needs)
+    (λ c κs. search sound-by)
+    (λ c. search needs)
+    (λ c. search needs)
+    (λ c. search is-taken)
+    (λ c. search needs)
+    (λ c. search unfit-mid)
+    (λ c. search needs)
+    (λ c. search unsound-table))

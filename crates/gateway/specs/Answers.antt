@@ -1,0 +1,36 @@
+-- Document 01's number and values for each answer of the call.
+use Prim.Native.Nat.{ℕ, _+_, _*_}
+use mathlib.Core.Path.{_≡_}
+use mathlib.Core.List.{List}
+use Rattle.megaco.specs.Call.{Called}
+use Rattle.gateway.specs.declared.Outcome.{Outcome}
+use Rattle.gateway.specs.declared.Outcome.the-variants.{Taken, ReplyTooShort, TableUnsound, MidUnfit, MessageUnfit}
+
+-- 'Calls turned down': the number, 0 for a call that is taken
+unfoldable pub refusalOf : Outcome → ℕ
+refusalOf (Taken n) = 0
+refusalOf ReplyTooShort = 3
+refusalOf TableUnsound = 2
+refusalOf MidUnfit = 4
+refusalOf MessageUnfit = 1
+
+-- the reply's length: "Each gives length 0"
+unfoldable pub sizeOf : Outcome → ℕ
+sizeOf (Taken n) = n
+sizeOf ReplyTooShort = 0
+sizeOf TableUnsound = 0
+sizeOf MidUnfit = 0
+sizeOf MessageUnfit = 0
+
+-- an answer, the table and the reply buffer after the call are those of the definition
+pub record Answered (c : Called) (t′ o′ : List ℕ) (r : Outcome) : Type 0 where
+  pub refusal : refusalOf r ≡ c .refusal
+  pub size : sizeOf r ≡ c .size
+  pub table : t′ ≡ c .table
+  pub reply : o′ ≡ c .reply
+
+-- the same with the answer as one number of 64 bits: the length in the low 32, the refusal in the high 32
+pub record Packed (c : Called) (t′ o′ : List ℕ) (r : ℕ) : Type 0 where
+  pub answer : r ≡ c .size + 4294967296 * c .refusal
+  pub table : t′ ≡ c .table
+  pub reply : o′ ≡ c .reply

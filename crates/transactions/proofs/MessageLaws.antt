@@ -1,0 +1,76 @@
+-- A transaction and a message, as they are run.
+use Prim.Native.Nat.{ℕ, _<_, _≤_}
+use mathlib.Core.Path.{_≡_, refl, sym, ap, _∙_, subst}
+use mathlib.Core.Bool.{Bool, true, false}
+use mathlib.Core.List.{List}
+use lib.ListN.{length, replicate, length-replicate}
+use native.Mathlib.Omega.{arith}
+use Rattle.base.specs.Bytes.{text}
+use Rattle.base.specs.Out.{Appended}
+use Rattle.base.proofs.OutLaws.{same-length-by}
+use Rattle.megaco.specs.Table.{sound}
+use Rattle.megaco.specs.Tree.{Transaction, transaction, Message, wellFormed, fault400, fault403, fault406}
+use Rattle.megaco.specs.Reading.{messageR}
+use Rattle.megaco.specs.Reply.{errorText, replyText}
+use Rattle.megaco.specs.Running.{Ran, ran, runTransaction, runTransactions, runMessage}
+use Rattle.syntax.specs.Places.{verdict}
+use Rattle.syntax.specs.Extraction.{actionsOf, transactionOf, transactionsOf, headerEnd, messageOf}
+use Rattle.syntax.specs.Bridge.{told, message-told}
+use Rattle.syntax.specs.declared.Verdict.{Verdict}
+use Rattle.syntax.specs.declared.Verdict.the-variants.{WellFormed, Fault400, Fault403, WrongVersion406}
+use Rattle.outline.specs.Outline.{transactionPlaces}
+use Rattle.outline.specs.declared.TransactionPlaces.{TransactionPlaces}
+use Rattle.reply.specs.Texts.{replyOpen, Limited}
+use Rattle.laws.specs.Kept.{transaction-sound}
+use Rattle.running.specs.Fold.{runActions}
+use Rattle.running.specs.Promises.{Wrote}
+use Rattle.running.proofs.ActsLaws.{Leads, begins, transaction-wrote}
+
+-- ---- a transaction
+
+transaction-at : (s : List ℕ) (i : ℕ) (a : TransactionPlaces) → a ≡ transactionPlaces s i → transaction (a .id) (actionsOf s (a .body)) ≡ transactionOf s i
+unfolding transactionOf transactionPlaces
+transaction-at s i a e = rw e
+
+pub transaction-runs : (s : List ℕ) (i : ℕ) (a : TransactionPlaces) (t z z₁ z₂ z₃ : List ℕ) (n m e : ℕ) (t′ o : List ℕ) (p : ℕ) (o′ : List ℕ) (r : ℕ) → a ≡ transactionPlaces s i
+    → z ≡ replicate 2049 0 → Appended z 0 (replyOpen (a .id)) z₁ n → Wrote (runActions (actionsOf s (a .body)) true t) z₁ n t′ z₂ m → Appended z₂ m (text "}") z₃ e
+    → Limited (a .id) z₃ e o p o′ r → Wrote (runTransaction (transactionOf s i) t) o p t′ o′ r
+transaction-runs s i a t z z₁ z₂ z₃ n m e t′ o p o′ r q g f w h l =
+    subst (λ (x : Transaction). Wrote (runTransaction x t) o p t′ o′ r) (transaction-at s i a q)
+    (transaction-wrote (a .id) (actionsOf s (a .body)) t z z₁ z₂ z₃ n m e t′ o p o′ r g f w h l)
+
+-- the scratch buffer is of 2,049 bytes
+pub scratch-fits : (z o : List ℕ) (p : ℕ) (bs : List ℕ) (r : ℕ) → z ≡ replicate 2049 0 → Appended z p bs o r → length o ≤ 2049
+scratch-fits z o p bs r e a =
+    let l : length z ≡ 2049 = ap length e ∙ length-replicate {A = ℕ} 2049 0 in
+    let q : length o ≡ length z = same-length-by z p bs o r a in
+    omega arith
+
+pub wrote-sound : (x : Transaction) (t o : List ℕ) (p : ℕ) (t₂ o₂ : List ℕ) (q : ℕ) → Wrote (runTransaction x t) o p t₂ o₂ q → sound t ≡ true → sound t₂ ≡ true
+wrote-sound x t o p t₂ o₂ q w h = rw (w .table) (transaction-sound x t h)
+
+pub message-begins : (s : List ℕ) (i : ℕ) (t o : List ℕ) (p : ℕ) → i ≡ headerEnd s → Leads (runTransactions (messageOf s) t) o p (runTransactions (transactionsOf 8 s i) t) o p
+unfolding messageOf
+message-begins s i t o p e = rw e (begins (runTransactions (transactionsOf 8 s (headerEnd s)) t) o p)
+
+-- ---- a message by its verdict
+
+module _ (s : List ℕ) (t o : List ℕ) (p : ℕ) (t′ o′ : List ℕ) (r : ℕ) (v : Verdict) (e : v ≡ verdict s) where
+  as-told : (w : Verdict) → v ≡ w → messageR s ≡ told w (messageOf s)
+  as-told w f = message-told s ∙ ap (λ (y : Verdict). told y (messageOf s)) (sym e ∙ f)
+
+  pub reads-well : v ≡ WellFormed → Wrote (runTransactions (messageOf s) t) o p t′ o′ r → Wrote (runMessage (messageR s) t) o p t′ o′ r
+  unfolding told runMessage
+  reads-well f w = rw (as-told WellFormed f) w
+
+  pub reads-400 : v ≡ Fault400 → Appended o p (errorText 400) o′ r → Wrote (runMessage (messageR s) t) o p t o′ r
+  unfolding told runMessage
+  reads-400 f a = rw (as-told Fault400 f) (record { table = refl; text = a })
+
+  pub reads-403 : (id : ℕ) → v ≡ Fault403 id → Appended o p (replyText id (errorText 403)) o′ r → Wrote (runMessage (messageR s) t) o p t o′ r
+  unfolding told runMessage
+  reads-403 id f a = rw (as-told (Fault403 id) f) (record { table = refl; text = a })
+
+  pub reads-406 : v ≡ WrongVersion406 → Appended o p (errorText 406) o′ r → Wrote (runMessage (messageR s) t) o p t o′ r
+  unfolding told runMessage
+  reads-406 f a = rw (as-told WrongVersion406 f) (record { table = refl; text = a })

@@ -1,0 +1,21 @@
+use borrow.Author.Needs.{needs}
+use Rattle.transactions.proofs.MessageLaws.{transaction-runs, scratch-fits}
+use Rattle.transactions.proofs.run_transaction.Statement.{statement}
+use Rattle.transactions.proofs.run_transaction.Tie as tie
+
+pub run-transaction-spec : {M : Type 1} → statement M
+run-transaction-spec =
+    tie.close
+    (tie.spec
+    (λ c κs. search needs)
+    (λ c. search needs)
+    (λ c κs. search needs)
+    (λ c. search needs)
+    (λ c κs. (search needs, search scratch-fits))
+    (λ c. search needs)
+    (λ c κs. search needs)
+    (λ c. search needs)
+    (λ c κs. search needs)
+    (λ c. search needs)
+    (λ c. search needs)
+    (λ c. search transaction-runs))
