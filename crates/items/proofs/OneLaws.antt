@@ -4,6 +4,8 @@ use mathlib.Core.Path.{_≡_, refl, sym, ap, _∙_}
 use mathlib.Core.Bool.{Bool, true, false, not, _&&_, _||_}
 use mathlib.Core.List.{List, [], _∷_}
 use mathlib.Core.Option.{none, some}
+use lib.Dec.{eqb}
+use borrow.Author.Tests.{ne-eqb}
 use Rattle.base.specs.Pick.{pick}
 use Rattle.base.proofs.TestLaws.{and-left, and-right}
 use Rattle.base.specs.Lists.{isAt}
@@ -28,7 +30,7 @@ use Rattle.parts.specs.declared.CommandPlaces.{CommandPlaces}
 use Rattle.parts.specs.Places.{inQuotes, bytesOf, valueFrom, OfItem, itemFrom, itemsFrom}
 use Rattle.parts.proofs.PlaceLaws.{item-is}
 use Rattle.items.specs.declared.Descriptors.{Descriptors}
-use Rattle.items.specs.Judging.{calledBy, valueBy, nextOf, propertyBy, calledIn, kindOf, stoodAfter, mediaBy, topBy}
+use Rattle.items.specs.Judging.{calledBy, valueBy, nextOf, itemCode, judgedBy, descriptorShapeBy, propertyShapeBy, propertyBy, calledIn, kindOf, stoodAfter, mediaBy, topBy}
 
 -- ---- values
 
@@ -55,6 +57,18 @@ module _ (k : Kind) (g : Given) (vs : Values) where
   set-state x e h = rw (e, h)
 
 -- ---- what calls tell
+
+module _ (c code : ℕ) (b r g : Bool) (e : c ≡ itemCode code b r g) (y : Judged) where
+  pub judged-right : (j : Judged) → c ≡ 0 → j ≡ y → j ≡ judgedBy (itemCode code b r g) y
+  unfolding judgedBy pick
+  judged-right j z h = rw (← e, z) h
+
+  pub judged-wrong : (c ≡ 0 → ⊥) → Wrong c ≡ judgedBy (itemCode code b r g) y
+  unfolding judgedBy pick
+  judged-wrong n = rw (← e, ne-eqb c 0 n)
+
+pub code-by : (c code : ℕ) (b x r g : Bool) → x ≡ b → c ≡ itemCode code x r g → c ≡ itemCode code b r g
+code-by c code b x r g e h = rw (← e) h
 
 module _ (s : List ℕ) (p : ItemPlaces) (k : Kind) where
   pub called-token : (t : Token) (x : Bool) → t ≡ propertyToken k → x ≡ calledBy t s p → x ≡ calledBy (propertyToken k) s p
@@ -129,13 +143,13 @@ stoodNext (item w x v is) stood = stoodAfter (called LocalControlToken w x) stoo
 -- ---- the tests of one item
 
 -- an item judged alone
-alone : (code : ℕ) (b seen g : Bool) (x y : Judged) → (g ≡ true → x ≡ y)
-    → pick (not b) (Wrong code) (pick seen (Wrong 448) (pick g (onward x Right) (Wrong 442))) ≡ pick b (pick seen (Wrong 448) (pick g y (Wrong 442))) (Wrong code)
-unfolding onward pick
-alone code false seen g x y e = refl
-alone code true true g x y e = refl
-alone code true false false x y e = refl
-alone code true false true x y e = by x ∙ e refl
+alone : (code : ℕ) (b seen g : Bool) (x y : Judged) → eqb code 0 ≡ false → (g ≡ true → x ≡ y)
+    → pick (not b) (Wrong code) (pick seen (Wrong 448) (pick g (onward x Right) (Wrong 442))) ≡ judgedBy (itemCode code b seen g) y
+unfolding onward judgedBy itemCode pick
+alone code false seen g x y n e = rw n
+alone code true true g x y n e = refl
+alone code true false false x y n e = refl
+alone code true false true x y n e = by x ∙ e refl
   where
     by : (j : Judged) → onward j Right ≡ j
     by (Wrong c) = refl
@@ -153,7 +167,7 @@ module _ (s : List ℕ) (at : ℕ) (p : ItemPlaces) (h : OfItem s at p) (vs : Va
   unfolding propertyItems propertyBy propertyShape calledBy itemFrom
   property-one inner k seen e =
       e ∙ sym (rw (item-is inner s at p h, called-second, given-value, given-pick)
-      (alone 445 _ seen (p .value .given && not (p .braces)) _ _ (λ t. ap (λ g. setValue k g vs) (value-by k s _ p (and-left _ _ t)))))
+      (alone 445 _ seen (propertyShapeBy p) _ _ refl (λ t. ap (λ g. setValue k g vs) (value-by k s _ p (and-left _ _ t)))))
 
   pub media-one : (c stood : Descriptors) → c ≡ calledIn s p → j ≡ mediaBy c stood vs s p → j ≡ mediaAll (itemOf (itemsOf 6 s) s at ∷ []) stood vs
   unfolding mediaAll mediaItems mediaBy calledIn calledBy descriptorShape itemFrom
@@ -169,13 +183,13 @@ module _ (s : List ℕ) (at : ℕ) (p : ItemPlaces) (h : OfItem s at p) (vs : Va
         given-pick,
         by-kind (calledBy LocalControlToken s p) (stood .control) (stood .state) (λ k. propertyItems k is false vs) f,
       )
-      (alone 444 _ _ (not (p .value .given) && p .braces) _ _ (λ t. rw (items-in (p .braces) (itemsOf 6 s (p .inside)) (and-right (not (p .value .given)) (p .braces) t)))))
+      (alone 444 _ _ (descriptorShapeBy p) _ _ refl (λ t. rw (items-in (p .braces) (itemsOf 6 s (p .inside)) (and-right (not (p .value .given)) (p .braces) t)))))
 
   pub top-one : (seen : Bool) → j ≡ topBy seen vs s p → j ≡ topItems (itemOf (itemsOf 7 s) s at ∷ []) seen vs
   unfolding topItems topBy calledBy descriptorShape itemFrom
   top-one seen e =
       e ∙ sym (rw (item-is (itemsOf 7 s) s at p h, called-second, given-value, given-pick)
-      (alone 444 _ seen (not (p .value .given) && p .braces) _ _ (λ t. rw (items-in (p .braces) (itemsOf 7 s (p .inside)) (and-right (not (p .value .given)) (p .braces) t)))))
+      (alone 444 _ seen (descriptorShapeBy p) _ _ refl (λ t. rw (items-in (p .braces) (itemsOf 7 s (p .inside)) (and-right (not (p .value .given)) (p .braces) t)))))
 
 pub stood-next : {A : Type 0} (inner : ℕ → List A) (s : List ℕ) (at : ℕ) (p : ItemPlaces) (c stood r : Descriptors) → OfItem s at p → c ≡ calledIn s p → r ≡ stoodAfter (c .control) stood
     → r ≡ stoodNext (itemOf inner s at) stood
