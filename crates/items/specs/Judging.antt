@@ -34,9 +34,11 @@ pub record Lies (s : List ℕ) (p : ItemPlaces) : Type 0 where
   pub value-ordered : p .value .plain .from ≤ p .value .plain .to
   pub value-inside : p .value .plain .to ≤ length s
 
+-- a name with `/` is called by none
 unfoldable pub calledBy : Token → List ℕ → ItemPlaces → Bool
 calledBy k s p = not (p .second) && spells k (bytesOf s (p .word))
 
+-- a quoted value gives none
 unfoldable pub valueBy : Kind → List ℕ → ItemPlaces → Given
 valueBy k s p = pick (p .value .quoted) Keep (valueGiven k (some (plain (bytesOf s (p .value .plain)))))
 
@@ -70,6 +72,7 @@ calledIn s p = record { control = calledBy LocalControlToken s p; state = called
 unfoldable pub kindOf : Bool → Kind
 kindOf control = pick control InControl InState
 
+-- the descriptors that stood before the item after this one, which is one of the two
 unfoldable pub stoodAfter : Bool → Descriptors → Descriptors
 stoodAfter control stood = record { control = control || stood .control; state = not control || stood .state }
 

@@ -219,7 +219,7 @@ fn kind_of(control: bool) -> Kind
     Kind::InState
 }
 
-// The descriptors that stood before the item after this one.
+// The descriptors that stood before the item after this one, which is one of the two.
 fn stood_after(stood: Descriptors, called: Descriptors) -> Descriptors
     ensures { λ r. ⌜ r ≡ stoodAfter (called .control) stood ⌝ }
 {

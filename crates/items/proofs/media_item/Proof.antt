@@ -1,5 +1,5 @@
 use borrow.Author.Needs.{needs}
-use Rattle.items.proofs.OneLaws.{judged-right, judged-wrong, inside-kind}
+use Rattle.items.proofs.CallLaws.{judged-right, judged-wrong, inside-kind}
 use Rattle.items.specs.Judging.{mediaBy}
 use Rattle.items.proofs.media_item.Statement.{statement}
 use Rattle.items.proofs.media_item.Tie as tie

@@ -1,5 +1,5 @@
 use borrow.Author.Needs.{needs}
-use Rattle.items.proofs.OneLaws.{judged-right, judged-wrong, code-by, called-token, set-by}
+use Rattle.items.proofs.CallLaws.{judged-right, judged-wrong, code-by, called-token, set-by}
 use Rattle.items.specs.Judging.{propertyBy}
 use Rattle.items.proofs.property_item.Statement.{statement}
 use Rattle.items.proofs.property_item.Tie as tie

@@ -1,5 +1,5 @@
 use borrow.Author.Needs.{needs}
-use Rattle.items.proofs.OneLaws.{judged-right, judged-wrong, code-by}
+use Rattle.items.proofs.CallLaws.{judged-right, judged-wrong, code-by}
 use Rattle.items.specs.Judging.{topBy}
 use Rattle.items.proofs.top_item.Statement.{statement}
 use Rattle.items.proofs.top_item.Tie as tie
