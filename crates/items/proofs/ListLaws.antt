@@ -77,75 +77,81 @@ media-turn (item w x v is) xs stood vs =
     rw (by-kind c (stood .control) (stood .state) inside more, by-kind c (stood .control) (stood .state) inside stop)
     (turn-by 444 _ _ (descriptorShape v is) (inside (kindOf c)) (more (c || stood .control) (not c || stood .state)))
 
+-- ---- the items from a place on, of which n were judged before
+
+unfoldable pub itemsLeft : {A : Type 0} → (ℕ → List A) → ℕ → List ℕ → ℕ → ℕ → List (ItemOf A)
+itemsLeft inner k s n i = listOf (itemOf inner s) (itemEnd k s) s (length s + 1 - n) i
+
+module _ {A : Type 0} (inner : ℕ → List A) (k : ℕ) (s : List ℕ) (n i : ℕ) where
+  left-none : length s < n → itemsLeft inner k s n i ≡ []
+  unfolding itemsLeft listOf
+  left-none h = let z : length s + 1 - n ≡ 0 = omega arith in rw z
+
+  module _ (h : n ≤ length s) where
+    left-some : itemsLeft inner k s n i ≡ itemOf inner s i ∷ pick (isAt s (itemEnd k s i) comma) (itemsLeft inner k s (n + 1) (pastSign comma s (itemEnd k s i))) []
+    unfolding itemsLeft listOf
+    left-some = let z : length s + 1 - n ≡ suc (length s + 1 - (n + 1)) = omega arith in rw z
+
+    module _ (p : ItemPlaces) (x : Parsed) (o : OfItem s i p) (g : x ≡ nextOf k s p) where
+      follows : x ≡ pick (isAt s (itemEnd k s i) comma) (Next (pastSign comma s (itemEnd k s i))) Fault
+      unfolding nextOf itemEnd headEnd
+      follows = g ∙ rw (o .value .end)
+
+      left-one : x ≡ Fault → itemsLeft inner k s n i ≡ itemOf inner s i ∷ []
+      unfolding pick
+      left-one w = left-some ∙ by (isAt s (itemEnd k s i) comma) (pastSign comma s (itemEnd k s i)) follows
+        where
+          by : (t : Bool) (z : ℕ) → x ≡ pick t (Next z) Fault → itemOf inner s i ∷ pick t (itemsLeft inner k s (n + 1) z) [] ≡ itemOf inner s i ∷ []
+          by true z e = let c : _≡_ {A = ℕ} 0 1 = cc in absurd (omega arith)
+          by false z e = refl
+
+      left-more : (u : ℕ) → x ≡ Next u → itemsLeft inner k s n i ≡ itemOf inner s i ∷ itemsLeft inner k s (n + 1) u
+      unfolding pick
+      left-more u w = left-some ∙ by (isAt s (itemEnd k s i) comma) (pastSign comma s (itemEnd k s i)) follows
+        where
+          by : (t : Bool) (z : ℕ) → x ≡ pick t (Next z) Fault → itemOf inner s i ∷ pick t (itemsLeft inner k s (n + 1) z) [] ≡ itemOf inner s i ∷ itemsLeft inner k s (n + 1) u
+          by true z e = let c : z ≡ u = cc in rw c
+          by false z e = let c : _≡_ {A = ℕ} 0 1 = cc in absurd (omega arith)
+
 -- ---- a list from its start
 
 module _ {S : Type 0} (k : ℕ) (f : List (Item (suc k)) → S → Values → Judged) (next : Item (suc k) → S → S) (none : (stood : S) (vs : Values) → f [] stood vs ≡ Right vs)
     (turn : (x : Item (suc k)) (xs : List (Item (suc k))) (stood : S) (vs : Values) → f (x ∷ xs) stood vs ≡ onward (f (x ∷ []) stood vs) (λ us. f xs (next x stood) us)) where
-  starts : (s : List ℕ) (at : ℕ) (stood : S) (vs : Values) → f (itemsOf (suc k) s at) stood vs ≡ judgeAll f next (listOf (itemOf (itemsOf k s) s) (itemEnd k s) s (length s + 1 - 0) at) stood vs
-  unfolding itemsOf unlimited
+  starts : (s : List ℕ) (at : ℕ) (stood : S) (vs : Values) → f (itemsOf (suc k) s at) stood vs ≡ judgeAll f next (itemsLeft (itemsOf k s) k s 0 at) stood vs
+  unfolding itemsOf itemsLeft unlimited
   starts s at stood vs = let z : length s + 1 - 0 ≡ length s + 1 = omega arith in rw z (one-by-one f next none turn _ stood vs)
 
 module _ (s : List ℕ) (at : ℕ) (vs : Values) where
-  pub property-starts : (k : Kind) → propertyItems k (itemsOf 6 s at) false vs ≡ judgeAll (propertyItems k) stands (listOf (itemOf (itemsOf 5 s) s) (itemEnd 5 s) s (length s + 1 - 0) at) false vs
+  pub property-starts : (k : Kind) → propertyItems k (itemsOf 6 s at) false vs ≡ judgeAll (propertyItems k) stands (itemsLeft (itemsOf 5 s) 5 s 0 at) false vs
   unfolding propertyItems
   property-starts k = starts 5 (propertyItems k) stands (λ seen vs. refl) (property-turn k) s at false vs
 
-  pub media-starts : mediaItems (itemsOf 7 s at) false false vs
-      ≡ judgeAll mediaAll stoodNext (listOf (itemOf (itemsOf 6 s) s) (itemEnd 6 s) s (length s + 1 - 0) at) (record { control = false; state = false }) vs
+  pub media-starts : mediaItems (itemsOf 7 s at) false false vs ≡ judgeAll mediaAll stoodNext (itemsLeft (itemsOf 6 s) 6 s 0 at) (record { control = false; state = false }) vs
   unfolding mediaAll mediaItems
   media-starts = starts 6 mediaAll stoodNext (λ stood vs. refl) media-turn s at (record { control = false; state = false }) vs
 
-  pub top-starts : topItems (itemsOf 8 s at) false vs ≡ judgeAll topItems stands (listOf (itemOf (itemsOf 7 s) s) (itemEnd 7 s) s (length s + 1 - 0) at) false vs
+  pub top-starts : topItems (itemsOf 8 s at) false vs ≡ judgeAll topItems stands (itemsLeft (itemsOf 7 s) 7 s 0 at) false vs
   unfolding topItems
   top-starts = starts 7 topItems stands (λ seen vs. refl) top-turn s at false vs
 
--- ---- a list from the place that was reached: n items were judged, and q is the verdict on all
-
--- a comma follows an item, or none
-module _ {A : Type 0} (x : Parsed) (z : ℕ) (l : ℕ → List A) where
-  follows-none : (t : Bool) → x ≡ pick t (Next z) Fault → x ≡ Fault → pick t (l z) [] ≡ []
-  unfolding pick
-  follows-none true e w = let o : _≡_ {A = ℕ} 0 1 = cc in absurd (omega arith)
-  follows-none false e w = refl
-
-  follows-one : (t : Bool) (u : ℕ) → x ≡ pick t (Next z) Fault → x ≡ Next u → pick t (l z) [] ≡ l u
-  unfolding pick
-  follows-one true u e w = let o : z ≡ u = cc in rw o
-  follows-one false u e w = let o : _≡_ {A = ℕ} 0 1 = cc in absurd (omega arith)
+-- ---- a list from the place that was reached: q is the verdict on all
 
 module _ {A S : Type 0} (f : List (ItemOf A) → S → Values → Judged) (next : ItemOf A → S → S) (inner : ℕ → List A) (k : ℕ) (s : List ℕ) (n i : ℕ) (stood : S) (vs : Values) (q : Judged)
-    (inv : q ≡ judgeAll f next (listOf (itemOf inner s) (itemEnd k s) s (length s + 1 - n) i) stood vs) where
+    (inv : q ≡ judgeAll f next (itemsLeft inner k s n i) stood vs) where
   pub all-none : length s < n → Right vs ≡ q
-  unfolding judgeAll listOf
-  all-none h = let z : length s + 1 - n ≡ 0 = omega arith in sym (inv ∙ rw z)
+  unfolding judgeAll
+  all-none h = sym (inv ∙ rw (left-none inner k s n i h))
 
   module _ (h : n ≤ length s) (j : Judged) (e : j ≡ f (itemOf inner s i ∷ []) stood vs) where
-    all-turn : q
-        ≡ onward j (λ us. judgeAll f next (pick (isAt s (itemEnd k s i) comma) (listOf (itemOf inner s) (itemEnd k s) s (length s + 1 - (n + 1)) (pastSign comma s (itemEnd k s i))) [])
-        (next (itemOf inner s i) stood) us)
-    unfolding judgeAll listOf
-    all-turn =
-        let z : length s + 1 - n ≡ suc (length s + 1 - (n + 1)) = omega arith in
-        rw e (by (length s + 1 - n) (length s + 1 - (n + 1)) z inv)
-      where
-        by : (a b : ℕ) → a ≡ suc b → q ≡ judgeAll f next (listOf (itemOf inner s) (itemEnd k s) s a i) stood vs
-            → q ≡ judgeAll f next (listOf (itemOf inner s) (itemEnd k s) s (suc b) i) stood vs
-        by a b z g = rw z at g
-
     pub all-wrong : (code : ℕ) → j ≡ Wrong code → j ≡ q
-    unfolding onward
-    all-wrong code w = w ∙ sym (all-turn ∙ rw w)
+    unfolding judgeAll onward
+    all-wrong code w = w ∙ sym (inv ∙ rw (left-some inner k s n i h, ← e, w))
 
     module _ (us : Values) (r : j ≡ Right us) (p : ItemPlaces) (x : Parsed) (o : OfItem s i p) (g : x ≡ nextOf k s p) where
-      after : x ≡ pick (isAt s (itemEnd k s i) comma) (Next (pastSign comma s (itemEnd k s i))) Fault
-      unfolding nextOf itemEnd headEnd
-      after = g ∙ rw (o .value .end)
-
       pub all-last : x ≡ Fault → Right us ≡ q
-      unfolding onward judgeAll
-      all-last w = sym (all-turn ∙ rw (r, follows-none x (pastSign comma s (itemEnd k s i)) (listOf (itemOf inner s) (itemEnd k s) s (length s + 1 - (n + 1))) _ after w))
+      unfolding judgeAll onward
+      all-last w = sym (inv ∙ rw (left-one inner k s n i h p x o g w, ← e, r))
 
-      pub all-more : (u : ℕ) (stood′ : S) → x ≡ Next u → stood′ ≡ next (itemOf inner s i) stood
-          → q ≡ judgeAll f next (listOf (itemOf inner s) (itemEnd k s) s (length s + 1 - (n + 1)) u) stood′ us
-      unfolding onward
-      all-more u stood′ w m = all-turn ∙ rw (r, follows-one x _ (listOf (itemOf inner s) (itemEnd k s) s (length s + 1 - (n + 1))) _ u after w, ← m)
+      pub all-more : (u : ℕ) (stood′ : S) → x ≡ Next u → stood′ ≡ next (itemOf inner s i) stood → q ≡ judgeAll f next (itemsLeft inner k s (n + 1) u) stood′ us
+      unfolding judgeAll onward
+      all-more u stood′ w m = inv ∙ rw (left-more inner k s n i h p x o g u w, ← e, r, ← m)

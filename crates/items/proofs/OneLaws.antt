@@ -4,91 +4,32 @@ use mathlib.Core.Path.{_≡_, refl, sym, ap, _∙_}
 use mathlib.Core.Bool.{Bool, true, false, not, _&&_, _||_}
 use mathlib.Core.List.{List, [], _∷_}
 use mathlib.Core.Option.{none, some}
+use lib.Dec.{eqb}
 use Rattle.base.specs.Pick.{pick}
 use Rattle.base.proofs.TestLaws.{and-left, and-right}
-use Rattle.base.specs.Lists.{isAt}
-use Rattle.megaco.specs.Bytes.{comma}
 use Rattle.megaco.specs.Keywords.{spells}
 use Rattle.megaco.specs.Tree.{plain, quoted, ItemOf, item, Item}
-use Rattle.megaco.specs.Items.{onward, called, given?, descriptorShape, propertyShape, modeGiven, stateGiven, propertyToken, valueGiven, setValue, propertyItems, itemsIn, mediaItems, topItems, unchanged, judgeItems}
-use Rattle.megaco.specs.declared.Parsed.the-variants.{Next, Fault}
+use Rattle.megaco.specs.Items.{onward, called, given?, descriptorShape, propertyShape, valueGiven, setValue, propertyItems, itemsIn, mediaItems, topItems}
 use Rattle.megaco.specs.declared.Token.{Token}
 use Rattle.megaco.specs.declared.Token.the-variants.{LocalControlToken}
-use Rattle.megaco.specs.declared.Given.{Given}
-use Rattle.megaco.specs.declared.Given.the-variants.{Keep, To}
+use Rattle.megaco.specs.declared.Given.the-variants.{Keep}
 use Rattle.megaco.specs.declared.Judged.{Judged}
 use Rattle.megaco.specs.declared.Judged.the-variants.{Wrong, Right}
 use Rattle.megaco.specs.declared.Kind.{Kind}
 use Rattle.megaco.specs.declared.Kind.the-variants.{InControl, InState}
 use Rattle.megaco.specs.declared.Values.{Values}
-use Rattle.syntax.specs.Extraction.{pastSign, bracesEnd, itemOf, itemsOf}
+use Rattle.syntax.specs.Extraction.{itemOf, itemsOf}
 use Rattle.parts.specs.declared.ValuePlaces.{ValuePlaces}
 use Rattle.parts.specs.declared.ItemPlaces.{ItemPlaces}
+<<<<<<< HEAD
 use Rattle.parts.specs.declared.CommandPlaces.{CommandPlaces}
 use Rattle.parts.specs.Found.{inQuotes, bytesOf, valueFrom, OfItem, itemFrom, itemsFrom}
+=======
+use Rattle.parts.specs.Found.{inQuotes, bytesOf, valueFrom, OfItem, itemFrom}
+>>>>>>> items
 use Rattle.parts.proofs.PlaceLaws.{item-is}
 use Rattle.items.specs.declared.Descriptors.{Descriptors}
-use Rattle.items.specs.Judging.{calledBy, valueBy, nextOf, propertyBy, calledIn, kindOf, stoodAfter, mediaBy, topBy}
-
--- ---- values
-
-module _ (k : Kind) (w : List ℕ) (r : Given) where
-  pub plain-mode : k ≡ InControl → r ≡ modeGiven w → r ≡ valueGiven k (some (plain w))
-  unfolding valueGiven
-  plain-mode h e = rw h e
-
-  pub plain-state : k ≡ InState → r ≡ stateGiven w → r ≡ valueGiven k (some (plain w))
-  unfolding valueGiven
-  plain-state h e = rw h e
-
-module _ (k : Kind) (g : Given) (vs : Values) where
-  pub set-none : g ≡ Keep → Wrong 449 ≡ setValue k g vs
-  unfolding setValue
-  set-none e = rw e
-
-  pub set-mode : (x : ℕ) → g ≡ To x → k ≡ InControl → Right (record { mode = g; state = vs .state }) ≡ setValue k g vs
-  unfolding setValue
-  set-mode x e h = rw (e, h)
-
-  pub set-state : (x : ℕ) → g ≡ To x → k ≡ InState → Right (record { mode = vs .mode; state = g }) ≡ setValue k g vs
-  unfolding setValue
-  set-state x e h = rw (e, h)
-
--- ---- what calls tell
-
-module _ (s : List ℕ) (p : ItemPlaces) (k : Kind) where
-  pub called-token : (t : Token) (x : Bool) → t ≡ propertyToken k → x ≡ calledBy t s p → x ≡ calledBy (propertyToken k) s p
-  called-token t x e h = rw (← e) h
-
-  pub set-by : (g : Given) (vs : Values) (r : Judged) → g ≡ valueBy k s p → r ≡ setValue k g vs → r ≡ setValue k (valueBy k s p) vs
-  set-by g vs r e h = rw (← e) h
-
-pub inside-kind : {A : Type 0} (c : Bool) (k : Kind) (is : List (ItemOf A)) (seen : Bool) (vs : Values) (r : Judged) → k ≡ kindOf c → r ≡ propertyItems k is seen vs → r ≡ propertyItems (kindOf c) is seen vs
-inside-kind c k is seen vs r e h = rw (← e) h
-
-module _ (k : ℕ) (s : List ℕ) (p : ItemPlaces) (e : ℕ) (x : Bool) (d : e ≡ bracesEnd k s (p .value .end)) (g : x ≡ isAt s e comma) where
-  pub next-one : (u : ℕ) → x ≡ true → u ≡ pastSign comma s e → Next u ≡ nextOf k s p
-  unfolding nextOf pick
-  next-one u t h = rw (← d, ← g, t, h)
-
-  pub next-none : x ≡ false → Fault ≡ nextOf k s p
-  unfolding nextOf pick
-  next-none f = rw (← d, ← g, f)
-
--- ---- a command's items
-
-module _ (s : List ℕ) (p : CommandPlaces) (subtracts : Bool) where
-  pub judge-subtract : p .braces ≡ true → subtracts ≡ true → Wrong 447 ≡ judgeItems subtracts (itemsFrom s p)
-  unfolding judgeItems itemsFrom pick
-  judge-subtract b t = rw (b, t)
-
-  pub judge-all : (r : Judged) → p .braces ≡ true → subtracts ≡ false → r ≡ topItems (itemsOf 8 s (p .inside)) false unchanged → r ≡ judgeItems subtracts (itemsFrom s p)
-  unfolding judgeItems itemsFrom pick
-  judge-all r b f e = rw (b, f) e
-
-  pub judge-none : p .braces ≡ false → Right unchanged ≡ judgeItems subtracts (itemsFrom s p)
-  unfolding judgeItems itemsFrom pick
-  judge-none b = rw b
+use Rattle.items.specs.Judging.{calledBy, valueBy, itemCode, judgedBy, descriptorShapeBy, propertyShapeBy, propertyBy, calledIn, kindOf, stoodAfter, mediaBy, topBy}
 
 -- ---- what the parts tell
 
@@ -129,13 +70,13 @@ stoodNext (item w x v is) stood = stoodAfter (called LocalControlToken w x) stoo
 -- ---- the tests of one item
 
 -- an item judged alone
-alone : (code : ℕ) (b seen g : Bool) (x y : Judged) → (g ≡ true → x ≡ y)
-    → pick (not b) (Wrong code) (pick seen (Wrong 448) (pick g (onward x Right) (Wrong 442))) ≡ pick b (pick seen (Wrong 448) (pick g y (Wrong 442))) (Wrong code)
-unfolding onward pick
-alone code false seen g x y e = refl
-alone code true true g x y e = refl
-alone code true false false x y e = refl
-alone code true false true x y e = by x ∙ e refl
+alone : (code : ℕ) (b seen g : Bool) (x y : Judged) → eqb code 0 ≡ false → (g ≡ true → x ≡ y)
+    → pick (not b) (Wrong code) (pick seen (Wrong 448) (pick g (onward x Right) (Wrong 442))) ≡ judgedBy (itemCode code b seen g) y
+unfolding onward judgedBy itemCode pick
+alone code false seen g x y n e = rw n
+alone code true true g x y n e = refl
+alone code true false false x y n e = refl
+alone code true false true x y n e = by x ∙ e refl
   where
     by : (j : Judged) → onward j Right ≡ j
     by (Wrong c) = refl
@@ -153,7 +94,7 @@ module _ (s : List ℕ) (at : ℕ) (p : ItemPlaces) (h : OfItem s at p) (vs : Va
   unfolding propertyItems propertyBy propertyShape calledBy itemFrom
   property-one inner k seen e =
       e ∙ sym (rw (item-is inner s at p h, called-second, given-value, given-pick)
-      (alone 445 _ seen (p .value .given && not (p .braces)) _ _ (λ t. ap (λ g. setValue k g vs) (value-by k s _ p (and-left _ _ t)))))
+      (alone 445 _ seen (propertyShapeBy p) _ _ refl (λ t. ap (λ g. setValue k g vs) (value-by k s _ p (and-left _ _ t)))))
 
   pub media-one : (c stood : Descriptors) → c ≡ calledIn s p → j ≡ mediaBy c stood vs s p → j ≡ mediaAll (itemOf (itemsOf 6 s) s at ∷ []) stood vs
   unfolding mediaAll mediaItems mediaBy calledIn calledBy descriptorShape itemFrom
@@ -169,13 +110,13 @@ module _ (s : List ℕ) (at : ℕ) (p : ItemPlaces) (h : OfItem s at p) (vs : Va
         given-pick,
         by-kind (calledBy LocalControlToken s p) (stood .control) (stood .state) (λ k. propertyItems k is false vs) f,
       )
-      (alone 444 _ _ (not (p .value .given) && p .braces) _ _ (λ t. rw (items-in (p .braces) (itemsOf 6 s (p .inside)) (and-right (not (p .value .given)) (p .braces) t)))))
+      (alone 444 _ _ (descriptorShapeBy p) _ _ refl (λ t. rw (items-in (p .braces) (itemsOf 6 s (p .inside)) (and-right (not (p .value .given)) (p .braces) t)))))
 
   pub top-one : (seen : Bool) → j ≡ topBy seen vs s p → j ≡ topItems (itemOf (itemsOf 7 s) s at ∷ []) seen vs
   unfolding topItems topBy calledBy descriptorShape itemFrom
   top-one seen e =
       e ∙ sym (rw (item-is (itemsOf 7 s) s at p h, called-second, given-value, given-pick)
-      (alone 444 _ seen (not (p .value .given) && p .braces) _ _ (λ t. rw (items-in (p .braces) (itemsOf 7 s (p .inside)) (and-right (not (p .value .given)) (p .braces) t)))))
+      (alone 444 _ seen (descriptorShapeBy p) _ _ refl (λ t. rw (items-in (p .braces) (itemsOf 7 s (p .inside)) (and-right (not (p .value .given)) (p .braces) t)))))
 
 pub stood-next : {A : Type 0} (inner : ℕ → List A) (s : List ℕ) (at : ℕ) (p : ItemPlaces) (c stood r : Descriptors) → OfItem s at p → c ≡ calledIn s p → r ≡ stoodAfter (c .control) stood
     → r ≡ stoodNext (itemOf inner s at) stood

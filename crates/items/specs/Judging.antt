@@ -4,6 +4,7 @@ use mathlib.Core.Bool.{Bool, false, not, _&&_, _||_}
 use mathlib.Core.List.{List}
 use mathlib.Core.Option.{some}
 use lib.ListN.{length}
+use lib.Dec.{eqb}
 use Rattle.base.specs.Pick.{pick}
 use Rattle.base.specs.Lists.{isAt}
 use Rattle.megaco.specs.Bytes.{comma}
@@ -33,9 +34,11 @@ pub record Lies (s : List ℕ) (p : ItemPlaces) : Type 0 where
   pub value-ordered : p .value .plain .from ≤ p .value .plain .to
   pub value-inside : p .value .plain .to ≤ length s
 
+-- a name with `/` is called by none
 unfoldable pub calledBy : Token → List ℕ → ItemPlaces → Bool
 calledBy k s p = not (p .second) && spells k (bytesOf s (p .word))
 
+-- a quoted value gives none
 unfoldable pub valueBy : Kind → List ℕ → ItemPlaces → Given
 valueBy k s p = pick (p .value .quoted) Keep (valueGiven k (some (plain (bytesOf s (p .value .plain)))))
 
@@ -45,10 +48,23 @@ nextOf k s p = let e = bracesEnd k s (p .value .end) in pick (isAt s e comma) (N
 
 -- ---- one item at each level
 
+-- "444 .. 445 ..; 448 repeated in its braces; 442 wrong shape"; 0 for an item that is none of these
+unfoldable pub itemCode : ℕ → Bool → Bool → Bool → ℕ
+itemCode unknown known repeated shaped = pick (not known) unknown (pick repeated 448 (pick (not shaped) 442 0))
+
+-- the code, or what stands inside
+unfoldable pub judgedBy : ℕ → Judged → Judged
+judgedBy code inside = pick (eqb code 0) inside (Wrong code)
+
+-- "the three descriptors have braces and no value, the two properties a value and no braces"
+abbrev pub descriptorShapeBy : ItemPlaces → Bool
+descriptorShapeBy p = not (p .value .given) && p .braces
+
+abbrev pub propertyShapeBy : ItemPlaces → Bool
+propertyShapeBy p = p .value .given && not (p .braces)
+
 unfoldable pub propertyBy : Kind → Bool → Values → List ℕ → ItemPlaces → Judged
-propertyBy k seen vs s p =
-    let shaped = pick (p .value .given && not (p .braces)) (setValue k (valueBy k s p) vs) (Wrong 442) in
-    pick (calledBy (propertyToken k) s p) (pick seen (Wrong 448) shaped) (Wrong 445)
+propertyBy k seen vs s p = judgedBy (itemCode 445 (calledBy (propertyToken k) s p) seen (propertyShapeBy p)) (setValue k (valueBy k s p) vs)
 
 unfoldable pub calledIn : List ℕ → ItemPlaces → Descriptors
 calledIn s p = record { control = calledBy LocalControlToken s p; state = calledBy TerminationStateToken s p }
@@ -56,17 +72,17 @@ calledIn s p = record { control = calledBy LocalControlToken s p; state = called
 unfoldable pub kindOf : Bool → Kind
 kindOf control = pick control InControl InState
 
+-- the descriptors that stood before the item after this one, which is one of the two
 unfoldable pub stoodAfter : Bool → Descriptors → Descriptors
 stoodAfter control stood = record { control = control || stood .control; state = not control || stood .state }
 
+abbrev pub repeatedBy : Descriptors → Descriptors → Bool
+repeatedBy called stood = (called .control && stood .control) || (called .state && stood .state)
+
 unfoldable pub mediaBy : Descriptors → Descriptors → Values → List ℕ → ItemPlaces → Judged
 mediaBy called stood vs s p =
-    let inside = propertyItems (kindOf (called .control)) (itemsOf 6 s (p .inside)) false vs in
-    let shaped = pick (not (p .value .given) && p .braces) inside (Wrong 442) in
-    let repeated = (called .control && stood .control) || (called .state && stood .state) in
-    pick (called .control || called .state) (pick repeated (Wrong 448) shaped) (Wrong 444)
+    judgedBy (itemCode 444 (called .control || called .state) (repeatedBy called stood) (descriptorShapeBy p))
+    (propertyItems (kindOf (called .control)) (itemsOf 6 s (p .inside)) false vs)
 
 unfoldable pub topBy : Bool → Values → List ℕ → ItemPlaces → Judged
-topBy seen vs s p =
-    let shaped = pick (not (p .value .given) && p .braces) (mediaItems (itemsOf 7 s (p .inside)) false false vs) (Wrong 442) in
-    pick (calledBy MediaToken s p) (pick seen (Wrong 448) shaped) (Wrong 444)
+topBy seen vs s p = judgedBy (itemCode 444 (calledBy MediaToken s p) seen (descriptorShapeBy p)) (mediaItems (itemsOf 7 s (p .inside)) false false vs)

@@ -5,8 +5,13 @@ ghost use mathlib.Core.Option.{some};
 ghost use Rattle.megaco.specs.Tree.{plain};
 ghost use Rattle.megaco.specs.Items.{modeGiven, stateGiven, propertyToken, valueGiven, setValue, propertyItems, mediaItems, topItems, judgeItems};
 ghost use Rattle.syntax.specs.Extraction.{itemsOf};
+<<<<<<< HEAD
 ghost use Rattle.parts.specs.Found.{itemsFrom};
 ghost use Rattle.items.specs.Judging.{Lies, calledBy, calledIn, kindOf, stoodAfter, valueBy, nextOf, propertyBy, mediaBy, topBy};
+=======
+ghost use Rattle.parts.specs.Found.{itemsFrom};
+ghost use Rattle.items.specs.Judging.{Lies, calledBy, itemCode, calledIn, kindOf, stoodAfter, valueBy, nextOf, propertyBy, mediaBy, topBy};
+>>>>>>> items
 use megaco::Given;
 use megaco::Judged;
 use megaco::Kind;
@@ -117,6 +122,22 @@ fn item_called(s: &[u8], p: ItemPlaces, k: Token) -> bool
     !p.second & text::spells(k, &s[a..e])
 }
 
+// The code of an item by its name and its shape, or 0: `unknown` is the code of a name that is not called for.
+fn item_code(unknown: u32, known: bool, repeated: bool, shaped: bool) -> u32
+    ensures { λ r. ⌜ r ≡ itemCode unknown known repeated shaped ⌝ }
+{
+    if !known {
+        return unknown;
+    }
+    if repeated {
+        return 448;
+    }
+    if !shaped {
+        return 442;
+    }
+    0
+}
+
 // Where the next item begins, if one follows this one, which may hold `left` levels.
 fn next_item(s: &[u8], p: ItemPlaces, left: usize) -> Parsed
     ensures { λ r. ⌜ r ≡ nextOf left (now (s .entry)) p ⌝ }
@@ -146,16 +167,12 @@ fn property_item(s: &[u8], p: ItemPlaces, k: Kind, seen: bool, values: Values) -
     ensures { λ r. ⌜ r ≡ propertyBy k seen values (now (s .entry)) p ⌝ }
 {
     let v = p.value;
-    if item_called(s, p, property_token(k)) {
-        if seen {
-            return Judged::Wrong(448);
-        }
-        if v.given & !p.braces {
-            return set_value(k, value_given(s, p, k), values);
-        }
-        return Judged::Wrong(442);
+    let known = item_called(s, p, property_token(k));
+    let code = item_code(445, known, seen, v.given & !p.braces);
+    if code == 0 {
+        return set_value(k, value_given(s, p, k), values);
     }
-    Judged::Wrong(445)
+    Judged::Wrong(code)
 }
 
 fn property_items(s: &[u8], at: usize, k: Kind, values: Values) -> Judged
@@ -207,7 +224,7 @@ fn kind_of(control: bool) -> Kind
     Kind::InState
 }
 
-// The descriptors that stood before the item after this one.
+// The descriptors that stood before the item after this one, which is one of the two.
 fn stood_after(stood: Descriptors, called: Descriptors) -> Descriptors
     ensures { λ r. ⌜ r ≡ stoodAfter (called .control) stood ⌝ }
 {
@@ -227,17 +244,14 @@ fn media_item(
     ensures { λ r. ⌜ r ≡ mediaBy called stood values (now (s .entry)) p ⌝ }
 {
     let v = p.value;
-    if called.control | called.state {
-        if called.control & stood.control | called.state & stood.state {
-            return Judged::Wrong(448);
-        }
-        if !v.given & p.braces {
-            let inside = p.inside;
-            return property_items(s, inside, kind_of(called.control), values);
-        }
-        return Judged::Wrong(442);
+    let known = called.control | called.state;
+    let repeated = called.control & stood.control | called.state & stood.state;
+    let code = item_code(444, known, repeated, !v.given & p.braces);
+    if code == 0 {
+        let inside = p.inside;
+        return property_items(s, inside, kind_of(called.control), values);
     }
-    Judged::Wrong(444)
+    Judged::Wrong(code)
 }
 
 fn media_items(s: &[u8], at: usize, values: Values) -> Judged
@@ -276,17 +290,13 @@ fn top_item(s: &[u8], p: ItemPlaces, seen: bool, values: Values) -> Judged
     ensures { λ r. ⌜ r ≡ topBy seen values (now (s .entry)) p ⌝ }
 {
     let v = p.value;
-    if item_called(s, p, Token::MediaToken) {
-        if seen {
-            return Judged::Wrong(448);
-        }
-        if !v.given & p.braces {
-            let inside = p.inside;
-            return media_items(s, inside, values);
-        }
-        return Judged::Wrong(442);
+    let known = item_called(s, p, Token::MediaToken);
+    let code = item_code(444, known, seen, !v.given & p.braces);
+    if code == 0 {
+        let inside = p.inside;
+        return media_items(s, inside, values);
     }
-    Judged::Wrong(444)
+    Judged::Wrong(code)
 }
 
 fn top_items(s: &[u8], at: usize, values: Values) -> Judged

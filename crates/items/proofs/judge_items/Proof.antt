@@ -1,5 +1,5 @@
 use borrow.Author.Needs.{needs}
-use Rattle.items.proofs.OneLaws.{judge-subtract, judge-all, judge-none}
+use Rattle.items.proofs.CallLaws.{judge-subtract, judge-all, judge-none}
 use Rattle.items.proofs.judge_items.Statement.{statement}
 use Rattle.items.proofs.judge_items.Tie as tie
 

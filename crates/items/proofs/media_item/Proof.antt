@@ -1,6 +1,5 @@
 use borrow.Author.Needs.{needs}
-use Rattle.base.specs.Pick.{picks}
-use Rattle.items.proofs.OneLaws.{inside-kind}
+use Rattle.items.proofs.CallLaws.{judged-right, judged-wrong, inside-kind}
 use Rattle.items.specs.Judging.{mediaBy}
 use Rattle.items.proofs.media_item.Statement.{statement}
 use Rattle.items.proofs.media_item.Tie as tie
@@ -9,9 +8,8 @@ pub media-item-spec : {M : Type 1} → statement M
 media-item-spec =
     tie.close
     (tie.spec
-    (λ c. unfold mediaBy in search (picks, inside-kind))
     (λ c κs. search needs)
     (λ c κs. search needs)
-    (λ c. unfold mediaBy in search (picks, inside-kind))
-    (λ c. unfold mediaBy in search (picks, inside-kind))
-    (λ c. unfold mediaBy in search (picks, inside-kind)))
+    (λ c κs. search needs)
+    (λ c. unfold mediaBy in search (judged-right, inside-kind))
+    (λ c. unfold mediaBy in search judged-wrong))

@@ -3,16 +3,16 @@ use Prim.Native.Nat.{_+_, _-_}
 use mathlib.Core.Path.{_≡_}
 use mathlib.Core.Bool.{false}
 use lib.ListN.{length}
-use Rattle.syntax.specs.Extraction.{listOf, itemOf, itemEnd, itemsOf}
+use Rattle.syntax.specs.Extraction.{itemsOf}
 use Rattle.megaco.specs.Items.{mediaItems}
 use Rattle.items.proofs.OneLaws.{mediaAll, stoodNext, media-one, stood-next}
-use Rattle.items.proofs.ListLaws.{judgeAll, media-starts, all-none, all-wrong, all-last, all-more}
+use Rattle.items.proofs.ListLaws.{judgeAll, itemsLeft, media-starts, all-none, all-wrong, all-last, all-more}
 use Rattle.items.proofs.media_items.Statement.{statement}
 use Rattle.items.proofs.media_items.Tie as tie
 
 abbrev Inv-loop : tie.InvT-loop
 Inv-loop s at i₀ n₀ stood₀ vs₀ i n stood vs =
-    mediaItems (itemsOf 7 s at) false false vs₀ ≡ judgeAll mediaAll stoodNext (listOf (itemOf (itemsOf 6 s) s) (itemEnd 6 s) s (length s + 1 - n) i) stood vs
+    mediaItems (itemsOf 7 s at) false false vs₀ ≡ judgeAll mediaAll stoodNext (itemsLeft (itemsOf 6 s) 6 s n i) stood vs
 
 abbrev μ-loop : tie.MeasureT-loop
 μ-loop s at i₀ n₀ stood₀ vs₀ i n stood vs = length s + 1 - n

@@ -1,5 +1,5 @@
 use borrow.Author.Needs.{needs}
-use Rattle.items.proofs.OneLaws.{next-one, next-none}
+use Rattle.items.proofs.CallLaws.{next-one, next-none}
 use Rattle.items.proofs.next_item.Statement.{statement}
 use Rattle.items.proofs.next_item.Tie as tie
 

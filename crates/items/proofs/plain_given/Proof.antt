@@ -1,5 +1,5 @@
 use borrow.Author.Needs.{needs}
-use Rattle.items.proofs.OneLaws.{plain-mode, plain-state}
+use Rattle.items.proofs.CallLaws.{plain-mode, plain-state}
 use Rattle.items.proofs.plain_given.Statement.{statement}
 use Rattle.items.proofs.plain_given.Tie as tie
 

@@ -1,6 +1,5 @@
 use borrow.Author.Needs.{needs}
-use Rattle.base.specs.Pick.{picks}
-use Rattle.items.proofs.OneLaws.{called-token, set-by}
+use Rattle.items.proofs.CallLaws.{judged-right, judged-wrong, code-by, called-token, set-by}
 use Rattle.items.specs.Judging.{propertyBy}
 use Rattle.items.proofs.property_item.Statement.{statement}
 use Rattle.items.proofs.property_item.Tie as tie
@@ -11,9 +10,8 @@ property-item-spec =
     (tie.spec
     (λ c κs. search needs)
     (λ c κs. search needs)
-    (λ c. unfold propertyBy in search (picks, called-token, set-by))
     (λ c κs. search needs)
     (λ c κs. search needs)
-    (λ c. unfold propertyBy in search (picks, called-token, set-by))
-    (λ c. unfold propertyBy in search (picks, called-token, set-by))
-    (λ c. unfold propertyBy in search (picks, called-token, set-by)))
+    (λ c κs. search needs)
+    (λ c. unfold propertyBy in search (judged-right, code-by, called-token, set-by))
+    (λ c. unfold propertyBy in search (judged-wrong, code-by, called-token)))

@@ -3,16 +3,16 @@ use Prim.Native.Nat.{_+_, _-_}
 use mathlib.Core.Path.{_≡_}
 use mathlib.Core.Bool.{false}
 use lib.ListN.{length}
-use Rattle.syntax.specs.Extraction.{listOf, itemOf, itemEnd, itemsOf}
+use Rattle.syntax.specs.Extraction.{itemsOf}
 use Rattle.megaco.specs.Items.{propertyItems}
 use Rattle.items.proofs.OneLaws.{property-one}
-use Rattle.items.proofs.ListLaws.{judgeAll, stands, property-starts, all-none, all-wrong, all-last, all-more}
+use Rattle.items.proofs.ListLaws.{judgeAll, itemsLeft, stands, property-starts, all-none, all-wrong, all-last, all-more}
 use Rattle.items.proofs.property_items.Statement.{statement}
 use Rattle.items.proofs.property_items.Tie as tie
 
 abbrev Inv-loop : tie.InvT-loop
 Inv-loop s at k i₀ n₀ seen₀ vs₀ i n seen vs =
-    propertyItems k (itemsOf 6 s at) false vs₀ ≡ judgeAll (propertyItems k) stands (listOf (itemOf (itemsOf 5 s) s) (itemEnd 5 s) s (length s + 1 - n) i) seen vs
+    propertyItems k (itemsOf 6 s at) false vs₀ ≡ judgeAll (propertyItems k) stands (itemsLeft (itemsOf 5 s) 5 s n i) seen vs
 
 abbrev μ-loop : tie.MeasureT-loop
 μ-loop s at k i₀ n₀ seen₀ vs₀ i n seen vs = length s + 1 - n

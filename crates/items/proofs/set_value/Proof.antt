@@ -1,5 +1,5 @@
 use borrow.Author.Needs.{needs}
-use Rattle.items.proofs.OneLaws.{set-none, set-mode, set-state}
+use Rattle.items.proofs.CallLaws.{set-none, set-mode, set-state}
 use Rattle.items.proofs.set_value.Statement.{statement}
 use Rattle.items.proofs.set_value.Tie as tie
 

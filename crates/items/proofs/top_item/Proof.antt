@@ -1,5 +1,5 @@
 use borrow.Author.Needs.{needs}
-use Rattle.base.specs.Pick.{picks}
+use Rattle.items.proofs.CallLaws.{judged-right, judged-wrong, code-by}
 use Rattle.items.specs.Judging.{topBy}
 use Rattle.items.proofs.top_item.Statement.{statement}
 use Rattle.items.proofs.top_item.Tie as tie
@@ -9,8 +9,7 @@ top-item-spec =
     tie.close
     (tie.spec
     (λ c κs. search needs)
-    (λ c. unfold topBy in search picks)
     (λ c κs. search needs)
-    (λ c. unfold topBy in search picks)
-    (λ c. unfold topBy in search picks)
-    (λ c. unfold topBy in search picks))
+    (λ c κs. search needs)
+    (λ c. unfold topBy in search (judged-right, code-by))
+    (λ c. unfold topBy in search (judged-wrong, code-by)))

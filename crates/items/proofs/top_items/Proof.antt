@@ -3,16 +3,16 @@ use Prim.Native.Nat.{_+_, _-_}
 use mathlib.Core.Path.{_≡_}
 use mathlib.Core.Bool.{false}
 use lib.ListN.{length}
-use Rattle.syntax.specs.Extraction.{listOf, itemOf, itemEnd, itemsOf}
+use Rattle.syntax.specs.Extraction.{itemsOf}
 use Rattle.megaco.specs.Items.{topItems}
 use Rattle.items.proofs.OneLaws.{top-one}
-use Rattle.items.proofs.ListLaws.{judgeAll, stands, top-starts, all-none, all-wrong, all-last, all-more}
+use Rattle.items.proofs.ListLaws.{judgeAll, itemsLeft, stands, top-starts, all-none, all-wrong, all-last, all-more}
 use Rattle.items.proofs.top_items.Statement.{statement}
 use Rattle.items.proofs.top_items.Tie as tie
 
 abbrev Inv-loop : tie.InvT-loop
 Inv-loop s at i₀ n₀ seen₀ vs₀ i n seen vs =
-    topItems (itemsOf 8 s at) false vs₀ ≡ judgeAll topItems stands (listOf (itemOf (itemsOf 7 s) s) (itemEnd 7 s) s (length s + 1 - n) i) seen vs
+    topItems (itemsOf 8 s at) false vs₀ ≡ judgeAll topItems stands (itemsLeft (itemsOf 7 s) 7 s n i) seen vs
 
 abbrev μ-loop : tie.MeasureT-loop
 μ-loop s at i₀ n₀ seen₀ vs₀ i n seen vs = length s + 1 - n

@@ -1,0 +1,98 @@
+-- What the calls and the arms of a function tell of its result, in the form in which `search` uses it.
+use Prim.Native.Nat.{ℕ}
+use mathlib.Core.Path.{_≡_}
+use mathlib.Core.Bool.{Bool, true, false}
+use mathlib.Core.List.{List}
+use mathlib.Core.Option.{some}
+use borrow.Author.Tests.{ne-eqb}
+use Rattle.base.specs.Pick.{pick}
+use Rattle.base.specs.Lists.{isAt}
+use Rattle.megaco.specs.Bytes.{comma}
+use Rattle.megaco.specs.Tree.{plain, ItemOf}
+use Rattle.megaco.specs.Items.{modeGiven, stateGiven, propertyToken, valueGiven, setValue, propertyItems, topItems, unchanged, judgeItems}
+use Rattle.megaco.specs.declared.Parsed.the-variants.{Next, Fault}
+use Rattle.megaco.specs.declared.Token.{Token}
+use Rattle.megaco.specs.declared.Given.{Given}
+use Rattle.megaco.specs.declared.Given.the-variants.{Keep, To}
+use Rattle.megaco.specs.declared.Judged.{Judged}
+use Rattle.megaco.specs.declared.Judged.the-variants.{Wrong, Right}
+use Rattle.megaco.specs.declared.Kind.{Kind}
+use Rattle.megaco.specs.declared.Kind.the-variants.{InControl, InState}
+use Rattle.megaco.specs.declared.Values.{Values}
+use Rattle.syntax.specs.Extraction.{pastSign, bracesEnd, itemsOf}
+use Rattle.parts.specs.declared.ItemPlaces.{ItemPlaces}
+use Rattle.parts.specs.declared.CommandPlaces.{CommandPlaces}
+use Rattle.parts.specs.Found.{itemsFrom}
+use Rattle.items.specs.Judging.{calledBy, valueBy, nextOf, itemCode, judgedBy, kindOf}
+
+-- ---- values
+
+module _ (k : Kind) (w : List ℕ) (r : Given) where
+  pub plain-mode : k ≡ InControl → r ≡ modeGiven w → r ≡ valueGiven k (some (plain w))
+  unfolding valueGiven
+  plain-mode h e = rw h e
+
+  pub plain-state : k ≡ InState → r ≡ stateGiven w → r ≡ valueGiven k (some (plain w))
+  unfolding valueGiven
+  plain-state h e = rw h e
+
+module _ (k : Kind) (g : Given) (vs : Values) where
+  pub set-none : g ≡ Keep → Wrong 449 ≡ setValue k g vs
+  unfolding setValue
+  set-none e = rw e
+
+  pub set-mode : (x : ℕ) → g ≡ To x → k ≡ InControl → Right (record { mode = g; state = vs .state }) ≡ setValue k g vs
+  unfolding setValue
+  set-mode x e h = rw (e, h)
+
+  pub set-state : (x : ℕ) → g ≡ To x → k ≡ InState → Right (record { mode = vs .mode; state = g }) ≡ setValue k g vs
+  unfolding setValue
+  set-state x e h = rw (e, h)
+
+-- ---- what calls tell
+
+module _ (c code : ℕ) (b r g : Bool) (e : c ≡ itemCode code b r g) (y : Judged) where
+  pub judged-right : (j : Judged) → c ≡ 0 → j ≡ y → j ≡ judgedBy (itemCode code b r g) y
+  unfolding judgedBy pick
+  judged-right j z h = rw (← e, z) h
+
+  pub judged-wrong : (c ≡ 0 → ⊥) → Wrong c ≡ judgedBy (itemCode code b r g) y
+  unfolding judgedBy pick
+  judged-wrong n = rw (← e, ne-eqb c 0 n)
+
+pub code-by : (c code : ℕ) (b x r g : Bool) → x ≡ b → c ≡ itemCode code x r g → c ≡ itemCode code b r g
+code-by c code b x r g e h = rw (← e) h
+
+module _ (s : List ℕ) (p : ItemPlaces) (k : Kind) where
+  pub called-token : (t : Token) (x : Bool) → t ≡ propertyToken k → x ≡ calledBy t s p → x ≡ calledBy (propertyToken k) s p
+  called-token t x e h = rw (← e) h
+
+  pub set-by : (g : Given) (vs : Values) (r : Judged) → g ≡ valueBy k s p → r ≡ setValue k g vs → r ≡ setValue k (valueBy k s p) vs
+  set-by g vs r e h = rw (← e) h
+
+pub inside-kind : {A : Type 0} (c : Bool) (k : Kind) (is : List (ItemOf A)) (seen : Bool) (vs : Values) (r : Judged) → k ≡ kindOf c → r ≡ propertyItems k is seen vs → r ≡ propertyItems (kindOf c) is seen vs
+inside-kind c k is seen vs r e h = rw (← e) h
+
+module _ (k : ℕ) (s : List ℕ) (p : ItemPlaces) (e : ℕ) (x : Bool) (d : e ≡ bracesEnd k s (p .value .end)) (g : x ≡ isAt s e comma) where
+  pub next-one : (u : ℕ) → x ≡ true → u ≡ pastSign comma s e → Next u ≡ nextOf k s p
+  unfolding nextOf pick
+  next-one u t h = rw (← d, ← g, t, h)
+
+  pub next-none : x ≡ false → Fault ≡ nextOf k s p
+  unfolding nextOf pick
+  next-none f = rw (← d, ← g, f)
+
+-- ---- a command's items
+
+module _ (s : List ℕ) (p : CommandPlaces) (subtracts : Bool) where
+  pub judge-subtract : p .braces ≡ true → subtracts ≡ true → Wrong 447 ≡ judgeItems subtracts (itemsFrom s p)
+  unfolding judgeItems itemsFrom pick
+  judge-subtract b t = rw (b, t)
+
+  pub judge-all : (r : Judged) → p .braces ≡ true → subtracts ≡ false → r ≡ topItems (itemsOf 8 s (p .inside)) false unchanged → r ≡ judgeItems subtracts (itemsFrom s p)
+  unfolding judgeItems itemsFrom pick
+  judge-all r b f e = rw (b, f) e
+
+  pub judge-none : p .braces ≡ false → Right unchanged ≡ judgeItems subtracts (itemsFrom s p)
+  unfolding judgeItems itemsFrom pick
+  judge-none b = rw b
