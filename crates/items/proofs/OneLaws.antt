@@ -21,12 +21,7 @@ use Rattle.megaco.specs.declared.Values.{Values}
 use Rattle.syntax.specs.Extraction.{itemOf, itemsOf}
 use Rattle.parts.specs.declared.ValuePlaces.{ValuePlaces}
 use Rattle.parts.specs.declared.ItemPlaces.{ItemPlaces}
-<<<<<<< HEAD
-use Rattle.parts.specs.declared.CommandPlaces.{CommandPlaces}
-use Rattle.parts.specs.Found.{inQuotes, bytesOf, valueFrom, OfItem, itemFrom, itemsFrom}
-=======
 use Rattle.parts.specs.Found.{inQuotes, bytesOf, valueFrom, OfItem, itemFrom}
->>>>>>> items
 use Rattle.parts.proofs.PlaceLaws.{item-is}
 use Rattle.items.specs.declared.Descriptors.{Descriptors}
 use Rattle.items.specs.Judging.{calledBy, valueBy, itemCode, judgedBy, descriptorShapeBy, propertyShapeBy, propertyBy, calledIn, kindOf, stoodAfter, mediaBy, topBy}

@@ -5,13 +5,8 @@ ghost use mathlib.Core.Option.{some};
 ghost use Rattle.megaco.specs.Tree.{plain};
 ghost use Rattle.megaco.specs.Items.{modeGiven, stateGiven, propertyToken, valueGiven, setValue, propertyItems, mediaItems, topItems, judgeItems};
 ghost use Rattle.syntax.specs.Extraction.{itemsOf};
-<<<<<<< HEAD
-ghost use Rattle.parts.specs.Found.{itemsFrom};
-ghost use Rattle.items.specs.Judging.{Lies, calledBy, calledIn, kindOf, stoodAfter, valueBy, nextOf, propertyBy, mediaBy, topBy};
-=======
 ghost use Rattle.parts.specs.Found.{itemsFrom};
 ghost use Rattle.items.specs.Judging.{Lies, calledBy, itemCode, calledIn, kindOf, stoodAfter, valueBy, nextOf, propertyBy, mediaBy, topBy};
->>>>>>> items
 use megaco::Given;
 use megaco::Judged;
 use megaco::Kind;
