@@ -1,3 +1,4 @@
 pub mod LineLaws
 pub mod EachLaws
 pub mod PartLaws
+pub mod SessionLaws

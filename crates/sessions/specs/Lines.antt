@@ -1,5 +1,7 @@
 -- The lines of the listing program's input (document 01, 'Sessions to check').
 use Prim.Native.Nat.{ℕ, _+_}
+use mathlib.Core.Path.{_≡_}
+use mathlib.Core.Bool.{false}
 use mathlib.Core.List.{List, [], _∷_}
 use lib.ListN.{length, drop}
 use lib.Dec.{eqb}
@@ -20,6 +22,11 @@ onFirst b (l ∷ ls) = (b ∷ l) ∷ ls
 unfoldable pub linesOf : List ℕ → List (List ℕ)
 linesOf [] = []
 linesOf (b ∷ s) = let r = linesOf s in pick (eqb b lineEnd) ([] ∷ r) (onFirst b r)
+
+-- bytes of a line that has not ended
+pub data Unended : List ℕ → Type 0 where
+  nothing : Unended []
+  byte : {b : ℕ} {s : List ℕ} → eqb b lineEnd ≡ false → Unended s → Unended (b ∷ s)
 
 -- a chunk's bytes from a place on that belong to the line there
 abbrev pub lineFrom : List ℕ → ℕ → List ℕ

@@ -1,0 +1,139 @@
+-- What is printed for a chunk of input is what the session prints for it, wherever the input is cut.
+use Prim.Native.Nat.{ℕ, zero, suc, _+_, _-_, _≤_, _<_, min, max}
+use mathlib.Core.Path.{_≡_, refl, sym, ap, _∙_}
+use mathlib.Core.Bool.{Bool, true, false, not, _||_}
+use mathlib.Core.List.{List, [], _∷_, _++_, append-assoc, append-nil}
+use native.Mathlib.Omega.{arith}
+use lib.ListN.{length, take, drop, replicate, length-append, length-take, drop-of-length-le}
+use lib.Seq.{take-all, take-nil}
+use lib.Dec.{eqb, ltb, leb}
+use borrow.Author.Tests.{lt-ltb, le-ltb, ne-eqb, leb-true, leb-false}
+use Rattle.base.specs.Pick.{pick}
+use Rattle.base.specs.Bytes.{put, _then_}
+use Rattle.base.specs.Out.{Appended}
+use Rattle.base.proofs.OutLaws.{none, same-length-by}
+use Rattle.base.proofs.PickLaws.{pick-ind}
+use Rattle.base.proofs.TextLaws.{length-then, none-then, length-decimal}
+use Rattle.laws.specs.Bounds.{call-bounded}
+use Rattle.megaco.specs.Call.{Called, written, replied, taken, call}
+use Rattle.sessions.specs.Lines.{lineEnd, linesOf, Unended, nothing, byte, lineFrom, lineEndAt}
+use Rattle.sessions.specs.Listing.{refusedText}
+use Rattle.sessions.specs.Session.{ownMid, answered, answerText, sessionText, restText, lineRoom, answerRoom, Answers, Holds, Turned}
+use Rattle.sessions.proofs.LineLaws.{unended-before, unended-append, unended-take, fronted, lines-fronted, firstOf, othersOf, fronted-is, lines-ended, chunk-ended, chunk-open}
+
+-- ---- a line that is too long
+
+-- messages of over 4,096 bytes are answered alike
+long-alike : (m n t : List ℕ) → 4096 < length m → 4096 < length n → answered m t ≡ answered n t
+unfolding answered call pick
+long-alike m n t h k =
+    rw (ne-eqb (length m) 0 (omega arith), lt-ltb 4096 (length m) h, ne-eqb (length n) 0 (omega arith), lt-ltb 4096 (length n) k)
+
+long-fronts : (h g : List ℕ) (ls : List (List ℕ)) (t : List ℕ) → 4096 < length h → 4096 < length g → sessionText (fronted h ls) t ≡ sessionText (fronted g ls) t
+unfolding sessionText
+long-fronts [] g ls t p q = absurd (omega arith)
+long-fronts (b ∷ h) [] ls t p q = absurd (omega arith)
+long-fronts (b ∷ h) (d ∷ g) ls t p q =
+    rw (
+      fronted-is b h ls,
+      fronted-is d g ls,
+      long-alike ((b ∷ h) ++ firstOf ls) ((d ∷ g) ++ firstOf ls) t
+          (omega (arith, length-append h (firstOf ls))) (omega (arith, length-append g (firstOf ls))),
+    )
+
+-- of a line the first 4,097 bytes are enough
+pub rest-cut : (k : ℕ) (h t s : List ℕ) → 4096 < k → Unended h → restText h t s ≡ restText (take k h) t s
+unfolding restText
+rest-cut k h t s l u = by (leb (length h) k) refl
+  where
+    by : (x : Bool) → leb (length h) k ≡ x → sessionText (linesOf (h ++ s)) t ≡ sessionText (linesOf (take k h ++ s)) t
+    by true e = rw (take-all k h (leb-true (length h) k e))
+    by false e =
+        let n : k < length h = leb-false (length h) k e in
+        rw (lines-fronted u s, lines-fronted (unended-take k u) s) (long-fronts h (take k h) (linesOf s) t (omega arith) (omega (arith, length-take k h)))
+
+-- ---- a turn: the line at a place of a chunk, its first bytes being held
+
+-- the bytes held after a part of the line is taken
+held-after : (o : List ℕ) (at : ℕ) (bs : List ℕ) (r : ℕ) → at ≤ length o → r ≡ min (at + length bs) (length o) → take r (put o at bs) ≡ take (length o) (take at o ++ bs)
+unfolding put
+held-after [] at bs r h e = take-nil r
+held-after (y ∷ o) zero [] r h e = let z : r ≡ 0 = omega arith in rw z
+held-after (y ∷ o) zero (b ∷ bs) r h e =
+    let q : ℕ = min (0 + length bs) (length o) in
+    let z : r ≡ suc q = omega arith in
+    rw z (ap (λ (l : List ℕ). b ∷ l) (held-after o zero bs q (omega arith) refl))
+held-after (y ∷ o) (suc at) bs r h e =
+    let q : ℕ = min (at + length bs) (length o) in
+    let z : r ≡ suc q = omega arith in
+    rw z (ap (λ (l : List ℕ). y ∷ l) (held-after o at bs q (omega arith) refl))
+
+module _ (line : List ℕ) (held : ℕ) (hold : Holds line held) (g : List ℕ) (line′ : List ℕ) (h : ℕ) (took : Appended line held g line′ h) where
+  pub held-is : take h line′ ≡ take (length line) (take held line ++ g)
+  held-is = rw (took .text) (held-after line held g h (omega (arith, hold .room, hold .within)) (omega (arith, took .next, hold .room, hold .within)))
+
+  pub holds-on : Unended g → Holds line′ h
+  holds-on u =
+      record {
+        room = same-length-by _ _ _ _ _ took ∙ hold .room;
+        within = omega (arith, took .next, hold .room, hold .within);
+        unended = rw held-is (unended-take (length line) (unended-append (hold .unended) u));
+      }
+
+  pub rest-part : Unended g → (t s : List ℕ) → restText (take held line) t (g ++ s) ≡ restText (take h line′) t s
+  unfolding restText
+  rest-part u t s = rw (← append-assoc, held-is) (rest-cut (length line) (take held line ++ g) t s (omega (arith, hold .room)) (unended-append (hold .unended) u))
+
+rest-ended : (m t s : List ℕ) → Unended m → restText m t (lineEnd ∷ s) ≡ answerText (answered m t) then restText [] (answered m t .table) s
+unfolding restText sessionText
+rest-ended m t s u = rw (lines-ended u s)
+
+-- a reply or `refused n`, with its line end, is no longer than the buffer
+refusal-small : (m t own o : List ℕ) → call m t own o .refusal ≤ 4
+unfolding call taken replied written
+refusal-small m t own o =
+    pick-ind small _ _ _ (λ e. omega arith) λ a.
+    pick-ind small _ _ _ (λ e. omega arith) λ b.
+    pick-ind small _ _ _ (λ e. omega arith) λ d.
+    pick-ind small _ _ _ (λ e. omega arith) (λ e. omega arith)
+  where
+    small : Called → Type 0
+    small c = c .refusal ≤ 4
+
+pub answer-fits : (m t : List ℕ) → length (answerText (answered m t)) ≤ answerRoom
+unfolding answered answerText refusedText
+answer-fits m t =
+    let c = call m t ownMid (replicate 16640 0) in
+    pick-ind (λ l. length l ≤ answerRoom) (eqb (c .refusal) 0) (take (c .size) (c .reply) then (lineEnd ∷ [])) (refusedText (c .refusal))
+    (λ e. simp (length-then, length-take) (omega (arith, call-bounded m t ownMid (replicate 16640 0) .fits)))
+    (λ e. simp length-then (omega (arith, length-decimal (c .refusal) (omega (arith, refusal-small m t ownMid (replicate 16640 0))))))
+
+module _ (s : List ℕ) (from e : ℕ) (is : e ≡ lineEndAt s from) (line : List ℕ) (held : ℕ) (hold : Holds line held) (line′ : List ℕ) (h : ℕ)
+    (took : Appended line held (lineFrom s from) line′ h) (t o : List ℕ) where
+  pub turn-ended : (m t′ o′ : List ℕ) (n : ℕ) → from < length s → e < length s → answerRoom ≤ length o → m ≡ take h line′ → Answers m t o t′ o′ n
+      → Turned s from line held t o line′ t′ o′ (e + 1) 0 n
+  turn-ended m t′ o′ n b l w q a =
+      let u = unended-before (drop from s) in
+      let on : Holds line′ h = holds-on line held hold (lineFrom s from) line′ h took u in
+      record {
+        on = omega arith;
+        holds = record { room = on .room; within = omega arith; unended = nothing };
+        said = answerText (answered m t);
+        put = a .put;
+        fits = omega (arith, answer-fits m t);
+        rest = λ later.
+            rw (chunk-ended s from e is l, append-assoc, a .table, q)
+            (rest-part line held hold (lineFrom s from) line′ h took u t (lineEnd ∷ drop (e + 1) s ++ later) ∙ rest-ended (take h line′) t _ (on .unended));
+      }
+
+  pub turn-open : from < length s → length s ≤ e → Turned s from line held t o line′ t o e h 0
+  turn-open b l =
+      let u = unended-before (drop from s) in
+      record {
+        on = omega arith;
+        holds = holds-on line held hold (lineFrom s from) line′ h took u;
+        said = [];
+        put = none o 0;
+        fits = omega arith;
+        rest = λ later. rw (drop-of-length-le s l, none-then, chunk-open s from e is l) (rest-part line held hold (lineFrom s from) line′ h took u t later);
+      }
