@@ -2,3 +2,4 @@ pub mod LineLaws
 pub mod EachLaws
 pub mod PartLaws
 pub mod SessionLaws
+pub mod FitLaws
