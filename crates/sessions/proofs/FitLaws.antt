@@ -74,7 +74,7 @@ unfolding sound
 records-of-sound t s =
     and-eq-true-iff
     (eqb (length t) words && every (λ w. leb w contexts) (contextWords t) && every isPropertyWord (propertyWords t)
-      && absentAreZero (ephemeralContexts t) (ephemeralProperties t))
+    && absentAreZero (ephemeralContexts t) (ephemeralProperties t))
     (recordsAreSound (contextWords t) 1 (recordWords t))
     .0
     s

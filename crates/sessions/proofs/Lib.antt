@@ -3,3 +3,4 @@ pub mod EachLaws
 pub mod PartLaws
 pub mod SessionLaws
 pub mod FitLaws
+pub mod AnswerLaws

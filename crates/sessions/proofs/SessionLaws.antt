@@ -17,8 +17,8 @@ use Rattle.base.proofs.TextLaws.{length-then, none-then, length-decimal}
 use Rattle.laws.specs.Bounds.{call-bounded}
 use Rattle.megaco.specs.Call.{Called, written, replied, taken, call}
 use Rattle.sessions.specs.Lines.{lineEnd, linesOf, Unended, nothing, byte, lineFrom, lineEndAt}
-use Rattle.sessions.specs.Listing.{refusedText}
-use Rattle.sessions.specs.Session.{ownMid, answered, answerText, sessionText, restText, lineRoom, answerRoom, Answers, Holds, Turned}
+use Rattle.sessions.specs.Listing.{reportText, refusedText}
+use Rattle.sessions.specs.Session.{ownMid, answered, answerText, sessionText, restText, lineRoom, answerRoom, Answers, Holds, Turned, Finished}
 use Rattle.sessions.proofs.LineLaws.{unended-before, unended-append, unended-take, fronted, lines-fronted, firstOf, othersOf, fronted-is, lines-ended, chunk-ended, chunk-open}
 
 -- ---- a line that is too long
@@ -137,3 +137,24 @@ module _ (s : List ℕ) (from e : ℕ) (is : e ≡ lineEndAt s from) (line : Lis
         fits = omega arith;
         rest = λ later. rw (drop-of-length-le s l, none-then, chunk-open s from e is l) (rest-part line held hold (lineFrom s from) line′ h took u t later);
       }
+
+-- ---- the end of the input
+
+rest-last : (m t : List ℕ) → Unended m → 0 < length m → restText m t [] ≡ answerText (answered m t) then reportText (answered m t .table)
+unfolding restText sessionText linesOf
+rest-last [] t u l = absurd (omega arith)
+rest-last (b ∷ h) t u l = rw (lines-fronted u [], fronted-is b h [], append-nil)
+
+pub finish-none : (line t o : List ℕ) → Finished line 0 t o t o 0
+unfolding restText sessionText linesOf
+finish-none line t o = record { said = []; put = none o 0; fits = omega arith; rest = sym (none-then _) }
+
+pub finish-last : (line : List ℕ) (held : ℕ) (m t o t′ o′ : List ℕ) (n : ℕ) → Holds line held → 0 < held → answerRoom ≤ length o → m ≡ take held line
+    → Answers m t o t′ o′ n → Finished line held t o t′ o′ n
+finish-last line held m t o t′ o′ n hold h w q a =
+    record {
+      said = answerText (answered m t);
+      put = a .put;
+      fits = omega (arith, answer-fits m t);
+      rest = rw (a .table, q) (rest-last (take held line) t (hold .unended) (omega (arith, length-take held line, hold .room)));
+    }

@@ -71,3 +71,10 @@ pub record Turned (s : List ℕ) (from : ℕ) (line : List ℕ) (held : ℕ) (t 
   pub put : Appended o 0 said o′ size
   pub fits : length said ≤ length o
   pub rest : (later : List ℕ) → restText (take held line) t (drop from s ++ later) ≡ said then restText (take held′ line′) t′ (drop next s ++ later)
+
+-- the input has ended: `said` is to be printed for a line that is still held, and then the contexts
+pub record Finished (line : List ℕ) (held : ℕ) (t o t′ o′ : List ℕ) (size : ℕ) : Type 0 where
+  pub said : List ℕ
+  pub put : Appended o 0 said o′ size
+  pub fits : length said ≤ length o
+  pub rest : restText (take held line) t [] ≡ said then reportText t′

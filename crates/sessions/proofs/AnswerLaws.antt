@@ -1,0 +1,70 @@
+-- The answer to a line, from the gateway's call with any buffer that is long enough.
+use Prim.Native.Nat.{ℕ, _≤_, _<_}
+use mathlib.Core.Path.{_≡_, refl, sym, ap, _∙_}
+use mathlib.Core.Logic.{_≢_}
+use mathlib.Core.Bool.{Bool, true, false, not, _||_}
+use mathlib.Core.List.{List, [], _∷_}
+use native.Mathlib.Omega.{arith}
+use lib.ListN.{length, take, replicate, length-replicate}
+use lib.Dec.{eqb, ltb}
+use borrow.Author.Tests.{le-ltb, eq-eqb, ne-eqb}
+use Rattle.base.specs.Pick.{pick}
+use Rattle.base.specs.Bytes.{put, _then_}
+use Rattle.base.specs.Out.{Appended}
+use Rattle.base.proofs.OutLaws.{none, take-put, _▸_, chosen-yes, chosen-no}
+use Rattle.laws.specs.Bounds.{replyTo, call-ind, call-bounded, refusal-keeps, call-taken}
+use Rattle.megaco.specs.Table.{sound}
+use Rattle.megaco.specs.Tokens.{isMid}
+use Rattle.megaco.specs.Call.{Called, turnedDown, written, replied, taken, call}
+use Rattle.sessions.specs.Lines.{lineEnd}
+use Rattle.sessions.specs.Listing.{refusedText}
+use Rattle.sessions.specs.Session.{ownMid, answered, answerText, Answers}
+
+-- the refusal of one of four calls, chosen by three tests
+refusal-of : (x y z : Bool) (a b c d : Called)
+    → pick x a (pick y b (pick z c d)) .refusal ≡ pick x (a .refusal) (pick y (b .refusal) (pick z (c .refusal) (d .refusal)))
+unfolding pick
+refusal-of true y z a b c d = refl
+refusal-of false true z a b c d = refl
+refusal-of false false true a b c d = refl
+refusal-of false false false a b c d = refl
+
+-- what a call answers does not depend on the buffer, if that is long enough
+refusal-is : (m t own o : List ℕ) → 16640 ≤ length o
+    → call m t own o .refusal ≡ pick (not (sound t)) 2 (pick (not (isMid own)) 4 (pick (eqb (length m) 0 || ltb 4096 (length m)) 1 0))
+unfolding call taken replied written pick
+refusal-is m t own o h =
+    rw (le-ltb (length o) 16640 h)
+    (refusal-of (not (sound t)) (not (isMid own)) (eqb (length m) 0 || ltb 4096 (length m)) (turnedDown 2 t o) (turnedDown 4 t o) (turnedDown 1 t o) (taken m t own o))
+
+reply-is : (m t own o : List ℕ) → call m t own o .refusal ≡ 0 → call m t own o .reply ≡ put o 0 (replyTo m t own)
+unfolding taken replied written
+reply-is m t own o = call-ind (λ c. c .refusal ≡ 0 → c .reply ≡ put o 0 (replyTo m t own)) m t own o (λ n p h. absurd (omega arith)) (λ a b c d e h. refl)
+
+module _ (m t o : List ℕ) (room : 16640 ≤ length o) where
+  same-refusal : call m t ownMid o .refusal ≡ answered m t .refusal
+  unfolding answered
+  same-refusal = refusal-is m t ownMid o room ∙ sym (refusal-is m t ownMid (replicate 16640 0) (omega (arith, length-replicate {A = ℕ} 16640 0)))
+
+  -- a reply and a line end
+  pub answers-reply : (n : ℕ) (t′ o₁ o′ : List ℕ) (r : ℕ) → call m t ownMid o .refusal ≡ 0 → n ≡ call m t ownMid o .size → t′ ≡ call m t ownMid o .table
+      → o₁ ≡ call m t ownMid o .reply → Appended o₁ n (lineEnd ∷ []) o′ r → Answers m t o t′ o′ r
+  unfolding answered answerText
+  answers-reply n t′ o₁ o′ r e s x y f =
+      let z : answered m t .refusal ≡ 0 = sym same-refusal ∙ e in
+      let a = call-taken m t ownMid o e in
+      let b = call-taken m t ownMid (replicate 16640 0) z in
+      let g : Appended o 0 (replyTo m t ownMid) o₁ n =
+      record { text = y ∙ reply-is m t ownMid o e; next = omega (arith, a .size, call-bounded m t ownMid o .fits) } in
+      record { put = chosen-yes _ _ _ _ _ _ _ (eq-eqb _ _ z) (rw (b .whole) (g ▸ f)); table = x ∙ a .table ∙ sym (b .table) }
+
+  -- `refused n`
+  pub answers-refused : (n : ℕ) (t′ o₁ o′ : List ℕ) (r : ℕ) → call m t ownMid o .refusal ≡ n → 0 < n → t′ ≡ call m t ownMid o .table
+      → o₁ ≡ call m t ownMid o .reply → Appended o₁ 0 (refusedText n) o′ r → Answers m t o t′ o′ r
+  unfolding answered answerText
+  answers-refused n t′ o₁ o′ r e h x y f =
+      let z : call m t ownMid (replicate 16640 0) .refusal ≡ n = sym same-refusal ∙ e in
+      let a = refusal-keeps m t ownMid o (λ q. omega arith) in
+      let k : call m t ownMid (replicate 16640 0) .refusal ≢ 0 = λ q. omega arith in
+      let b = refusal-keeps m t ownMid (replicate 16640 0) k in
+      record { put = chosen-no _ _ _ _ _ _ _ (ne-eqb _ _ k) (rw z (rw (y ∙ a .reply) at f)); table = x ∙ a .table ∙ sym (b .table) }
