@@ -108,21 +108,29 @@ answer-fits m t =
     (λ e. simp (length-then, length-take) (omega (arith, call-bounded m t ownMid (replicate 16640 0) .fits)))
     (λ e. simp length-then (omega (arith, length-decimal (c .refusal) (omega (arith, refusal-small m t ownMid (replicate 16640 0))))))
 
+-- no byte is held at the start
+pub holds-none : (line : List ℕ) → length line ≡ lineRoom → Holds line 0
+holds-none line e = record { room = e; within = omega arith; unended = nothing }
+
+-- the part of a slice from its start
+front : (n : ℕ) (l : List ℕ) → take (n - 0) l ≡ take n l
+front n l = let z : n - 0 ≡ n = omega arith in rw z
+
 module _ (s : List ℕ) (from e : ℕ) (is : e ≡ lineEndAt s from) (line : List ℕ) (held : ℕ) (hold : Holds line held) (line′ : List ℕ) (h : ℕ)
     (took : Appended line held (lineFrom s from) line′ h) (t o : List ℕ) where
-  pub turn-ended : (m t′ o′ : List ℕ) (n : ℕ) → from < length s → e < length s → answerRoom ≤ length o → m ≡ take h line′ → Answers m t o t′ o′ n
+  pub turn-ended : (t′ o′ : List ℕ) (n : ℕ) → from < length s → e < length s → answerRoom ≤ length o → Answers (take (h - 0) (drop 0 line′)) t o t′ o′ n
       → Turned s from line held t o line′ t′ o′ (e + 1) 0 n
-  turn-ended m t′ o′ n b l w q a =
+  turn-ended t′ o′ n b l w a =
       let u = unended-before (drop from s) in
       let on : Holds line′ h = holds-on line held hold (lineFrom s from) line′ h took u in
       record {
         on = omega arith;
-        holds = record { room = on .room; within = omega arith; unended = nothing };
-        said = answerText (answered m t);
+        holds = holds-none line′ (on .room);
+        said = answerText (answered (take (h - 0) line′) t);
         put = a .put;
-        fits = omega (arith, answer-fits m t);
-        rest = λ later.
-            rw (chunk-ended s from e is l, append-assoc, a .table, q)
+        fits = omega (arith, answer-fits (take (h - 0) line′) t);
+        rest =
+            λ later. rw (chunk-ended s from e is l, append-assoc, a .table, front h line′)
             (rest-part line held hold (lineFrom s from) line′ h took u t (lineEnd ∷ drop (e + 1) s ++ later) ∙ rest-ended (take h line′) t _ (on .unended));
       }
 
@@ -145,16 +153,16 @@ unfolding restText sessionText linesOf
 rest-last [] t u l = absurd (omega arith)
 rest-last (b ∷ h) t u l = rw (lines-fronted u [], fronted-is b h [], append-nil)
 
-pub finish-none : (line t o : List ℕ) → Finished line 0 t o t o 0
+pub finish-none : (line : List ℕ) (held : ℕ) (t o : List ℕ) → held ≡ 0 → Finished line held t o t o 0
 unfolding restText sessionText linesOf
-finish-none line t o = record { said = []; put = none o 0; fits = omega arith; rest = sym (none-then _) }
+finish-none line held t o e = record { said = []; put = none o 0; fits = omega arith; rest = rw (e, none-then) }
 
-pub finish-last : (line : List ℕ) (held : ℕ) (m t o t′ o′ : List ℕ) (n : ℕ) → Holds line held → 0 < held → answerRoom ≤ length o → m ≡ take held line
-    → Answers m t o t′ o′ n → Finished line held t o t′ o′ n
-finish-last line held m t o t′ o′ n hold h w q a =
+pub finish-last : (line : List ℕ) (held : ℕ) (t o t′ o′ : List ℕ) (n : ℕ) → Holds line held → (held ≡ 0 → ⊥) → answerRoom ≤ length o
+    → Answers (take (held - 0) (drop 0 line)) t o t′ o′ n → Finished line held t o t′ o′ n
+finish-last line held t o t′ o′ n hold h w a =
     record {
-      said = answerText (answered m t);
+      said = answerText (answered (take (held - 0) line) t);
       put = a .put;
-      fits = omega (arith, answer-fits m t);
-      rest = rw (a .table, q) (rest-last (take held line) t (hold .unended) (omega (arith, length-take held line, hold .room)));
+      fits = omega (arith, answer-fits (take (held - 0) line) t);
+      rest = rw (a .table, front held line) (rest-last (take held line) t (hold .unended) (omega (arith, length-take held line, hold .room)));
     }
