@@ -11,14 +11,16 @@ use borrow.Author.Tests.{lt-ltb, le-ltb, ne-eqb, leb-true, leb-false}
 use Rattle.base.specs.Pick.{pick}
 use Rattle.base.specs.Bytes.{put, _then_}
 use Rattle.base.specs.Out.{Appended}
-use Rattle.base.proofs.OutLaws.{none, same-length-by}
+use Rattle.base.proofs.OutLaws.{none, take-put, same-length-by}
 use Rattle.base.proofs.PickLaws.{pick-ind}
 use Rattle.base.proofs.TextLaws.{length-then, none-then, length-decimal}
 use Rattle.laws.specs.Bounds.{call-bounded}
 use Rattle.megaco.specs.Call.{Called, written, replied, taken, call}
+use Rattle.megaco.specs.Table.{sound}
 use Rattle.sessions.specs.Lines.{lineEnd, linesOf, Unended, nothing, byte, lineFrom, lineEndAt}
 use Rattle.sessions.specs.Listing.{reportText, refusedText}
-use Rattle.sessions.specs.Session.{ownMid, answered, answerText, sessionText, restText, lineRoom, answerRoom, Answers, Holds, Turned, Finished}
+use Rattle.sessions.specs.Session.{ownMid, answered, answerText, sessionText, restText, lineRoom, answerRoom, Answers, Holds, Turned, Finished, freshTable, printedText, joined, Run, turn, read, end}
+use Rattle.sessions.proofs.FitLaws.{report-fits}
 use Rattle.sessions.proofs.LineLaws.{unended-before, unended-append, unended-take, fronted, lines-fronted, firstOf, othersOf, fronted-is, lines-ended, chunk-ended, chunk-open}
 
 -- ---- a line that is too long
@@ -166,3 +168,25 @@ finish-last line held t o t′ o′ n hold h w a =
       fits = omega (arith, answer-fits (take (held - 0) line) t);
       rest = rw (a .table, front held line) (rest-last (take held line) t (hold .unended) (omega (arith, length-take held line, hold .room)));
     }
+
+-- ---- a whole run
+
+-- what was put at the start of a buffer that is long enough stands there
+shown : (o x o′ : List ℕ) (n : ℕ) → Appended o 0 x o′ n → length x ≤ length o → take n o′ ≡ x
+shown o x o′ n f h = let e : n ≡ length x = omega (arith, f .next) in rw (f .text, e) (take-put o x h)
+
+-- what a run prints is what the session prints for the rest of the input, wherever that is cut
+run-prints : {line : List ℕ} {held : ℕ} {t s : List ℕ} {from : ℕ} {ss : List (List ℕ)} {x : List ℕ} → Run line held t s from ss x
+    → x ≡ restText (take held line) t (drop from s ++ joined ss)
+unfolding joined
+run-prints (turn a r) = rw (shown _ _ _ _ (a .put) (a .fits)) (ap (λ (y : List ℕ). a .said then y) (run-prints r) ∙ sym (a .rest _))
+run-prints {s = s} (read h r) = rw (drop-of-length-le s h) (run-prints r)
+run-prints {s = s} (end h a) = rw (shown _ _ _ _ (a .put) (a .fits), drop-of-length-le s h) (sym (a .rest))
+
+pub session-prints : (line : List ℕ) (ss : List (List ℕ)) (x : List ℕ) → Run line 0 freshTable [] 0 ss x → x ≡ printedText (joined ss)
+unfolding printedText
+session-prints line ss x r = run-prints r
+
+-- the contexts of a sound table are printed whole
+pub report-shown : (t o o′ : List ℕ) (n : ℕ) → sound t ≡ true → 8333 ≤ length o → Appended o 0 (reportText t) o′ n → take n o′ ≡ reportText t
+report-shown t o o′ n s h f = shown o (reportText t) o′ n f (omega (arith, report-fits t s))

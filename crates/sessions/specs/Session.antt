@@ -78,3 +78,18 @@ pub record Finished (line : List ℕ) (held : ℕ) (t o t′ o′ : List ℕ) (s
   pub put : Appended o 0 said o′ size
   pub fits : length said ≤ length o
   pub rest : restText (take held line) t [] ≡ said then reportText t′
+
+-- chunks one after another
+unfoldable pub joined : List (List ℕ) → List ℕ
+joined [] = []
+joined (s ∷ ss) = s ++ joined ss
+
+-- a run of the program from place `from` of a chunk s, with the chunks that are still to be read, and what it prints: turn after turn,
+-- chunk after chunk, a last line and the contexts
+pub data Run : (line : List ℕ) (held : ℕ) (t s : List ℕ) (from : ℕ) → List (List ℕ) → List ℕ → Type 0 where
+  turn : {line : List ℕ} {held : ℕ} {t s : List ℕ} {from : ℕ} {ss : List (List ℕ)} {x o line′ t′ o′ : List ℕ} {next held′ size : ℕ}
+      → Turned s from line held t o line′ t′ o′ next held′ size → Run line′ held′ t′ s next ss x → Run line held t s from ss (take size o′ then x)
+  read : {line : List ℕ} {held : ℕ} {t s : List ℕ} {from : ℕ} {s′ : List ℕ} {ss : List (List ℕ)} {x : List ℕ}
+      → length s ≤ from → Run line held t s′ 0 ss x → Run line held t s from (s′ ∷ ss) x
+  end : {line : List ℕ} {held : ℕ} {t s : List ℕ} {from : ℕ} {o t′ o′ : List ℕ} {size : ℕ}
+      → length s ≤ from → Finished line held t o t′ o′ size → Run line held t s from [] (take size o′ then reportText t′)
