@@ -3,29 +3,14 @@
 
 usage: tools/evaluate.py CALLS.jsonl [--rows N] [--longest BYTES] [--seed S] [--keep DIR]
 
-Takes N rows (default 300), of messages of at most BYTES bytes (default 200), so that every kind of row and every code and
-fault that the file has is among them. Each row is a theorem `holds row ≡ true`, proved by computation, in a crate `rows`
-that is written into a temporary repository beside copies of `base` and `megaco`. It stands outside the gate.
+Takes N rows (default 300), of messages of at most BYTES bytes (default 200), those first that show a code, a refusal, a
+report or a kind (by its first letter) that few before them show. Each row is a theorem `holds row ≡ true`, proved by
+computation, in a crate `rows` that is written into a temporary repository beside copies of `base` and `megaco`. The refusal,
+the whole table and the whole reply buffer, filled with 170 before the call, are compared. It stands outside the gate.
 """
-import argparse, collections, glob, json, os, random, re, shutil, subprocess, sys, tempfile
+import argparse, collections, json, os, random, re, shutil, subprocess, sys, tempfile
 
 ROOT = os.path.dirname(os.path.dirname(os.path.abspath(__file__)))
-
-
-def opened(crates):
-    """Every definition that stays shut, with the `use` line that brings it."""
-    uses, names = [], []
-    for crate in crates:
-        for path in sorted(glob.glob(f'{ROOT}/crates/{crate}/specs/*.antt')):
-            module = os.path.basename(path)[:-5]
-            found = re.findall(r'^\s*unfoldable pub (\S+)', open(path, encoding='utf-8').read(), re.M)
-            if found:
-                uses.append(f"use Rattle.{crate}.specs.{module}.{{{', '.join(found)}}}")
-                names += found
-    twice = [n for n, k in collections.Counter(names).items() if k > 1]
-    if twice:
-        sys.exit(f'declared twice: {twice}')
-    return uses, names
 
 
 def number_list(bs):
@@ -82,22 +67,22 @@ def main():
         shutil.rmtree(f'{work}/crates/{crate}/must-fail', ignore_errors=True)
     open(f'{work}/crates.txt', 'w').write('base:\nmegaco: base\nrows: megaco base\n')
     open(f'{work}/crates/rows/src/lib.rt', 'w').write('// Rows.\n')
-    uses, names = opened(('base', 'megaco'))
-    head = f'''use Prim.Native.Nat.{{ℕ}}
-use mathlib.Core.Path.{{_≡_, refl}}
-use mathlib.Core.Bool.{{Bool, true, false, _&&_}}
-use mathlib.Core.List.{{List, [], _∷_}}
-use lib.ListN.{{replicate, set, take}}
-use lib.Dec.{{eqb}}
-use Rattle.megaco.specs.Call.{{Called}}
-{chr(10).join(uses)}
+    head = '''use Prim.Native.Nat.{ℕ, _-_}
+use mathlib.Core.Path.{_≡_, refl}
+use mathlib.Core.Bool.{Bool, true, false, _&&_}
+use mathlib.Core.List.{List, [], _∷_, _++_}
+use lib.ListN.{length, replicate, set}
+use lib.Dec.{eqb}
+use Rattle.base.specs.Lists.{same}
+use Rattle.megaco.specs.Call.{Called, call}
+use Rattle.megaco.proofs.Opened.{opened}
 
-abbrev fits : Called → ℕ → List ℕ → List ℕ → Bool
-fits c n a u = eqb (c .refusal) n && same (take (c .size) (c .reply)) a && same (c .table) u
+abbrev fits : Called → ℕ → ℕ → List ℕ → List ℕ → Bool
+fits c b n a u = eqb (c .refusal) n && eqb (c .size) (length a) && same (c .reply) (a ++ replicate (b - length a) 170) && same (c .table) u
 
 unfoldable holds : List ℕ → List ℕ → List ℕ → ℕ → ℕ → List ℕ → List ℕ → Bool
-unfolding {' '.join(names)}
-holds m t own b n a u = fits (call m t own (replicate b 0)) n a u
+unfolding opened
+holds m t own b n a u = fits (call m t own (replicate b 170)) b n a u
 
 '''
     per = 25
@@ -108,7 +93,7 @@ holds m t own b n a u = fits (call m t own (replicate b 0)) n a u
         with open(f'{work}/crates/rows/specs/{module}.antt', 'w', encoding='utf-8') as f:
             f.write(head)
             for i, r in enumerate(taken[k:k + per]):
-                f.write(f'''-- {r['kind']}: {bytes.fromhex(r['message'])!r}
+                f.write(f'''-- {ascii(r['kind'])}: {bytes.fromhex(r['message'])!r}
 row{k + i} : holds {number_list(bytes.fromhex(r['message']))} {table(r['table_len'], r['table'])} {number_list(bytes.fromhex(r['own']))} {r['buf']} {r['refusal']} {number_list(bytes.fromhex(r['reply']))} {table(r['table_len'], r['after'])} ≡ true
 unfolding holds
 row{k + i} = refl
@@ -121,9 +106,10 @@ row{k + i} = refl
     out = subprocess.run(['rt', 'dev', 'rows'], cwd=work, env=dict(os.environ, RT_CUT='0'), capture_output=True, text=True)
     text = out.stdout + out.stderr
     bad = sorted(set(re.findall(r'error: `(row\d+)`', text) + re.findall(r'in `(row\d+)`', text)), key=lambda s: int(s[3:]))
+    limit = set(re.findall(r'in `(row\d+)`[^\n]*step limit', text) + re.findall(r'`(row\d+)`[^\n]*stopped at the step limit', text))
     for b in bad[:20]:
         r = taken[int(b[3:])]
-        print('DIFFERS', b, r['kind'], bytes.fromhex(r['message']), 'expected', r['refusal'], bytes.fromhex(r['reply']))
+        print('UNDECIDED (step limit)' if b in limit else 'DIFFERS', b, r['kind'], bytes.fromhex(r['message']), 'expected', r['refusal'], bytes.fromhex(r['reply']))
     ok = out.returncode == 0 and not bad
     if not ok and not bad:
         print(text[-3000:])

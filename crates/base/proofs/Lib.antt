@@ -1,3 +1,4 @@
+pub mod TestLaws
 pub mod PickLaws
 pub mod TextLaws
 pub mod OutLaws

@@ -1,8 +1,8 @@
 -- Small functions on lists of numbers: words of the table, bytes of a message.
-use Prim.Native.Nat.{ℕ, zero, suc, _+_, _-_}
-use mathlib.Core.Bool.{Bool, true, false, _&&_, _||_}
+use Prim.Native.Nat.{ℕ, _+_, _-_}
+use mathlib.Core.Bool.{Bool, true, false}
 use mathlib.Core.List.{List, [], _∷_}
-use lib.ListN.{length, getD, take, drop}
+use lib.ListN.{getD, take, drop}
 use lib.Dec.{eqb}
 use Rattle.base.specs.Pick.{pick}
 
@@ -42,7 +42,7 @@ behind b (x ∷ xs) = let r = behind b xs in pick (eqb x b) xs r
 unfoldable pub part : List ℕ → ℕ → ℕ → List ℕ
 part s a e = take (e - a) (drop a s)
 
--- the element at a place; past the end stands 0
+-- b stands at a place; past the end stands 0, which is no byte that is asked for
 unfoldable pub isAt : List ℕ → ℕ → ℕ → Bool
 isAt s at b = eqb (getD s at 0) b
 

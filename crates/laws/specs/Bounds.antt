@@ -9,7 +9,8 @@ use lib.Dec.{ltb, leb, eqb}
 use borrow.Author.Tests.{ltb-false, leb-true, eqb-false, not-false}
 use native.Mathlib.Omega.{arith}
 use Rattle.base.specs.Bytes.{_then_}
-use Rattle.base.proofs.PickLaws.{pick-ind, or-neither}
+use Rattle.base.proofs.PickLaws.{pick-ind}
+use Rattle.base.proofs.TestLaws.{or-neither}
 use Rattle.base.proofs.TextLaws.{length-then, length-decimal}
 use Rattle.base.proofs.OutLaws.{length-put, take-front, take-put, drop-put}
 use Rattle.megaco.specs.declared.Parsed.{Parsed}

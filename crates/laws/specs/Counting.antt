@@ -1,15 +1,16 @@
--- How many stand in a context.
-use Prim.Native.Nat.{ℕ, zero, suc, _+_, _≤_, _<_}
+-- How many stand in a context, and the lowest absent number.
+use Prim.Native.Nat.{ℕ, zero, suc, _+_, _<_}
 use mathlib.Core.Path.{_≡_, refl, sym, ap, _∙_}
 use mathlib.Core.Bool.{Bool, true, false}
 use mathlib.Core.List.{List, [], _∷_}
-use lib.ListN.{length, getD, set, take}
+use lib.ListN.{length, getD, set, take, length-set}
+use lib.Seq.{getD-set-same, getD-set-other}
 use lib.Dec.{eqb}
-use borrow.Author.Tests.{eq-eqb, ne-eqb}
+use borrow.Author.Tests.{eqb-true, eqb-false, eq-eqb, ne-eqb}
 use native.Mathlib.Omega.{arith}
 use Rattle.base.specs.Pick.{pick}
-use Rattle.base.specs.Lists.{count}
-use Rattle.megaco.specs.Table.{terminations, contextWords, members}
+use Rattle.base.specs.Lists.{count, lowestAbsent}
+use Rattle.megaco.specs.Table.{terminations, words, ctx, get, contextWords, members}
 
 -- 1 where a test holds
 abbrev pub one : Bool → ℕ
@@ -53,3 +54,49 @@ counted zero c i t h l e = absurd (omega arith)
 counted (suc k) c i [] h l e = absurd (omega arith)
 counted (suc k) c zero (x ∷ xs) h l e = rw (eq-eqb x c e) (omega arith)
 counted (suc k) c (suc i) (x ∷ xs) h l e = omega (arith, counted k c i xs (omega arith) (omega arith) e)
+
+-- ---- members of a context
+
+pub members-same : (c : ℕ) (t u : List ℕ) → length u ≡ length t → ((j : ℕ) → j < terminations → get u (ctx j) ≡ get t (ctx j)) → members c u ≡ members c t
+unfolding members contextWords
+members-same c t u l h = count-agree terminations c u t l (λ j b. ap (λ (z : ℕ). eqb z c) (h j b))
+
+-- a termination goes to x
+pub members-moved : (c i x : ℕ) (t u : List ℕ) → i < terminations → length t ≡ words → length u ≡ length t
+    → ((j : ℕ) → j < terminations → get u (ctx j) ≡ pick (eqb i j) x (get t (ctx j)))
+    → members c u + one (eqb (get t (ctx i)) c) ≡ members c t + one (eqb x c)
+unfolding members contextWords pick
+members-moved c i x t u b l k h =
+    let e : members c u ≡ count c (take terminations (set t i x)) =
+    count-agree terminations c u (set t i x) (k ∙ sym (length-set t i x)) (λ j d. ap (λ (z : ℕ). eqb z c) (h j d ∙ at j (eqb i j) refl)) in
+    omega (arith, e, count-set terminations c i x t b (omega arith))
+  where
+    at : (j : ℕ) (y : Bool) → eqb i j ≡ y → pick y x (getD t j 0) ≡ getD (set t i x) j 0
+    at j true e = rw (← eqb-true i j e) (sym (getD-set-same t i x 0 (omega arith)))
+    at j false e = sym (getD-set-other t i j x 0 (λ q. eqb-false i j e (sym q)))
+
+-- a termination that stands in c is a member
+pub member : (i : ℕ) (t : List ℕ) → i < terminations → length t ≡ words → 0 < members (get t (ctx i)) t
+unfolding members contextWords
+member i t h l = counted terminations (get t (ctx i)) i t h (omega arith) refl
+
+-- ---- the lowest absent number
+
+-- m, counted from n, is the number of a 0
+pub record Absent (l : List ℕ) (n m : ℕ) : Type 0 where
+  pub place : ℕ
+  pub within : place < length l
+  pub number : m ≡ n + place
+  pub empty : getD l place 0 ≡ 0
+
+pub lowest : (n : ℕ) (l : List ℕ) → 0 < lowestAbsent n l → Absent l n (lowestAbsent n l)
+unfolding lowestAbsent pick
+lowest n [] h = absurd (omega arith)
+lowest n (x ∷ xs) h = by (eqb x 0) refl (lowest (n + 1) xs) h
+  where
+    by : (b : Bool) → eqb x 0 ≡ b → (0 < lowestAbsent (n + 1) xs → Absent xs (n + 1) (lowestAbsent (n + 1) xs)) → 0 < pick b n (lowestAbsent (n + 1) xs)
+        → Absent (x ∷ xs) n (pick b n (lowestAbsent (n + 1) xs))
+    by true e r h = record { place = 0; within = omega arith; number = omega arith; empty = eqb-true x 0 e }
+    by false e r h =
+        let a = r h in
+        record { place = suc (a .place); within = omega arith; number = omega arith; empty = a .empty }

@@ -5,7 +5,7 @@ use mathlib.Core.Path.{_≡_, refl, sym, ap, _∙_}
 use mathlib.Core.Bool.{Bool, true, false, not, _&&_, _||_}
 use mathlib.Core.List.{List, [], _∷_}
 use lib.ListN.{length, replicate, set}
-use lib.Dec.{ltb, leb, eqb}
+use lib.Dec.{ltb, eqb}
 use borrow.Author.Tests.{le-ltb}
 use Rattle.base.specs.Pick.{pick}
 use Rattle.base.specs.Lists.{same}
@@ -14,10 +14,10 @@ use Rattle.megaco.specs.Tokens.{isMid}
 use Rattle.megaco.specs.Reading.{messageR}
 use Rattle.megaco.specs.Table.{sound}
 use Rattle.megaco.specs.Reply.{headerText}
-use Rattle.megaco.specs.Running.{Ran, runMessage}
-use Rattle.megaco.specs.Call.{Called, turnedDown, written, replied, taken, call}
-use Rattle.megaco.proofs.Tests.{and-true, or-false, same-is}
-use Rattle.megaco.proofs.Opened.{computed}
+use Rattle.megaco.specs.Running.{Ran, ran, runMessage}
+use Rattle.megaco.specs.Call.{written, replied, taken, call}
+use Rattle.base.proofs.TestLaws.{and-both, same-is}
+use Rattle.megaco.proofs.Opened.{opened}
 
 -- a table, a message, the reply to it and the table after it
 pub data Row : Type 0 where
@@ -70,6 +70,10 @@ examples =
 
 -- ---- the test of a row, and what it tells
 
+-- the table and the reply of a message that is taken
+computed : List ℕ → List ℕ → List ℕ → Ran
+computed m t own = let x = runMessage (messageR m) t in ran (x .table) (headerText own then x .text)
+
 fits : Ran → List ℕ → List ℕ → Bool
 fits x a u = same (x .table) u && same (x .text) a
 
@@ -92,7 +96,7 @@ Hold [] = Unit {0}
 Hold (r ∷ rs) = Answers r × Hold rs
 
 own-is : isMid own ≡ true
-unfolding computed
+unfolding opened
 own-is = refl
 
 not-true : (b : Bool) → not b ≡ true → b ≡ false
@@ -112,9 +116,9 @@ row-answers : (r : Row) → holds r ≡ true → Answers r
 unfolding holds admitted fits taken replied
 row-answers (row t m a u) e =
     λ o h.
-    let p = and-true (admitted t m) (fits (computed m t own) a u) e in
-    let q = and-true (sound t) (not (eqb (length m) 0 || ltb 4096 (length m))) (p .0) in
-    let r = and-true (same (computed m t own .table) u) (same (computed m t own .text) a) (p .1) in
+    let p = and-both (admitted t m) (fits (computed m t own) a u) e in
+    let q = and-both (sound t) (not (eqb (length m) 0 || ltb 4096 (length m))) (p .0) in
+    let r = and-both (same (computed m t own .table) u) (same (computed m t own .text) a) (p .1) in
     let x : computed m t own .table ≡ u = same-is (computed m t own .table) u (r .0) in
     let y : computed m t own .text ≡ a = same-is (computed m t own .text) a (r .1) in
     taken-is m t o h (q .0) (not-true _ (q .1))
@@ -125,11 +129,11 @@ rows-answer : (rs : List Row) → all-hold rs ≡ true → Hold rs
 unfolding all-hold
 rows-answer [] e = tt
 rows-answer (r ∷ rs) e =
-    let p = and-true (holds r) (all-hold rs) e in
+    let p = and-both (holds r) (all-hold rs) e in
     (row-answers r (p .0), rows-answer rs (p .1))
 
 examples-compute : all-hold examples ≡ true
-unfolding examples all-hold holds admitted fits computed
+unfolding examples all-hold holds admitted fits computed opened
 examples-compute = refl
 
 -- the fourteen examples

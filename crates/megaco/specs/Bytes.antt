@@ -1,8 +1,7 @@
 -- Bytes of the text encoding and their classes (Annex B.2).
 use Prim.Native.Nat.{ℕ, _-_}
-use mathlib.Core.Bool.{Bool, true, false, _&&_, _||_}
-use mathlib.Core.List.{List, [], _∷_, map}
-use lib.ListN.{getD}
+use mathlib.Core.Bool.{Bool, _&&_, _||_}
+use mathlib.Core.List.{List, [], _∷_}
 use lib.Dec.{leb, eqb}
 use Rattle.base.specs.Pick.{pick}
 use Rattle.megaco.specs.declared.Class.{Class}
@@ -75,6 +74,7 @@ isWord b = isLetter b || isDigit b || eqb b 0x5f
 unfoldable pub isName : ℕ → Bool
 isName b = isWord b || eqb b 0x2f || eqb b 0x2a || eqb b 0x24
 
+-- Annex B.2, `'` and `|` being single characters of it (docs/DECISIONS.md, D2 and D3):
 -- SafeChar = DIGIT / ALPHA / "+" / "-" / "&" / "!" / "_" / "/" / "'" / "?" / "@" / "^" / "`" / "~" / "*" / "$" / "\" / "(" / ")" / "%" / "|" / "."
 unfoldable pub isSafe : ℕ → Bool
 isSafe b =

@@ -1,5 +1,5 @@
 -- The items of a command (document 01, test 3): "Items in reading order, an item before those inside it, a name with `/` being unknown".
-use Prim.Native.Nat.{ℕ, _+_, _*_, _%_, _/_}
+use Prim.Native.Nat.{ℕ, _+_, _*_}
 use mathlib.Core.Bool.{Bool, true, false, not, _&&_, _||_}
 use mathlib.Core.List.{List, [], _∷_}
 use mathlib.Core.Option.{Option, none, some}
@@ -7,9 +7,8 @@ use Rattle.base.specs.Pick.{pick}
 use Rattle.megaco.specs.Keywords.{spells}
 use Rattle.megaco.specs.declared.Token.{Token}
 use Rattle.megaco.specs.declared.Token.the-variants.{MediaToken, LocalControlToken, TerminationStateToken, ModeToken, ServiceStatesToken, InactiveToken, SendonlyToken, RecvonlyToken, SendrecvToken, LoopbackToken, InSvcToken, OutOfSvcToken, TestToken}
-use Rattle.megaco.specs.Tree.{Value, plain, quoted, ItemOf, item, Item, Items}
+use Rattle.megaco.specs.Tree.{Value, plain, quoted, ItemOf, item, Items}
 use Rattle.megaco.specs.Table.{modeOf, stateOf}
-use Rattle.megaco.specs.declared.Op.the-variants.{Subtract}
 use Rattle.megaco.specs.declared.Given.{Given}
 use Rattle.megaco.specs.declared.Given.the-variants.{Keep, To}
 use Rattle.megaco.specs.declared.Judged.{Judged}

@@ -12,6 +12,7 @@ use Rattle.megaco.specs.declared.Token.the-variants.{MegacopToken, Trans
 pub data Forms : Type 0 where
   forms : (long short : List ℕ) → Forms
 
+-- Reply/P and Error/ER are written only, in their short form: see Reply
 unfoldable pub formsOf : Token → Forms
 formsOf MegacopToken = forms (text "MEGACO") (text "!")
 formsOf TransToken = forms (text "TRANSACTION") (text "T")

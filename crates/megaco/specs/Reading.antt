@@ -1,7 +1,7 @@
 -- Reading a message: bytes to tree (document 01, 'The text', in Annex B.2's order). Each reader takes the message and a position and gives
 -- the tree of the part that stands there with the place after it, white space included, or a fault.
 use Prim.Native.Nat.{ℕ, zero, suc, _+_, _-_}
-use mathlib.Core.Bool.{Bool, true, false, _&&_, _||_}
+use mathlib.Core.Bool.{Bool, _&&_, _||_}
 use mathlib.Core.List.{List, [], _∷_}
 use mathlib.Core.Option.{Option, none, some}
 use lib.ListN.{length, getD}
@@ -14,7 +14,7 @@ use Rattle.megaco.specs.Keywords.{spells}
 use Rattle.megaco.specs.declared.Token.{Token}
 use Rattle.megaco.specs.declared.Token.the-variants.{MegacopToken, TransToken, CtxToken, PriorityToken, EmergencyToken}
 use Rattle.megaco.specs.Tokens.{markAt, signAt, rowAt, wordAt, keywordAt, terminationAt, numberAt, valueAt, mIdAt}
-use Rattle.megaco.specs.Tree.{Value, plain, quoted, ItemOf, item, Item, Items, Command, command, Action, action, Transaction, transaction, Message, wellFormed, fault400, fault403, fault406}
+use Rattle.megaco.specs.Tree.{Value, plain, quoted, ItemOf, item, Item, Command, command, Action, action, Transaction, transaction, Message, wellFormed, fault400, fault403, fault406}
 use Rattle.megaco.specs.declared.Parsed.{Parsed}
 use Rattle.megaco.specs.declared.Parsed.the-variants.{Next, Fault}
 use Rattle.megaco.specs.declared.Number.{Number}
@@ -199,6 +199,7 @@ unfoldable pub elsewhere : Parsed → (ℕ → Message) → Message
 elsewhere (Next p) f = f p
 elsewhere Fault f = fault400
 
+-- a number that must stand outside a transaction's braces
 unfoldable pub numbered : Number → (ℕ → ℕ → Message) → Message
 numbered (Got v p) f = f v p
 numbered Bad f = fault400

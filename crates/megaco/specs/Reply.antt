@@ -1,5 +1,5 @@
 -- The reply: what was done, command by command, and its bytes (document 01, 'The reply').
-use Prim.Native.Nat.{ℕ, zero, suc}
+use Prim.Native.Nat.{ℕ}
 use mathlib.Core.Bool.{Bool, true, false}
 use mathlib.Core.List.{List, [], _∷_}
 use lib.ListN.{length}

@@ -1,6 +1,6 @@
--- Running a transaction (document 01, 'Running'): a list of steps, action starts and commands. An attempt looks at a few words, is judged by
--- them alone, and then changes the table.
-use Prim.Native.Nat.{ℕ, zero, suc, _+_, _*_, _-_, _/_, _%_}
+-- Running a transaction (document 01, 'Running'): a list of steps, action starts and commands. An attempt takes a small view of the table, is
+-- judged by it alone, and then writes a few words.
+use Prim.Native.Nat.{ℕ, _+_, _*_, _-_}
 use mathlib.Core.Bool.{Bool, true, false, not, _&&_, _||_}
 use mathlib.Core.List.{List, [], _∷_, _++_}
 use mathlib.Core.Option.{Option, none, some}
@@ -10,7 +10,7 @@ use Rattle.base.specs.Bytes.{text, _then_}
 use Rattle.megaco.specs.Keywords.{spells}
 use Rattle.megaco.specs.declared.Token.the-variants.{AddToken, ModifyToken, SubtractToken, MoveToken}
 use Rattle.megaco.specs.Tree.{Items, Command, command, Action, action, Transaction, transaction, Message, wellFormed, fault400, fault403, fault406}
-use Rattle.megaco.specs.Table.{Cell, prop, rec, Slot, ctx, cell, Write, write, get, apply, most, lineTerminations, contextWords, isEphemeral, exists, known, members, freeContext, freeEphemeral, stateOf, priorityOf, emergencyOf}
+use Rattle.megaco.specs.Table.{prop, rec, ctx, cell, Write, write, get, apply, most, lineTerminations, contextWords, isEphemeral, exists, known, members, freeContext, freeEphemeral, stateOf, priorityOf, emergencyOf}
 use Rattle.megaco.specs.Names.{inRange, nameOf, nameText}
 use Rattle.megaco.specs.Items.{update, judgeItems, given?}
 use Rattle.megaco.specs.Reply.{Report, tried, failed, standing, Acted, errorText, replyText, transactionText}
@@ -260,7 +260,7 @@ opOf false word =
 unfoldable pub barred : Op → Context → Bool
 barred op at = isNull at && not (isModify op)
 
--- "411: the context does not exist now .., or `$` not yet a number for Modify and Subtract"
+-- "411: the context does not exist now .., or `$` not yet a number for Modify and Subtract"; no command comes to run in `*`
 unfoldable pub lost : Op → Context → ℕ → Bool
 lost op Null held = false
 lost op (Numbered c) held = eqb held 0
@@ -333,10 +333,11 @@ pub record Start : Type 0 where
   pub acted : Acted
   pub going : Bool
 
--- "An action of properties alone reports" them; those of `$` "are given to the context when it comes to be"
+-- "An action of properties alone reports" them, as they are after setting
 unfoldable pub startReports : List Property → Bool → ℕ → List Report
 startReports ps alone r = pick alone (standing (setProperties ps r) ∷ []) []
 
+-- those of `$` "are given to the context when it comes to be": the record that it will have is kept with the action
 unfoldable pub startedBy : Context → List Property → Bool → ℕ → Result → Start
 startedBy c ps alone held (refused code) =
     record { writes = []; acted = record { at = c; given = newRecord; said = failed code ∷ [] }; going = false }
@@ -388,6 +389,7 @@ begin x t acts = state (apply (x .writes) t) (progress (x .going) (x .acted ∷ 
 unfoldable pub advance : Outcome → Acted → List Acted → State
 advance x a acts = state (x .table) (progress (x .going) (record { at = x .at; given = a .given; said = a .said ++ x .reports } ∷ acts))
 
+-- one step of a transaction that goes on; no command comes before the first action's start
 unfoldable pub proceed : Step → List ℕ → List Acted → State
 proceed (start c ps alone) t acts = begin (started c ps alone (seen (numberOf c) t .held)) t acts
 proceed (order c) t [] = state t (progress true [])

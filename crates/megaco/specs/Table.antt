@@ -1,6 +1,6 @@
 -- The lent table (document 01, 'The lent table'): words reached through slots, and when a table is sound.
-use Prim.Native.Nat.{ℕ, zero, suc, _+_, _*_, _-_, _/_, _%_, _≤_, _<_}
-use mathlib.Core.Bool.{Bool, true, false, not, _&&_, _||_}
+use Prim.Native.Nat.{ℕ, _+_, _*_, _-_, _/_, _%_}
+use mathlib.Core.Bool.{Bool, true, false, not, _&&_}
 use mathlib.Core.List.{List, [], _∷_}
 use lib.ListN.{length, getD, set, take, drop}
 use lib.Dec.{ltb, leb, eqb}
@@ -9,7 +9,7 @@ use Rattle.base.specs.Lists.{every, count, lowestAbsent}
 
 -- ---- sizes
 
--- the number of lines fitted; all other sizes follow from it
+-- the number of lines fitted; the number of terminations and of words follows from it
 abbrev pub lines : ℕ
 lines = 8
 

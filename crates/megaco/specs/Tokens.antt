@@ -1,7 +1,7 @@
 -- Words, numbers, values, names and the message identifier (document 01, 'The text'). Each reader takes the message and a position and
 -- finds the place after the part that stands there. White space is no matter of theirs.
 use Prim.Native.Nat.{ℕ, _+_, _*_, _-_}
-use mathlib.Core.Bool.{Bool, true, false, _&&_, _||_}
+use mathlib.Core.Bool.{Bool, false, _&&_, _||_}
 use mathlib.Core.List.{List, [], _∷_}
 use lib.ListN.{length, getD, drop}
 use lib.Dec.{ltb, leb, eqb}

@@ -1,0 +1,47 @@
+-- The grammar on a few messages, by computing what they read as: it admits the session's first line, and calls for each fault.
+use mathlib.Core.Path.{refl}
+use mathlib.Core.Bool.{true, false}
+use mathlib.Core.List.{[], _∷_}
+use mathlib.Core.Option.{none, some}
+use Rattle.base.specs.Bytes.{text}
+use Rattle.megaco.specs.Tree.{quoted, item, command, action, transaction}
+use Rattle.megaco.specs.declared.Context.the-variants.{Numbered, Choose}
+use Rattle.megaco.specs.declared.Property.the-variants.{Priority, Emergency}
+use Rattle.megaco.proofs.Opened.{opened}
+use Rattle.grammar.specs.Grammar.{megacoMessage}
+use Rattle.grammar.specs.Faults.{Fault403, Fault406}
+use Rattle.grammar.proofs.Theorems.{sound, fault-400, fault-403, fault-406}
+
+first-line : megacoMessage (text "!/1 [10.0.0.1] T=7{C=${A=L/1/5,A=$}}") 1
+    (transaction 7 (action Choose [] (command false false (text "A") (text "L/1/5") none ∷ command false false (text "A")
+    (text "$") none ∷ []) ∷ []) ∷ [])
+unfolding opened
+first-line = sound _ _ refl
+
+-- white space and comments around signs, long keywords in any letter case, both prefixes, items of three levels, properties
+spaced-line : megacoMessage (text " MEGACO/01\t<gw.example>:2944 ; from\r\nTransaction = 1 ;one\n{ context=$ {\n o-W-add = * {M{o{mo=\"x y\"}}}} , C=1{PR=3 , EG}}\n") 1
+    (transaction 1 (
+    action Choose [] (command true true (text "add") (text "*") (some (
+    item (text "M") none none (some (item (text "o") none none
+    (some (item (text "mo") none (some (quoted (text "x y"))) none ∷ [])) ∷ [])) ∷ [])) ∷ [])
+    ∷ action (Numbered 1) (Priority 3 ∷ Emergency ∷ []) [] ∷ []) ∷ [])
+unfolding opened
+spaced-line = sound _ _ refl
+
+-- "T=1{}"
+empty-braces : Fault403 (text "!/1 [10.0.0.1] T=1{}") 1
+unfolding opened
+empty-braces = fault-403 _ 1 .0 refl
+
+zero-identifier : Fault403 (text "!/1 [10.0.0.1] T=1{C=-{S=*}}T=0{") 0
+unfolding opened
+zero-identifier = fault-403 _ 0 .0 refl
+
+other-version : Fault406 (text "!/2 [10.0.0.1] Q")
+unfolding opened
+other-version = fault-406 _ .0 refl
+
+-- the comment after the mId is not ended
+broken-comment : ¬ Fault406 (text "!/2 [10.0.0.1] ;x")
+unfolding opened
+broken-comment = fault-400 _ .0 refl .2

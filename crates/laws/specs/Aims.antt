@@ -1,0 +1,121 @@
+-- Whom a command's name means: terminations of the table, that exist where the command is a Modify.
+use Prim.Native.Nat.{ℕ, suc, _+_, _≤_, _<_}
+use mathlib.Core.Path.{_≡_, sym}
+use mathlib.Core.Bool.{Bool, true, false, not, _&&_}
+use mathlib.Core.List.{List, [], _∷_}
+use lib.ListN.{length, getD}
+use lib.Dec.{ltb, leb, eqb}
+use borrow.Author.Tests.{eqb-false, ltb-true, leb-true}
+use native.Mathlib.Nat.{add-zero, zero-add}
+use native.Mathlib.Omega.{arith}
+use Rattle.base.specs.Lists.{lowestAbsent}
+use Rattle.megaco.specs.declared.Context.{Context}
+use Rattle.megaco.specs.declared.Op.{Op}
+use Rattle.megaco.specs.declared.Op.the-variants.{Add, Modify, Subtract, Move}
+use Rattle.megaco.specs.declared.Range.{Range}
+use Rattle.megaco.specs.declared.Name.{Name}
+use Rattle.megaco.specs.declared.Name.the-variants.{Termination, Root, Chosen, Unchosen, Wildcard, Unmatched, Unknown}
+use Rattle.megaco.specs.Table.{lines, channels, ephemerals, terminations, words, ctx, get, contextWords, ephemeralContexts, exists, freeEphemeral}
+use Rattle.megaco.specs.Names.{within, lineName, ephemeralName, plainName, lineRange, wildcardName, capitalName, nameOf, inRange}
+use Rattle.megaco.specs.Running.{wanted, matchesFrom, matches, Aim, misses, gateway, meets, isAdd, isModify, aimRoot, aimFree, aimMatches, aim}
+use Rattle.base.proofs.TestLaws.{clash, and-both, pick-of}
+use Rattle.laws.specs.Counting.{lowest}
+use Rattle.laws.specs.Sound.{context-words, context-at, ephemeral-contexts}
+
+-- ---- names
+
+-- a name of a termination means one of the table
+pub data Low : Name → Type 0 where
+  low : {i : ℕ} → i < terminations → Low (Termination i)
+  root : Low Root
+  chosen : Low Chosen
+  unchosen : Low Unchosen
+  wildcard : {r : Range} → Low (Wildcard r)
+  unmatched : Low Unmatched
+  unknown : Low Unknown
+
+within-both : (x m : ℕ) → within x m ≡ true → (0 < x) × (x ≤ m)
+unfolding within
+within-both x m e = let b = and-both (ltb 0 x) (leb x m) e in (ltb-true 0 x (b .0), leb-true x m (b .1))
+
+line-low : (l s : ℕ) → Low (lineName l s)
+unfolding lineName
+line-low l s = pick-of Low _ (λ e. let b = and-both _ _ e in let p = within-both l lines (b .0) in let q = within-both s channels (b .1) in low (omega arith)) (λ _. unknown)
+
+ephemeral-low : (n : ℕ) → Low (ephemeralName n)
+unfolding ephemeralName
+ephemeral-low n = pick-of Low _ (λ e. let p = within-both n ephemerals e in low (omega arith)) (λ _. unknown)
+
+pub name-low : (n : List ℕ) → Low (nameOf n)
+unfolding nameOf capitalName wildcardName lineRange plainName
+name-low n =
+    pick-of Low _ (λ _. root) (λ _. pick-of Low _ (λ _. pick-of Low _ (λ _. chosen) (λ _. unchosen)) (λ _. pick-of Low _
+    (λ _. pick-of Low _ (λ _. wildcard) (λ _. pick-of Low _ (λ _. wildcard) (λ _. pick-of Low _ (λ _. wildcard) (λ _. pick-of Low _ (λ _. wildcard) (λ _. unmatched)))))
+    (λ _. pick-of Low _ (λ _. line-low _ _) (λ _. pick-of Low _ (λ _. ephemeral-low _) (λ _. unknown)))))
+
+-- ---- terminations meant
+
+pub record Meant (op : Op) (t : List ℕ) (i : ℕ) : Type 0 where
+  pub small : i < terminations
+  pub there : isModify op ≡ true → exists i (get t (ctx i)) ≡ true
+
+pub data Each (P : ℕ → Type 0) : List ℕ → Type 0 where
+  no-more : Each P []
+  more : {i : ℕ} {is : List ℕ} → P i → Each P is → Each P (i ∷ is)
+
+pub each-on : (P Q : ℕ → Type 0) (is : List ℕ) → ((i : ℕ) → P i → Q i) → Each P is → Each Q is
+each-on P Q [] f no-more = no-more
+each-on P Q (i ∷ is) f (more h r) = more (f i h) (each-on P Q is f r)
+
+pub data Aims (op : Op) (t : List ℕ) : Aim → Type 0 where
+  nobody : {code : ℕ} → Aims op t (misses code)
+  itself : Aims op t gateway
+  those : {wild : Bool} {is : List ℕ} → Each (Meant op t) is → Aims op t (meets wild is)
+
+-- matches from number i on, with the rest of the context words
+matches-meant : (op : Op) (c : ℕ) (r : Range) (t : List ℕ) (i : ℕ) (xs : List ℕ) → i + length xs ≤ terminations
+    → ((k : ℕ) → k < length xs → getD xs k 0 ≡ get t (ctx (i + k))) → Each (Meant op t) (matchesFrom op c r i xs)
+unfolding matchesFrom
+matches-meant op c r t i [] h f = no-more
+matches-meant op c r t i (x ∷ xs) h f =
+    let rest = matches-meant op c r t (i + 1) xs (omega arith) (λ k b. let n : i + 1 + k ≡ i + suc k = omega arith in rw n (f (suc k) (omega arith))) in
+    let here : x ≡ get t (ctx i) = rw add-zero at (f 0 (omega arith)) in
+    pick-of (Each (Meant op t)) _
+    (λ e. let b = and-both (inRange r i && exists i x) (wanted op c x) e in
+    more (record { small = omega arith; there = λ _. rw (← here) (and-both (inRange r i) (exists i x) (b .0) .1) }) rest) (λ _. rest)
+
+root-meant : (op : Op) (t : List ℕ) (at : Context) (items : Bool) → Aims op t (aimRoot op at items)
+unfolding aimRoot
+root-meant op t at items = pick-of (Aims op t) _ (λ _. nobody) (λ _. pick-of (Aims op t) _ (λ _. nobody) (λ _. pick-of (Aims op t) _ (λ _. nobody) (λ _. itself)))
+
+-- an Add is no Modify
+add-only : (op : Op) → not (isAdd op) ≡ false → isModify op ≡ true → ⊥
+unfolding isAdd isModify
+add-only Add e h = clash (sym h)
+add-only Modify e h = clash e
+add-only Subtract e h = clash e
+add-only Move e h = clash e
+
+free-meant : (op : Op) (t : List ℕ) → length t ≡ words → not (isAdd op) ≡ false → Aims op t (aimFree (freeEphemeral t))
+unfolding aimFree freeEphemeral
+free-meant op t l a =
+    let n : ℕ = lowestAbsent 1 (ephemeralContexts t) in
+    pick-of (Aims op t) (eqb n 0) (λ _. nobody)
+    (λ e. let s = lowest 1 (ephemeralContexts t) (omega (arith, eqb-false n 0 e)) in
+    those (more (record { small = omega (arith, ephemeral-contexts t l); there = λ h. absurd (add-only op a h) }) no-more))
+
+wild-meant : (op : Op) (t is : List ℕ) → Each (Meant op t) is → Aims op t (aimMatches is)
+unfolding aimMatches
+wild-meant op t [] h = nobody
+wild-meant op t (i ∷ is) h = those h
+
+pub aim-meant : (op : Op) (at : Context) (items : Bool) (n : Name) (t : List ℕ) → length t ≡ words → Low n → Aims op t (aim op at items n t)
+unfolding aim matches
+aim-meant op at items Root t l h = root-meant op t at items
+aim-meant op at items Chosen t l h = pick-of (Aims op t) _ (λ _. nobody) (λ e. free-meant op t l e)
+aim-meant op at items Unchosen t l h = pick-of (Aims op t) _ (λ _. nobody) (λ _. nobody)
+aim-meant op at items (Wildcard r) t l h =
+    wild-meant op t _ (matches-meant op _ r t 0 (contextWords t) (omega (arith, context-words t l)) (λ k b. rw zero-add (context-at t k (omega (arith, context-words t l)))))
+aim-meant op at items Unmatched t l h = nobody
+aim-meant op at items (Termination i) t l (low h) = pick-of (Aims op t) _ (λ e. those (more (record { small = h; there = λ _. e }) no-more)) (λ _. nobody)
+aim-meant op at items Unknown t l h = nobody

@@ -1,0 +1,188 @@
+-- The conditions of demand 3 as computed tests; each test holds exactly when its condition does.
+use Prim.Native.Nat.{ℕ}
+use mathlib.Core.Path.{_≡_, refl, sym, ap, subst}
+use mathlib.Core.Bool.{Bool, true, false, not, _&&_}
+use mathlib.Core.List.{List, _++_, Memᴰ·append-left, Memᴰ·append-right, List·Memᴰ·append-cases}
+use mathlib.Core.Logic.{_↔_, _⊎_, inl, inr}
+use mathlib.Core.Option.{Option, none, some}
+use borrow.Author.Tests.{not-true}
+use Rattle.base.specs.Lists.{has}
+use Rattle.megaco.specs.Bytes.{star, dollar}
+use Rattle.megaco.specs.Tree.{Transaction}
+use Rattle.megaco.specs.Table.{ctx, get}
+use Rattle.megaco.specs.Names.{nameOf}
+use Rattle.megaco.specs.declared.Context.{Context}
+use Rattle.megaco.specs.declared.Context.the-variants.{Null, Numbered, Choose, All}
+use Rattle.megaco.specs.declared.Name.{Name}
+use Rattle.megaco.specs.declared.Name.the-variants.{Termination, Root, Chosen, Unchosen, Wildcard, Unmatched, Unknown}
+use Rattle.base.proofs.TestLaws.{clash, and-left, and-right}
+use Rattle.laws.specs.Membership.{_∈_, has-not, not-has, all?, all-is, is-all, noneShared?, onlyZeroShared?, none-shared, only-zero-shared, collect, in-collect, collect-in}
+use Rattle.laws.specs.Apart.{contextsOf, namesOf, ByNumberOrNull, by-number, null-one, ContextsPlain, NamesPlain, Names, Reaches, writes, stands, TerminationsApart, ContextsApart, Apart}
+
+-- ---- the tests
+
+unfoldable pub byNumberOrNull? : Context → Bool
+byNumberOrNull? Null = true
+byNumberOrNull? (Numbered c) = true
+byNumberOrNull? Choose = false
+byNumberOrNull? All = false
+
+unfoldable pub contextsPlain? : Transaction → Bool
+contextsPlain? x = all? byNumberOrNull? (contextsOf x)
+
+unfoldable pub namePlain? : List ℕ → Bool
+namePlain? n = not (has star n) && not (has dollar n)
+
+unfoldable pub namesPlain? : Transaction → Bool
+namesPlain? x = all? namePlain? (namesOf x)
+
+-- the termination that a name means, the number that a context is written by
+unfoldable pub terminationOf : Name → Option ℕ
+terminationOf (Termination i) = some i
+terminationOf Root = none
+terminationOf Chosen = none
+terminationOf Unchosen = none
+terminationOf (Wildcard r) = none
+terminationOf Unmatched = none
+terminationOf Unknown = none
+
+unfoldable pub writtenNumber : Context → Option ℕ
+writtenNumber Null = none
+writtenNumber (Numbered c) = some c
+writtenNumber Choose = none
+writtenNumber All = none
+
+-- the terminations named, the contexts written, the context words of terminations
+unfoldable pub named : Transaction → List ℕ
+named x = collect (λ n. terminationOf (nameOf n)) (namesOf x)
+
+unfoldable pub numbered : Transaction → List ℕ
+numbered x = collect writtenNumber (contextsOf x)
+
+unfoldable pub standing : List ℕ → List ℕ → List ℕ
+standing t is = collect (λ i. some (get t (ctx i))) is
+
+-- the contexts written, and those that the terminations named stand in
+unfoldable pub reached : List ℕ → Transaction → List ℕ
+reached t x = numbered x ++ standing t (named x)
+
+unfoldable pub terminationsApart? : Transaction → Transaction → Bool
+terminationsApart? x y = noneShared? (named x) (named y)
+
+unfoldable pub contextsApart? : List ℕ → Transaction → Transaction → Bool
+contextsApart? t x y = onlyZeroShared? (reached t x) (reached t y)
+
+unfoldable pub apart? : List ℕ → Transaction → Transaction → Bool
+apart? t x y = contextsPlain? x && contextsPlain? y && namesPlain? x && namesPlain? y && terminationsApart? x y && contextsApart? t x y
+
+-- ---- contexts
+
+by-number-is : (c : Context) → byNumberOrNull? c ≡ true → ByNumberOrNull c
+unfolding byNumberOrNull?
+by-number-is Null e = null-one
+by-number-is (Numbered c) e = by-number
+by-number-is Choose e = absurd (clash (sym e))
+by-number-is All e = absurd (clash (sym e))
+
+is-by-number : (c : Context) → ByNumberOrNull c → byNumberOrNull? c ≡ true
+unfolding byNumberOrNull?
+is-by-number _ null-one = refl
+is-by-number _ by-number = refl
+
+pub contexts-plain-is : (x : Transaction) → contextsPlain? x ≡ true ↔ ContextsPlain x
+unfolding contextsPlain?
+contexts-plain-is x =
+    (λ e c m. by-number-is c (all-is byNumberOrNull? (contextsOf x) e c m), λ h. is-all byNumberOrNull? (contextsOf x) (λ c m. is-by-number c (h c m)))
+
+-- ---- names
+
+name-plain-is : (n : List ℕ) → namePlain? n ≡ true → (star ∈ n → ⊥) × (dollar ∈ n → ⊥)
+unfolding namePlain?
+name-plain-is n e =
+    (not-has star n (not-true (has star n) (search (and-left, and-right))), not-has dollar n (not-true (has dollar n) (search (and-left, and-right))))
+
+is-name-plain : (n : List ℕ) → (star ∈ n → ⊥) × (dollar ∈ n → ⊥) → namePlain? n ≡ true
+unfolding namePlain?
+is-name-plain n h = rw (has-not star n (h .0), has-not dollar n (h .1))
+
+pub names-plain-is : (x : Transaction) → namesPlain? x ≡ true ↔ NamesPlain x
+unfolding namesPlain?
+names-plain-is x = (λ e n m. name-plain-is n (all-is namePlain? (namesOf x) e n m), λ h. is-all namePlain? (namesOf x) (λ n m. is-name-plain n (h n m)))
+
+-- ---- terminations
+
+termination-is : (n : Name) (i : ℕ) → terminationOf n ≡ some i → n ≡ Termination i
+unfolding terminationOf
+termination-is (Termination j) i e = ap Termination (cc)
+termination-is Root i e = cc
+termination-is Chosen i e = cc
+termination-is Unchosen i e = cc
+termination-is (Wildcard r) i e = cc
+termination-is Unmatched i e = cc
+termination-is Unknown i e = cc
+
+names-named : (x : Transaction) (i : ℕ) → Names x i → i ∈ named x
+unfolding named terminationOf
+names-named x i m = in-collect (λ n. terminationOf (nameOf n)) (namesOf x) (m .name) i (m .written) (ap terminationOf (m .means))
+
+named-names : (x : Transaction) (i : ℕ) → i ∈ named x → Names x i
+unfolding named
+named-names x i m =
+    let r = collect-in (λ n. terminationOf (nameOf n)) (namesOf x) i m in
+    record { name = r .0; written = r .1; means = termination-is (nameOf (r .0)) i (r .2) }
+
+pub terminations-apart-is : (x y : Transaction) → terminationsApart? x y ≡ true ↔ TerminationsApart x y
+unfolding terminationsApart?
+terminations-apart-is x y = (
+  λ e i m k. none-shared (named x) (named y) .0 e i (names-named x i m) (names-named y i k),
+  λ h. none-shared (named x) (named y) .1 (λ i m k. h i (named-names x i m) (named-names y i k)),
+)
+
+-- ---- contexts reached
+
+number-is : (c : Context) (n : ℕ) → writtenNumber c ≡ some n → c ≡ Numbered n
+unfolding writtenNumber
+number-is Null n e = cc
+number-is (Numbered c) n e = ap Numbered (cc)
+number-is Choose n e = cc
+number-is All n e = cc
+
+some-is : (a b : ℕ) → some a ≡ some b → a ≡ b
+some-is a b e = cc
+
+module _ (t : List ℕ) (x : Transaction) where
+  reaches-reached : (c : ℕ) → Reaches t x c → c ∈ reached t x
+  unfolding reached numbered standing writtenNumber
+  reaches-reached c (writes m) = Memᴰ·append-left (standing t (named x)) (in-collect writtenNumber (contextsOf x) (Numbered c) c m refl)
+  reaches-reached c (stands i m e) = Memᴰ·append-right (numbered x) (in-collect (λ j. some (get t (ctx j))) (named x) i c (names-named x i m) (ap some e))
+
+  reached-reaches : (c : ℕ) → c ∈ reached t x → Reaches t x c
+  unfolding reached numbered standing
+  reached-reaches c m = by (List·Memᴰ·append-cases (numbered x) m)
+    where
+      by : (c ∈ numbered x) ⊎ (c ∈ standing t (named x)) → Reaches t x c
+      by (inl m) = let r = collect-in writtenNumber (contextsOf x) c m in writes (subst (λ (w : Context). w ∈ contextsOf x) (number-is (r .0) c (r .2)) (r .1))
+      by (inr m) = let r = collect-in (λ j. some (get t (ctx j))) (named x) c m in stands (r .0) (named-names x (r .0) (r .1)) (some-is _ c (r .2))
+
+pub contexts-apart-is : (t : List ℕ) (x y : Transaction) → contextsApart? t x y ≡ true ↔ ContextsApart t x y
+unfolding contextsApart?
+contexts-apart-is t x y = (
+  λ e c h a b. only-zero-shared (reached t x) (reached t y) .0 e c h (reaches-reached t x c a) (reaches-reached t y c b),
+  λ f. only-zero-shared (reached t x) (reached t y) .1 (λ c h a b. f c h (reached-reaches t x c a) (reached-reaches t y c b)),
+)
+
+-- ---- all of them
+
+pub apart-is : (t : List ℕ) (x y : Transaction) → apart? t x y ≡ true ↔ Apart t x y
+unfolding apart?
+apart-is t x y = (
+  λ e. record {
+    contexts-one = contexts-plain-is x .0 (search (and-left, and-right));
+    contexts-two = contexts-plain-is y .0 (search (and-left, and-right));
+    names-one = names-plain-is x .0 (search (and-left, and-right));
+    names-two = names-plain-is y .0 (search (and-left, and-right));
+    terminations = terminations-apart-is x y .0 (search (and-left, and-right));
+    contexts = contexts-apart-is t x y .0 (search (and-left, and-right));
+  },
+  λ A. rw (contexts-plain-is x .1 (A .contexts-one), contexts-plain-is y .1 (A .contexts-two), names-plain-is x .1 (A .names-one), names-plain-is y .1 (A .names-two), terminations-apart-is x y .1 (A .terminations), contexts-apart-is t x y .1 (A .contexts)),
+)

@@ -1,0 +1,339 @@
+-- Attempts leave a sound table sound, in a numbered context, in null and in `$`, a wildcard's too.
+use Prim.Native.Nat.{ℕ, _≤_, _<_}
+use mathlib.Core.Path.{_≡_, refl, sym, ap, _∙_}
+use mathlib.Core.Logic.{_≢_}
+use mathlib.Core.Bool.{Bool, true, false, _&&_, and-true, and-false}
+use mathlib.Core.List.{List, [], _∷_}
+use lib.Dec.{ltb, leb, eqb}
+use borrow.Author.Tests.{eqb-true, eqb-false, eq-eqb, ltb-true, lt-ltb, leb-true, leb-false, le-leb, not-false}
+use native.Mathlib.Omega.{arith}
+use Rattle.base.specs.Pick.{pick}
+use Rattle.megaco.specs.declared.Context.{Context}
+use Rattle.megaco.specs.declared.Context.the-variants.{Numbered, Choose}
+use Rattle.megaco.specs.declared.Op.{Op}
+use Rattle.megaco.specs.declared.Op.the-variants.{Add, Modify, Subtract, Move}
+use Rattle.megaco.specs.declared.Values.{Values}
+use Rattle.megaco.specs.declared.Seen.{Seen}
+use Rattle.megaco.specs.declared.View.{View}
+use Rattle.megaco.specs.Table.{lineTerminations, terminations, contexts, most, prop, rec, ctx, cell, get, Write, apply, recordWords, isEphemeral, exists, known, members, freeContext}
+use Rattle.megaco.specs.Items.{update}
+use Rattle.megaco.specs.Running.{unseen, seen, numberOf, freeAt, look, isChoose, target, roomChecks, checks, joining, leaving, placed, added, subtracted, changes, settled, isModify, Result, attempt, Effect, concluded, effect, tries}
+use Rattle.base.proofs.TestLaws.{clash, and-both, both-and, pick-of}
+use Rattle.laws.specs.Passed.{Passed, judged}
+use Rattle.laws.specs.Counting.{member, lowest}
+use Rattle.laws.specs.Sound.{SoundWord, Whole, alive, record-words, record-at}
+use Rattle.laws.specs.Values.{Fair, update-sound}
+use Rattle.laws.specs.Aims.{Meant, Each, more, each-on}
+use Rattle.laws.specs.Moved.{Moves, Goes, moved-sound, moved-here, modified-place, modified-sound}
+
+-- ---- what an attempt sees
+
+pub known-both : (c : ℕ) → known c ≡ true → (0 < c) × (c ≤ contexts)
+unfolding known
+known-both c e = let b = and-both (ltb 0 c) (leb c contexts) e in (ltb-true 0 c (b .0), leb-true c contexts (b .1))
+
+pub both-known : (c : ℕ) → 0 < c → c ≤ contexts → known c ≡ true
+unfolding known
+both-known c p q = both-and (ltb 0 c) (leb c contexts) (lt-ltb 0 c p) (le-leb c contexts q)
+
+pub seen-members : (c : ℕ) (t : List ℕ) → 0 < c → c ≤ contexts → seen c t .members ≡ members c t
+unfolding seen pick
+seen-members c t p q = rw (both-known c p q, seen)
+
+pub seen-held : (c : ℕ) (t : List ℕ) → 0 < c → c ≤ contexts → seen c t .held ≡ get t (cell (rec c))
+unfolding seen pick
+seen-held c t p q = rw (both-known c p q, seen)
+
+-- a record seen that is not 0 is that of a context
+pub seen-there : (c : ℕ) (t : List ℕ) → 0 < seen c t .held → (0 < c) × (c ≤ contexts) × (0 < get t (cell (rec c)))
+unfolding seen pick
+seen-there c t h = by (known c) refl h
+  where
+    here : Seen
+    here = record { held = get t (cell (rec c)); members = members c t }
+
+    by : (b : Bool) → known c ≡ b → 0 < (pick b here unseen) .held → (0 < c) × (c ≤ contexts) × (0 < get t (cell (rec c)))
+    by true e h = let k = known-both c e in (k .0, k .1, h)
+    by false e h = absurd (omega arith)
+
+-- ---- what the tests of an attempt tell: `search` finds each among those passed, wherever it stands
+
+may-join : (at : Context) (v : View) → Passed (roomChecks at v) → (isChoose at && eqb (v .free) 0 ≡ false) × (v .there .members < most)
+unfolding roomChecks
+may-join at v p = (search p, search leb-false)
+
+may-add : (at : Context) (v : View) → Passed (checks Add at v) → (v .here ≡ 0) × Passed (roomChecks at v)
+unfolding checks
+may-add at v p = (search (eqb-true, not-false), search p)
+
+may-subtract : (at : Context) (v : View) → Passed (checks Subtract at v) → v .here ≡ numberOf at
+unfolding checks
+may-subtract at v p = search (eqb-true, not-false)
+
+may-move : (at : Context) (v : View) → Passed (checks Move at v) → (v .here ≢ 0) × (v .here ≢ numberOf at) × Passed (roomChecks at v)
+unfolding checks
+may-move at v p = (search eqb-false, search eqb-false, search p)
+
+-- ---- what an attempt relies on, beside a sound table
+
+-- a context that a termination may join: it exists, or it will be made
+pub data Joins : Context → List ℕ → Type 0 where
+  anew : {t : List ℕ} → Joins Choose t
+  there : {c : ℕ} {t : List ℕ} → 0 < c → c ≤ contexts → 0 < get t (cell (rec c)) → Joins (Numbered c) t
+
+-- a context that a termination may leave
+pub data Stands : Context → Type 0 where
+  stands : {c : ℕ} → 0 < c → Stands (Numbered c)
+
+abbrev pub Ready : Op → Context → List ℕ → Type 0
+Ready Add at t = Joins at t
+Ready Modify at t = Unit {0}
+Ready Subtract at t = Stands at
+Ready Move at t = Joins at t
+
+-- a record that a context may have
+pub record Present (g : ℕ) : Type 0 where
+  pub some : 0 < g
+  pub low : g ≤ 32
+
+-- ---- the context that an attempt joins
+
+record Target (at : Context) (t : List ℕ) (x : ℕ) : Type 0 where
+  some : 0 < x
+  low : x ≤ contexts
+  room : members x t < most
+  fresh : isChoose at ≡ true → get t (cell (rec x)) ≡ 0
+  there : isChoose at ≡ false → 0 < get t (cell (rec x))
+  named : isChoose at ≡ false → x ≡ numberOf at
+
+-- the lowest number absent has no record and no members
+free-target : (t : List ℕ) → Whole t → 0 < freeContext t → Target Choose t (freeContext t)
+unfolding freeContext isChoose
+free-target t W h =
+    let a = lowest 1 (recordWords t) h in
+    let b : a .place < contexts = omega (arith, record-words t (W .long)) in
+    let z : get t (cell (rec (freeContext t))) ≡ 0 = rw (a .number) (sym (record-at t (a .place) b) ∙ a .empty) in
+    let l : freeContext t ≤ contexts = omega arith in
+    let s = W .held (freeContext t) h l in
+    record { some = h; low = l; room = omega arith; fresh = λ _. z; there = λ e. absurd (clash e); named = λ e. absurd (clash e) }
+
+targeted : (at : Context) (i : ℕ) (t : List ℕ) → Whole t → Joins at t → Passed (roomChecks at (look at i t)) → Target at t (target at (look at i t))
+unfolding look target isChoose numberOf freeAt pick
+targeted Choose i t W anew p = free-target t W (omega (arith, eqb-false (freeContext t) 0 (may-join Choose (look Choose i t) p .0)))
+targeted (Numbered c) i t W (there q l h) p =
+    record {
+      some = q;
+      low = l;
+      room = rw (seen-members c t q l) at (may-join (Numbered c) (look (Numbered c) i t) p .1);
+      fresh = λ e. absurd (clash (sym e));
+      there = λ _. h;
+      named = λ _. refl;
+    }
+
+-- ---- an attempt that passes its tests
+
+-- what an attempt leaves: a sound table, on which the command may go on
+pub record Leaves (op : Op) (at : Context) (t u : List ℕ) : Type 0 where
+  pub whole : Whole u
+  pub ready : Ready op at u
+  pub meant : (j : ℕ) → Meant op t j → Meant op u j
+
+-- the writes of an attempt: each of these laws knows one of the definitions
+placed-moves : (g d i x y : ℕ) → i < terminations → Moves false false g d i x y (placed i x y)
+unfolding placed pick
+placed-moves g d i x y h =
+    record {
+      within = omega arith;
+      context = λ j v. refl;
+      property = λ j v. refl;
+      record′ = λ c v. rw (and-false (eqb x c), and-false (eqb d c));
+    }
+
+joining-moves : (at : Context) (g d i y : ℕ) (v : View) (t : List ℕ) → Target at t (target at v) → i < terminations
+    → Moves (isChoose at) false g d i (target at v) y (joining at g v (placed i (target at v) y))
+unfolding joining target placed pick
+joining-moves at g d i y v t T h =
+    pick-of (Moves (isChoose at) false g d i (target at v) y) (isChoose at)
+    (λ e. let n : target at v ≡ v .free = rw e in
+    record {
+      within = omega arith;
+      context = λ j w. refl;
+      property = λ j w. refl;
+      record′ = λ c w. rw (e, and-true (eqb (v .free) c), and-false (eqb d c));
+    })
+    (λ e. let n : target at v ≡ numberOf at = rw e in
+    record {
+      within = omega arith;
+      context = λ j w. refl;
+      property = λ j w. refl;
+      record′ = λ c w. rw (e, and-false (eqb (numberOf at) c), and-false (eqb d c));
+    })
+
+leaving-moves : (new : Bool) (g i x y : ℕ) (v : View) (ws : List Write) → 0 < v .here → v .here ≤ contexts → Moves new false g (v .here) i x y ws
+    → Moves new (leb (v .from .members) 1) g (v .here) i x y (leaving v ws)
+unfolding leaving pick
+leaving-moves new g i x y v ws p q M =
+    pick-of (Moves new (leb (v .from .members) 1) g (v .here) i x y) (leb (v .from .members) 1)
+    (λ e. record {
+      within = search M;
+      context = M .context;
+      property = M .property;
+      record′ = λ c w. M .record′ c (pick (eqb (v .here) c) 0 w) ∙ rw (e, and-true (eqb (v .here) c), and-false (eqb (v .here) c));
+    })
+    (λ e. record {
+      within = search M;
+      context = M .context;
+      property = M .property;
+      record′ = λ c w. rw e (M .record′ c w);
+    })
+
+-- a context that is joined
+joined : (at : Context) (g d i x y : ℕ) (t : List ℕ) (last : Bool) → Target at t x → Present g → i < terminations → get t (ctx i) ≡ d → x ≢ d → SoundWord y
+    → (0 < d → last ≡ leb (members d t) 1) → Goes t (isChoose at) last g d i x y
+joined at g d i x y t last T G h e n s ends =
+    record {
+      small = h;
+      from = e;
+      away = n;
+      low = T .low;
+      word = s;
+      absent = λ _ z. absurd (omega (arith, T .some));
+      room = λ _. T .room;
+      made = λ _. (G .some, G .low);
+      there = λ e _. T .there e;
+      ends = ends;
+    }
+
+-- it exists then
+joined-there : (at : Context) (i : ℕ) (v : View) (t u : List ℕ) → Joins at t → Target at t (target at v) → i < terminations → Whole u → get u (ctx i) ≡ target at v
+    → Joins (settled at v) u
+unfolding settled target isChoose numberOf pick
+joined-there at i v t u j T h W e = by at j T e
+  where
+    held : (x : ℕ) → 0 < x → x ≤ contexts → get u (ctx i) ≡ x → 0 < get u (cell (rec x))
+    held x p q e = alive u W x p q (rw e at (member i u h (W .long)))
+
+    by : (at : Context) → Joins at t → Target at t (target at v) → get u (ctx i) ≡ target at v → Joins (settled at v) u
+    by Choose anew T e = there (T .some) (T .low) (held (v .free) (T .some) (T .low) e)
+    by (Numbered c) (there p q _) T e = there p q (held c p q e)
+
+-- the context that it stands in
+here-low : (i : ℕ) (t : List ℕ) → Whole t → i < terminations → 0 < get t (ctx i) → seen (get t (ctx i)) t .members ≡ members (get t (ctx i)) t
+here-low i t W h p = seen-members (get t (ctx i)) t p (W .place i h)
+
+added-sound : (i w : ℕ) → SoundWord w → SoundWord (added i w)
+unfolding added
+added-sound i w s = pick-of SoundWord (isEphemeral i) (λ _. omega arith) (λ _. s)
+
+subtracted-sound : (i w : ℕ) → SoundWord w → SoundWord (subtracted i w)
+unfolding subtracted
+subtracted-sound i w s = pick-of SoundWord (isEphemeral i) (λ _. omega arith) (λ _. omega arith)
+
+subtracted-zero : (i w : ℕ) → lineTerminations ≤ i → subtracted i w ≡ 0
+unfolding subtracted isEphemeral pick
+subtracted-zero i w h = rw (le-leb lineTerminations i h)
+
+-- an absent ephemeral does not exist
+absent-gone : (i word : ℕ) → lineTerminations ≤ i → word ≡ 0 → exists i word ≡ true → ⊥
+unfolding exists isEphemeral
+absent-gone i word h z e = clash (sym (rw (le-leb lineTerminations i h, eq-eqb word 0 z) at e))
+
+-- a Move goes elsewhere: a new context has no record, and that of the termination has one
+moved-away : (at : Context) (i x : ℕ) (t : List ℕ) → Whole t → Target at t x → i < terminations → 0 < get t (ctx i) → get t (ctx i) ≢ numberOf at → x ≢ get t (ctx i)
+moved-away at i x t W T h p n e = by (isChoose at) refl
+  where
+    by : (b : Bool) → isChoose at ≡ b → ⊥
+    by true c = omega (arith, alive t W x (T .some) (T .low) (rw e (member i t h (W .long))), T .fresh c)
+    by false c = n (sym e ∙ T .named c)
+
+-- a termination that joins
+arrives : (op : Op) (at : Context) (given d i y : ℕ) (t : List ℕ) (last : Bool) (ws : List Write) → isModify op ≡ false
+    → ((c : Context) (u : List ℕ) → Joins c u → Ready op c u) → Whole t → Joins at t → Target at t (target at (look at i t))
+    → Moves (isChoose at) last given d i (target at (look at i t)) y ws → Goes t (isChoose at) last given d i (target at (look at i t)) y
+    → Leaves op (settled at (look at i t)) t (apply ws t)
+arrives op at given d i y t last ws n r W j T m g =
+    let x : ℕ = target at (look at i t) in
+    let S = moved-sound t (isChoose at) last given d i x y ws W m g in
+    record {
+      whole = S;
+      ready = r _ _ (joined-there at i (look at i t) t (apply ws t) j T (g .small) S (moved-here t (isChoose at) last given d i x y ws W m g));
+      meant = λ k u. record { small = u .small; there = λ e. absurd (clash (sym e ∙ n)) };
+    }
+
+-- a termination that goes to null
+departs : (c given i : ℕ) (t : List ℕ) → Whole t → 0 < c → i < terminations → get t (ctx i) ≡ numberOf (Numbered c)
+    → Leaves Subtract (settled (Numbered c) (look (Numbered c) i t)) t (apply (leaving (look (Numbered c) i t) (placed i 0 (subtracted i (get t (cell (prop i)))))) t)
+unfolding look numberOf settled isChoose isModify pick
+departs c given i t W h k e =
+    let w : ℕ = get t (cell (prop i)) in
+    let d : ℕ = get t (ctx i) in
+    let b : 0 < d = rw e h in
+    record {
+      whole = moved-sound t false (leb (seen d t .members) 1) given d i 0 (subtracted i w) _ W
+          (leaving-moves false given i 0 (subtracted i w) (look (Numbered c) i t) _ b (W .place i k) (placed-moves given d i 0 (subtracted i w) k))
+          (record {
+            small = k;
+            from = refl;
+            away = λ z. omega arith;
+            low = omega arith;
+            word = subtracted-sound i w (W .word i k);
+            absent = λ z _. subtracted-zero i w z;
+            room = λ z. absurd (omega arith);
+            made = λ z. absurd (clash (sym z));
+            there = λ _ z. absurd (omega arith);
+            ends = λ z. ap (λ (m : ℕ). leb m 1) (here-low i t W k z);
+          });
+      ready = stands h;
+      meant = λ j m. record { small = m .small; there = λ z. absurd (clash (sym z)) };
+    }
+
+pub attempt-sound : (op : Op) (at : Context) (given i : ℕ) (vs : Values) (t : List ℕ) → Whole t → Ready op at t → Meant op t i → Present given → Fair vs
+    → Passed (checks op at (look at i t)) → Leaves op (settled at (look at i t)) t (apply (changes op at given i vs (look at i t)) t)
+unfolding changes look isModify
+attempt-sound Add at given i vs t W j M G F p =
+    let v : View = look at i t in
+    let w : ℕ = added i (get t (cell (prop i))) in
+    let q = may-add at v p in
+    let T = targeted at i t W j (q .1) in
+    arrives Add at given 0 i (update vs w) t false _ refl (λ c u k. k) W j T (joining-moves at given 0 i (update vs w) v t T (M .small))
+    (joined at given 0 i (target at v) (update vs w) t false T G (M .small) (q .0) (λ z. omega (arith, T .some))
+    (update-sound vs w F (added-sound i (get t (cell (prop i))) (W .word i (M .small)))) (λ z. absurd (omega arith)))
+attempt-sound Modify at given i vs t W j M G F p =
+    let w : ℕ = get t (cell (prop i)) in
+    record {
+      whole = modified-sound t i (update vs w) W (M .small) (update-sound vs w F (W .word i (M .small))) (λ k z. absurd (absent-gone i (get t (ctx i)) k z (M .there refl)));
+      ready = tt;
+      meant = λ k m. record { small = m .small; there = λ e. rw (modified-place t i (update vs w) (W .long) (M .small) k (m .small)) (m .there e) };
+    }
+attempt-sound Subtract (Numbered c) given i vs t W (stands h) M G F p = departs c given i t W h (M .small) (may-subtract (Numbered c) (look (Numbered c) i t) p)
+attempt-sound Move at given i vs t W j M G F p =
+    let v : View = look at i t in
+    let w : ℕ = get t (cell (prop i)) in
+    let d : ℕ = get t (ctx i) in
+    let q = may-move at v p in
+    let b : 0 < d = omega (arith, q .0) in
+    let T = targeted at i t W j (q .2) in
+    arrives Move at given d i (update vs w) t (leb (seen d t .members) 1) _ refl (λ c u k. k) W j T
+    (leaving-moves (isChoose at) given i (target at v) (update vs w) v _ b (W .place i (M .small)) (joining-moves at given d i (update vs w) v t T (M .small)))
+    (joined at given d i (target at v) (update vs w) t (leb (seen d t .members) 1) T G (M .small) refl (moved-away at i (target at v) t W T (M .small) b (q .1))
+    (update-sound vs w F (W .word i (M .small))) (λ z. ap (λ (m : ℕ). leb m 1) (here-low i t W (M .small) z)))
+
+-- ---- the attempts of a command
+
+pub effect-sound : (op : Op) (wild : Bool) (name : List ℕ) (given : ℕ) (vs : Values) (i : ℕ) (at : Context) (t : List ℕ)
+    → Whole t → Ready op at t → Meant op t i → Present given → Fair vs
+    → Leaves op (effect op wild name given vs i at (look at i t) .at) t (apply (effect op wild name given vs i at (look at i t) .writes) t)
+unfolding effect attempt concluded apply
+effect-sound op wild name given vs i at t W r m G F =
+    judged (λ (x : Result). Leaves op (concluded op wild name i at (look at i t) x .at) t (apply (concluded op wild name i at (look at i t) x .writes) t))
+    (checks op at (look at i t)) (changes op at given i vs (look at i t)) (λ code. record { whole = W; ready = r; meant = λ j k. k })
+    (λ p. attempt-sound op at given i vs t W r m G F p)
+
+pub tries-sound : (op : Op) (wild : Bool) (name : List ℕ) (given : ℕ) (vs : Values) (is : List ℕ) (at : Context) (t : List ℕ)
+    → Whole t → Ready op at t → Each (Meant op t) is → Present given → Fair vs → Whole (tries op wild name given vs is at t .table)
+unfolding tries
+tries-sound op wild name given vs [] at t W r m G F = W
+tries-sound op wild name given vs (i ∷ is) at t W r (more m ms) G F =
+    let e : Effect = effect op wild name given vs i at (look at i t) in
+    let l = effect-sound op wild name given vs i at t W r m G F in
+    tries-sound op wild name given vs is (e .at) (apply (e .writes) t) (l .whole) (l .ready) (each-on (Meant op t) (Meant op (apply (e .writes) t)) is (l .meant) ms) G F

@@ -1,0 +1,164 @@
+-- A sound table after writes. One law serves Add, Subtract and Move: a termination goes from where it stands to a context, null being 0.
+use Prim.Native.Nat.{ℕ, _+_, _≤_, _<_}
+use mathlib.Core.Path.{_≡_, refl, sym, _∙_, subst}
+use mathlib.Core.Logic.{_≢_}
+use mathlib.Core.Bool.{Bool, true, false, _&&_}
+use mathlib.Core.List.{List, [], _∷_}
+use lib.ListN.{length}
+use lib.Dec.{leb, eqb}
+use borrow.Author.Tests.{eqb-true, eq-eqb, leb-true, leb-false}
+use native.Mathlib.Omega.{arith}
+use Rattle.base.specs.Pick.{pick}
+use Rattle.megaco.specs.Table.{lineTerminations, terminations, contexts, words, most, prop, rec, ctx, cell, get, Write, write, apply, members}
+use Rattle.base.proofs.TestLaws.{pick-of}
+use Rattle.laws.specs.Slots.{length-apply, holds, Within, get-apply}
+use Rattle.laws.specs.Counting.{one, members-same, members-moved}
+use Rattle.laws.specs.Sound.{SoundWord, SoundRecord, Whole}
+
+-- the facts of a sound table, of what the words hold after writes
+pub record Lands (ws : List Write) (t : List ℕ) : Type 0 where
+  pub within : Within ws
+  pub place : (i : ℕ) → i < terminations → holds ws (ctx i) (get t (ctx i)) ≤ contexts
+  pub word : (i : ℕ) → i < terminations → SoundWord (holds ws (cell (prop i)) (get t (cell (prop i))))
+  pub absent : (i : ℕ) → lineTerminations ≤ i → i < terminations → holds ws (ctx i) (get t (ctx i)) ≡ 0 → holds ws (cell (prop i)) (get t (cell (prop i))) ≡ 0
+  pub held : (c : ℕ) → 0 < c → c ≤ contexts → SoundRecord (holds ws (cell (rec c)) (get t (cell (rec c)))) (members c (apply ws t))
+
+pub landed : (ws : List Write) (t : List ℕ) → length t ≡ words → Lands ws t → Whole (apply ws t)
+landed ws t l a =
+    record {
+      long = length-apply ws t ∙ l;
+      place = λ i h. rw (get-apply ws (ctx i) t (a .within) h l) (a .place i h);
+      word = λ i h. rw (get-apply ws (cell (prop i)) t (a .within) h l) (a .word i h);
+      absent = λ i k h. rw (get-apply ws (ctx i) t (a .within) h l, get-apply ws (cell (prop i)) t (a .within) h l) (a .absent i k h);
+      held = λ c p q. rw (get-apply ws (cell (rec c)) t (a .within) (p, q) l) (a .held c p q);
+    }
+
+-- ---- a termination goes from d to x, with a property word y
+
+-- what the writes leave: where x is new its record is made, g; where the termination was the last in d, the record of d ends
+pub record Moves (new last : Bool) (g d i x y : ℕ) (ws : List Write) : Type 0 where
+  pub within : Within ws
+  pub context : (j v : ℕ) → holds ws (ctx j) v ≡ pick (eqb i j) x v
+  pub property : (j v : ℕ) → holds ws (cell (prop j)) v ≡ pick (eqb i j) y v
+  pub record′ : (c v : ℕ) → holds ws (cell (rec c)) v ≡ pick (eqb x c && new) g (pick (eqb d c && last) 0 v)
+
+-- when a termination may go
+pub record Goes (t : List ℕ) (new last : Bool) (g d i x y : ℕ) : Type 0 where
+  pub small : i < terminations
+  pub from : get t (ctx i) ≡ d
+  pub away : x ≢ d
+  pub low : x ≤ contexts
+  pub word : SoundWord y
+  pub absent : lineTerminations ≤ i → x ≡ 0 → y ≡ 0
+  pub room : 0 < x → members x t < most
+  pub made : new ≡ true → (0 < g) × (g ≤ 32)
+  pub there : new ≡ false → 0 < x → 0 < get t (cell (rec x))
+  pub ends : 0 < d → last ≡ leb (members d t) 1
+
+module _ (t : List ℕ) (new last : Bool) (g d i x y : ℕ) (ws : List Write) (W : Whole t) (M : Moves new last g d i x y ws) (G : Goes t new last g d i x y) where
+  -- the termination stands there then, and the others where they stood
+  moved-place : (j : ℕ) → j < terminations → get (apply ws t) (ctx j) ≡ pick (eqb i j) x (get t (ctx j))
+  moved-place j h = get-apply ws (ctx j) t (M .within) h (W .long) ∙ M .context j (get t (ctx j))
+
+  pub moved-here : get (apply ws t) (ctx i) ≡ x
+  unfolding pick
+  moved-here = moved-place i (G .small) ∙ rw (eq-eqb i i refl)
+
+  moved-absent : (j : ℕ) → lineTerminations ≤ j → j < terminations → (b : Bool) → eqb i j ≡ b
+      → pick b x (get t (ctx j)) ≡ 0 → pick b y (get t (cell (prop j))) ≡ 0
+  unfolding pick
+  moved-absent j k h true e = G .absent (omega (arith, eqb-true i j e))
+  moved-absent j k h false e = W .absent j k h
+
+  moved-members : (c : ℕ) → members c (apply ws t) + one (eqb d c) ≡ members c t + one (eqb x c)
+  moved-members c =
+      subst (λ (z : ℕ). members c (apply ws t) + one (eqb z c) ≡ members c t + one (eqb x c)) (G .from)
+      (members-moved c i x t (apply ws t) (G .small) (W .long) (length-apply ws t) moved-place)
+
+  moved-record : (c n : ℕ) → 0 < c → c ≤ contexts → (a b e f : Bool) → new ≡ a → last ≡ b → eqb x c ≡ e → eqb d c ≡ f → n + one f ≡ members c t + one e
+      → SoundRecord (pick (e && a) g (pick (f && b) 0 (get t (cell (rec c))))) n
+  unfolding pick
+  moved-record c n p q a b true true _ _ e f k = absurd (G .away (eqb-true x c e ∙ sym (eqb-true d c f)))
+  moved-record c n p q true b true false u _ e f k =
+      let z : x ≡ c = eqb-true x c e in
+      let o : members c t < most = subst (λ (j : ℕ). members j t < most) z (G .room (omega arith)) in
+      let s = G .made u in
+      omega arith
+  moved-record c n p q false b true false u _ e f k =
+      let z : x ≡ c = eqb-true x c e in
+      let o : members c t < most = subst (λ (j : ℕ). members j t < most) z (G .room (omega arith)) in
+      let v : 0 < get t (cell (rec c)) = subst (λ (j : ℕ). 0 < get t (cell (rec j))) z (G .there u (omega arith)) in
+      let s = W .held c p q in
+      omega arith
+  moved-record c n p q a true false true _ u e f k =
+      let z : d ≡ c = eqb-true d c f in
+      let o : members c t ≤ 1 = subst (λ (j : ℕ). members j t ≤ 1) z (leb-true (members d t) 1 (sym (G .ends (omega arith)) ∙ u)) in
+      omega arith
+  moved-record c n p q a false false true _ u e f k =
+      let z : d ≡ c = eqb-true d c f in
+      let o : 1 < members c t = subst (λ (j : ℕ). 1 < members j t) z (leb-false (members d t) 1 (sym (G .ends (omega arith)) ∙ u)) in
+      let s = W .held c p q in
+      omega arith
+  moved-record c n p q a b false false _ _ e f k = let s = W .held c p q in omega arith
+
+  pub moved-sound : Whole (apply ws t)
+  moved-sound =
+      landed ws t (W .long)
+      (record {
+        within = M .within;
+        place = λ j h. rw (M .context j (get t (ctx j))) (pick-of (λ (z : ℕ). z ≤ contexts) (eqb i j) (λ _. G .low) (λ _. W .place j h));
+        word = λ j h. rw (M .property j (get t (cell (prop j)))) (pick-of SoundWord (eqb i j) (λ _. G .word) (λ _. W .word j h));
+        absent = λ j k h. rw (M .context j (get t (ctx j)), M .property j (get t (cell (prop j)))) (moved-absent j k h (eqb i j) refl);
+        held = λ c p q. rw (M .record′ c (get t (cell (rec c))))
+            (moved-record c (members c (apply ws t)) p q new last (eqb x c) (eqb d c) refl refl refl refl (moved-members c));
+      })
+
+-- ---- a word alone changes
+
+-- a property: no termination goes
+pub modified-place : (t : List ℕ) (i y : ℕ) → length t ≡ words → i < terminations → (j : ℕ) → j < terminations
+    → get (apply (write (cell (prop i)) y ∷ []) t) (ctx j) ≡ get t (ctx j)
+unfolding pick
+modified-place t i y l b j h = get-apply (write (cell (prop i)) y ∷ []) (ctx j) t (b, tt) h l
+
+pub modified-sound : (t : List ℕ) (i y : ℕ) → Whole t → i < terminations → SoundWord y → (lineTerminations ≤ i → get t (ctx i) ≡ 0 → y ≡ 0)
+    → Whole (apply (write (cell (prop i)) y ∷ []) t)
+unfolding pick
+modified-sound t i y W b s a =
+    landed ws t (W .long)
+    (record {
+      within = (b, tt);
+      place = W .place;
+      word = λ j h. pick-of SoundWord (eqb i j) (λ _. s) (λ _. W .word j h);
+      absent = λ j k h z. pick-of (λ (v : ℕ). v ≡ 0) (eqb i j) (λ e. let n : i ≡ j = eqb-true i j e in a (omega arith) (rw n z)) (λ _. W .absent j k h z);
+      held = λ c p q. rw (same c) (W .held c p q);
+    })
+  where
+    ws : List Write
+    ws = write (cell (prop i)) y ∷ []
+
+    same : (c : ℕ) → members c (apply ws t) ≡ members c t
+    same c = members-same c t (apply ws t) (length-apply ws t) (modified-place t i y (W .long) b)
+
+-- the record of a context that exists
+pub recorded-sound : (t : List ℕ) (c r : ℕ) → Whole t → 0 < c → c ≤ contexts → 0 < get t (cell (rec c)) → 0 < r → r ≤ 32
+    → Whole (apply (write (cell (rec c)) r ∷ []) t)
+unfolding pick
+recorded-sound t c r W p q h k l =
+    landed ws t (W .long)
+    (record {
+      within = ((p, q), tt);
+      place = W .place;
+      word = W .word;
+      absent = W .absent;
+      held = λ e u v. rw (same e) (pick-of (λ (z : ℕ). SoundRecord z (members e t)) (eqb c e) (λ n. by e (eqb-true c e n) (W .held e u v)) (λ _. W .held e u v));
+    })
+  where
+    ws : List Write
+    ws = write (cell (rec c)) r ∷ []
+
+    same : (e : ℕ) → members e (apply ws t) ≡ members e t
+    same e = members-same e t (apply ws t) (length-apply ws t) (λ j b. get-apply ws (ctx j) t ((p, q), tt) b (W .long))
+
+    by : (e : ℕ) → c ≡ e → SoundRecord (get t (cell (rec e))) (members e t) → SoundRecord r (members e t)
+    by e n s = let z : 0 < get t (cell (rec e)) = subst (λ (j : ℕ). 0 < get t (cell (rec j))) n h in omega arith

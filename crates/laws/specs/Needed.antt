@@ -1,0 +1,166 @@
+-- Each condition of demand 3 is needed: with one of them left out there are two transactions whose order counts.
+use Prim.Native.Nat.{ℕ, _<_}
+use mathlib.Core.Path.{_≡_, refl, sym, _∙_}
+use mathlib.Core.Bool.{Bool, true, false, not, _&&_}
+use mathlib.Core.List.{List, [], _∷_}
+use borrow.Author.Tests.{eq-eqb, not-true}
+use Rattle.base.specs.Pick.{pick}
+use Rattle.base.specs.Lists.{has, same}
+use Rattle.megaco.specs.Bytes.{star, dollar}
+use Rattle.megaco.specs.Tree.{Transaction}
+use Rattle.megaco.specs.Table.{sound}
+use Rattle.megaco.specs.Running.{runTransaction}
+use Rattle.megaco.specs.declared.Context.the-variants.{Numbered}
+use Rattle.base.proofs.TestLaws.{clash, and-left, and-right}
+use Rattle.laws.specs.Membership.{_∈_, not-has, all?, all-is, onlyZeroShared?, only-zero-shared, in-collect}
+use Rattle.laws.specs.Apart.{contextsOf, namesOf, ContextsPlain, NamesPlain, TerminationsApart, ContextsApart, Apart}
+use Rattle.laws.specs.ApartTest.{contextsPlain?, namesPlain?, writtenNumber, numbered, contexts-plain-is, names-plain-is, terminations-apart-is, contexts-apart-is}
+use Rattle.laws.specs.Demand.{EitherOrder, either-order}
+use Rattle.laws.specs.Witness.{read, with-words, tests, start}
+
+-- demand 3 with other conditions than its own
+abbrev pub Claim : (List ℕ → Transaction → Transaction → Type 0) → Type 0
+Claim P = (t : List ℕ) → sound t ≡ true → (x y : Transaction) → P t x y → EitherOrder t x y
+
+pub demand-3-claims : Claim Apart
+demand-3-claims t e x y = either-order t e x y
+
+-- ---- a computed difference refutes a claim
+
+-- both orders give the same words and bytes
+unfoldable pub alike? : List ℕ → Transaction → Transaction → Bool
+alike? t x y =
+    let a = runTransaction x t in
+    let b = runTransaction y t in
+    let c = runTransaction y (a .table) in
+    let d = runTransaction x (b .table) in
+    same (c .table) (d .table) && same (a .text) (d .text) && same (c .text) (b .text)
+
+same-refl : (l : List ℕ) → same l l ≡ true
+unfolding same pick
+same-refl [] = refl
+same-refl (x ∷ xs) = rw (eq-eqb x x refl, same-refl xs)
+
+order-counts : (t : List ℕ) (x y : Transaction) → alike? t x y ≡ false → EitherOrder t x y → ⊥
+unfolding alike?
+order-counts t x y e o = clash (sym holds ∙ e)
+  where
+    holds : alike? t x y ≡ true
+    holds = rw (o .table, o .reply-one, o .reply-two) (rw (same-refl (runTransaction x (runTransaction y t .table) .table), same-refl (runTransaction x (runTransaction y t .table) .text), same-refl (runTransaction y t .text)))
+
+refute : (P : List ℕ → Transaction → Transaction → Type 0) (t : List ℕ) (x y : Transaction) → sound t ≡ true → alike? t x y ≡ false → P t x y → Claim P → ⊥
+refute P t x y s e p claim = order-counts t x y e (claim t s x y p)
+
+-- ---- the conditions, of both transactions
+
+abbrev pub PlainContexts : Transaction → Transaction → Type 0
+PlainContexts x y = ContextsPlain x × ContextsPlain y
+
+abbrev pub PlainNames : Transaction → Transaction → Type 0
+PlainNames x y = NamesPlain x × NamesPlain y
+
+-- names without one byte
+abbrev pub NamesWithout : ℕ → Transaction → Transaction → Type 0
+NamesWithout b x y = ((n : List ℕ) → n ∈ namesOf x → b ∈ n → ⊥) × ((n : List ℕ) → n ∈ namesOf y → b ∈ n → ⊥)
+
+-- the contexts written, and no more, are apart
+abbrev pub WrittenApart : Transaction → Transaction → Type 0
+WrittenApart x y = (c : ℕ) → 0 < c → Numbered c ∈ contextsOf x → Numbered c ∈ contextsOf y → ⊥
+
+module _ (x y : Transaction) where
+  plain-contexts : contextsPlain? x && contextsPlain? y ≡ true → PlainContexts x y
+  plain-contexts e = (contexts-plain-is x .0 (and-left _ (contextsPlain? y) e), contexts-plain-is y .0 (and-right (contextsPlain? x) _ e))
+
+  plain-names : namesPlain? x && namesPlain? y ≡ true → PlainNames x y
+  plain-names e = (names-plain-is x .0 (and-left _ (namesPlain? y) e), names-plain-is y .0 (and-right (namesPlain? x) _ e))
+
+  without : (b : ℕ) → all? (λ n. not (has b n)) (namesOf x) ≡ true → all? (λ n. not (has b n)) (namesOf y) ≡ true → NamesWithout b x y
+  without b p q = (lacks x p, lacks y q)
+    where
+      lacks : (z : Transaction) → all? (λ n. not (has b n)) (namesOf z) ≡ true → (n : List ℕ) → n ∈ namesOf z → b ∈ n → ⊥
+      lacks z e n m = not-has b n (not-true (has b n) (all-is (λ n. not (has b n)) (namesOf z) e n m))
+
+  written-apart : onlyZeroShared? (numbered x) (numbered y) ≡ true → WrittenApart x y
+  unfolding numbered writtenNumber
+  written-apart e c h a b =
+      only-zero-shared (numbered x) (numbered y) .0 e c h (in-collect writtenNumber (contextsOf x) (Numbered c) c a refl) (in-collect writtenNumber (contextsOf y) (Numbered c) c b refl)
+
+-- ---- each one left out
+
+abbrev eight : List ℕ
+eight = with-words ((0, 1) ∷ (1, 1) ∷ (2, 1) ∷ (3, 1) ∷ (4, 1) ∷ (5, 1) ∷ (6, 1) ∷ (7, 1) ∷ (624, 1) ∷ [])
+
+abbrev alone : List ℕ
+alone = with-words ((0, 3) ∷ (1, 1) ∷ (624, 1) ∷ (626, 1) ∷ [])
+
+-- contexts may be shared: eight in context 1, one leaves and one joins
+pub shared-context : Claim (λ t x y. PlainContexts x y × PlainNames x y × TerminationsApart x y) → ⊥
+shared-context =
+    refute (λ t x y. PlainContexts x y × PlainNames x y × TerminationsApart x y) eight x y (unfold tests in refl) (unfold tests alike? in refl)
+    (plain-contexts x y (unfold tests in refl), plain-names x y (unfold tests in refl), terminations-apart-is x y .0 (unfold tests in refl))
+  where
+    x : Transaction
+    x = read "T=1{C=1{S=L/1/1}}"
+
+    y : Transaction
+    y = read "T=2{C=1{A=L/2/1}}"
+
+-- the contexts written are apart, and where the terminations stand at the start is left out: L/1/1 alone in 3, L/1/2 in 1
+pub start-contexts : Claim (λ t x y. PlainContexts x y × PlainNames x y × TerminationsApart x y × WrittenApart x y) → ⊥
+start-contexts =
+    refute (λ t x y. PlainContexts x y × PlainNames x y × TerminationsApart x y × WrittenApart x y) alone x y (unfold tests in refl) (unfold tests alike? in refl)
+    (plain-contexts x y (unfold tests in refl), plain-names x y (unfold tests in refl), terminations-apart-is x y .0 (unfold tests in refl), written-apart x y (unfold tests in refl))
+  where
+    x : Transaction
+    x = read "T=1{C=1{MV=L/1/1}}"
+
+    y : Transaction
+    y = read "T=2{C=3{A=L/2/1}}"
+
+-- terminations may be shared: one channel, in either letter case, wanted in two contexts
+pub shared-termination : Claim (λ t x y. PlainContexts x y × PlainNames x y × ContextsApart t x y) → ⊥
+shared-termination =
+    refute (λ t x y. PlainContexts x y × PlainNames x y × ContextsApart t x y) start x y (unfold tests in refl) (unfold tests alike? in refl)
+    (plain-contexts x y (unfold tests in refl), plain-names x y (unfold tests in refl), contexts-apart-is start x y .0 (unfold tests in refl))
+  where
+    x : Transaction
+    x = read "T=1{C=1{A=L/3/1}}"
+
+    y : Transaction
+    y = read "T=2{C=2{A=l/3/1}}"
+
+-- names may hold `$`: two ephemerals, both chosen
+pub chosen-termination : Claim (λ t x y. PlainContexts x y × NamesWithout star x y × TerminationsApart x y × ContextsApart t x y) → ⊥
+chosen-termination =
+    refute (λ t x y. PlainContexts x y × NamesWithout star x y × TerminationsApart x y × ContextsApart t x y) start x y (unfold tests in refl) (unfold tests alike? in refl)
+    (plain-contexts x y (unfold tests in refl), without x y star (unfold tests in refl) (unfold tests in refl), terminations-apart-is x y .0 (unfold tests in refl), contexts-apart-is start x y .0 (unfold tests in refl))
+  where
+    x : Transaction
+    x = read "T=1{C=1{A=$}}"
+
+    y : Transaction
+    y = read "T=2{C=2{A=R/$}}"
+
+-- names may hold `*`: all who stand elsewhere
+pub wildcard : Claim (λ t x y. PlainContexts x y × NamesWithout dollar x y × TerminationsApart x y × ContextsApart t x y) → ⊥
+wildcard =
+    refute (λ t x y. PlainContexts x y × NamesWithout dollar x y × TerminationsApart x y × ContextsApart t x y) start x y (unfold tests in refl) (unfold tests alike? in refl)
+    (plain-contexts x y (unfold tests in refl), without x y dollar (unfold tests in refl) (unfold tests in refl), terminations-apart-is x y .0 (unfold tests in refl), contexts-apart-is start x y .0 (unfold tests in refl))
+  where
+    x : Transaction
+    x = read "T=1{C=1{MV=*}}"
+
+    y : Transaction
+    y = read "T=2{C=2{A=L/3/1}}"
+
+-- contexts may be `$`: two contexts, both chosen
+pub chosen-context : Claim (λ t x y. PlainNames x y × TerminationsApart x y × ContextsApart t x y) → ⊥
+chosen-context =
+    refute (λ t x y. PlainNames x y × TerminationsApart x y × ContextsApart t x y) start x y (unfold tests in refl) (unfold tests alike? in refl)
+    (plain-names x y (unfold tests in refl), terminations-apart-is x y .0 (unfold tests in refl), contexts-apart-is start x y .0 (unfold tests in refl))
+  where
+    x : Transaction
+    x = read "T=1{C=${A=L/3/1}}"
+
+    y : Transaction
+    y = read "T=2{C=${A=L/3/2}}"

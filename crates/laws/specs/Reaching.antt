@@ -1,0 +1,132 @@
+-- The footprint of a transaction from a sound table: the terminations that it names, and the contexts that it reaches.
+use Prim.Native.Nat.{ℕ, zero, suc, _≤_, _<_}
+use mathlib.Core.Path.{_≡_, refl, sym, subst}
+use mathlib.Core.Bool.{Bool, true, false}
+use mathlib.Core.List.{List, [], _∷_, List·Memᴰ·head, List·Memᴰ·tail}
+use lib.ListN.{length, getD, take}
+use lib.Dec.{leb}
+use borrow.Author.Tests.{eqb-true, leb-true}
+use native.Mathlib.Omega.{arith}
+use Rattle.base.specs.Pick.{pick}
+use Rattle.base.specs.Lists.{every}
+use Rattle.megaco.specs.Bytes.{star, dollar}
+use Rattle.megaco.specs.Tree.{Command, command, Action, action, Transaction, transaction}
+use Rattle.megaco.specs.Table.{terminations, contexts, words, ctx, get, contextWords, sound}
+use Rattle.megaco.specs.Names.{nameOf}
+use Rattle.megaco.specs.Running.{Step, orders, steps, fresh}
+use Rattle.megaco.specs.declared.Context.{Context}
+use Rattle.megaco.specs.declared.Name.{Name}
+use Rattle.base.proofs.TestLaws.{clash, and-left, and-right}
+use Rattle.laws.specs.Frame.{Foot, Closed, Disjoint}
+use Rattle.laws.specs.Views.{known-above, known-below, Seat}
+use Rattle.laws.specs.Steps.{Means, Named}
+use Rattle.laws.specs.Mix.{Both, run-one, run-two, Mixture, mixed, Each, Ready, exchange, one-after-other}
+use Rattle.laws.specs.Membership.{_∈_, has-not}
+use Rattle.laws.specs.PlainNames.{Plain, aTermination, root, unknown, plain-below, plain-name}
+use Rattle.laws.specs.Apart.{contextsIn, namesThen, namesIn, namesOf, ByNumberOrNull, by-number, null-one, ContextsPlain, NamesPlain, Names, Reaches, writes, stands, Apart}
+
+-- ---- of a sound table: its length, and that nobody stands in a context past the last. No more of soundness is asked here
+
+every-at : (p : ℕ → Bool) (k : ℕ) (t : List ℕ) → every p (take k t) ≡ true → (i : ℕ) → i < k → i < length t → p (getD t i 0) ≡ true
+unfolding every pick
+every-at p zero t e i h l = absurd (omega arith)
+every-at p (suc k) [] e i h l = absurd (omega arith)
+every-at p (suc k) (x ∷ xs) e zero h l = first (p x) e
+  where
+    first : (a : Bool) → pick a (every p (take k xs)) false ≡ true → a ≡ true
+    first true e = refl
+    first false e = e
+every-at p (suc k) (x ∷ xs) e (suc i) h l = every-at p k xs (rest (p x) e) i (omega arith) (omega arith)
+  where
+    rest : (a : Bool) → pick a (every p (take k xs)) false ≡ true → every p (take k xs) ≡ true
+    rest true e = e
+    rest false e = absurd (clash (sym e))
+
+sound-long : (t : List ℕ) → sound t ≡ true → length t ≡ words
+unfolding sound
+sound-long t e = eqb-true (length t) words (search (and-left, and-right))
+
+sound-low : (t : List ℕ) → sound t ≡ true → (i : ℕ) → i < terminations → get t (ctx i) ≤ contexts
+unfolding sound contextWords
+sound-low t e i h = leb-true (getD t i 0) contexts (every-at (λ w. leb w contexts) terminations t (search (and-left, and-right)) i h (rw (sound-long t e) (omega arith)))
+
+-- ---- the footprint of a transaction from a table
+
+abbrev Reach : List ℕ → Transaction → ℕ → Type 0
+Reach t x c = (0 < c) × (c ≤ contexts) × Reaches t x c
+
+names-plain : (x : Transaction) → NamesPlain x → (n : List ℕ) → n ∈ namesOf x → Plain (nameOf n)
+names-plain x p n m = plain-name n (has-not star n (p n m .0)) (has-not dollar n (p n m .1))
+
+names-below : (x : Transaction) → NamesPlain x → (i : ℕ) → Names x i → i < terminations
+names-below x p i m = plain-below (subst Plain (m .means) (names-plain x p (m .name) (m .written)))
+
+foot : (t : List ℕ) (x : Transaction) → NamesPlain x → Foot (Names x) (Reach t x)
+foot t x p = record { small = names-below x p; above = λ c r. r .0; below = λ c r. r .1 }
+
+closed : (t : List ℕ) (x : Transaction) → sound t ≡ true → NamesPlain x → Closed (Names x) (Reach t x) t
+closed t x e p = record { long = sound-long t e; home = λ i m h. (h, sound-low t e i (names-below x p i m), stands i m refl) }
+
+-- ---- each step of a transaction is one of its footprint
+
+module _ (N K : ℕ → Type 0) where
+  named-orders : (cs : List Command) (rest : List (List ℕ)) (ss : List Step) → ((n : List ℕ) → n ∈ namesThen cs rest → Means N K (nameOf n))
+      → (((n : List ℕ) → n ∈ rest → Means N K (nameOf n)) → Each (Named N K) ss) → Each (Named N K) (orders cs ss)
+  unfolding namesThen orders
+  named-orders [] rest ss f g = g f
+  named-orders (command o w word name items ∷ cs) rest ss f g =
+      (f name (List·Memᴰ·head refl), named-orders cs rest ss (λ n m. f n (List·Memᴰ·tail m)) g)
+
+  named-steps : (acts : List Action) → ((c : Context) → c ∈ contextsIn acts → Seat N K c) → ((n : List ℕ) → n ∈ namesIn acts → Means N K (nameOf n))
+      → Each (Named N K) (steps acts)
+  unfolding contextsIn namesIn steps
+  named-steps [] f g = tt
+  named-steps (action c ps cs ∷ acts) f g =
+      (f c (List·Memᴰ·head refl), named-orders cs (namesIn acts) (steps acts) g (named-steps acts (λ d m. f d (List·Memᴰ·tail m))))
+
+abbrev pub stepsOf : Transaction → List Step
+stepsOf (transaction id acts) = steps acts
+
+named : (t : List ℕ) (x : Transaction) → ContextsPlain x → NamesPlain x → Each (Named (Names x) (Reach t x)) (stepsOf x)
+named t (transaction id acts) p q = named-steps (Names x) (Reach t x) acts (λ c m. seat c m (p c m)) (λ n m. means n m (nameOf n) refl (names-plain x q n m))
+  where
+    x : Transaction
+    x = transaction id acts
+
+    seat : (c : Context) → c ∈ contextsIn acts → ByNumberOrNull c → Seat (Names x) (Reach t x) c
+    seat _ m (by-number {c = c}) = λ e. (known-above c e, known-below c e, writes m)
+    seat _ m null-one = tt
+
+    means : (n : List ℕ) → n ∈ namesIn acts → (y : Name) → nameOf n ≡ y → Plain y → Means (Names x) (Reach t x) y
+    means n m _ e (aTermination h) = record { name = n; written = m; means = e }
+    means n m _ e root = tt
+    means n m _ e unknown = tt
+
+-- ---- both orders, any mixture
+
+-- at the start neither has taken a step
+abbrev pub outset : List ℕ → Both
+outset t = record { table = t; one = fresh; two = fresh }
+
+module _ (t : List ℕ) (e : sound t ≡ true) (x y : Transaction) (A : Apart t x y) where
+  disjoint : Disjoint (Names x) (Reach t x) (Names y) (Reach t y)
+  disjoint =
+      record {
+        one = foot t x (A .names-one);
+        two = foot t y (A .names-two);
+        apart-terminations = A .terminations;
+        apart-contexts = λ c a b. A .contexts c (a .0) (a .2) (b .2);
+      }
+
+  ready : Ready (Names x) (Reach t x) (Names y) (Reach t y) (outset t)
+  ready = record { one-closed = closed t x e (A .names-one); two-closed = closed t y e (A .names-two); one-seats = tt; two-seats = tt }
+
+  pub orders-alike : run-one (stepsOf x) (run-two (stepsOf y) (outset t)) ≡ run-two (stepsOf y) (run-one (stepsOf x) (outset t))
+  orders-alike =
+      exchange (Names x) (Reach t x) (Names y) (Reach t y) disjoint (stepsOf x) (stepsOf y) (outset t)
+      (named t x (A .contexts-one) (A .names-one)) (named t y (A .contexts-two) (A .names-two)) ready
+
+  pub mixture-alike : (z : Mixture (stepsOf x) (stepsOf y)) → mixed z (outset t) ≡ run-two (stepsOf y) (run-one (stepsOf x) (outset t))
+  mixture-alike z =
+      one-after-other (Names x) (Reach t x) (Names y) (Reach t y) disjoint z (outset t)
+      (named t x (A .contexts-one) (A .names-one)) (named t y (A .contexts-two) (A .names-two)) ready

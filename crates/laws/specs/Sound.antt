@@ -1,0 +1,265 @@
+-- A sound table (document 01, 'The lent table') as facts by the number of a termination and of a context, and both ways to the test `sound`.
+use Prim.Native.Nat.{ℕ, zero, suc, _+_, _-_, _≤_, _<_, min}
+use mathlib.Core.Path.{_≡_, refl, sym, ap, _∙_}
+use mathlib.Core.Bool.{Bool, true, false, not, _&&_}
+use mathlib.Core.List.{List, [], _∷_}
+use lib.ListN.{length, replicate, getD, drop, length-take, length-drop}
+use lib.Seq.{getD-take, getD-drop}
+use lib.Dec.{leb, eqb}
+use borrow.Author.Tests.{eqb-true, eqb-false, eq-eqb, ne-eqb, leb-true, le-leb, not-true, not-false}
+use native.Mathlib.Nat.{add-zero}
+use native.Mathlib.Omega.{arith}
+use Rattle.base.specs.Pick.{pick}
+use Rattle.base.specs.Lists.{every, count}
+use Rattle.megaco.specs.Table.{lineTerminations, ephemerals, terminations, contexts, words, most, prop, rec, ctx, cell, get, contextWords, propertyWords, recordWords, ephemeralContexts, ephemeralProperties, members, modeOf, stateOf, isPropertyWord, absentAreZero, recordIsSound, recordsAreSound, sound}
+use Rattle.base.proofs.TestLaws.{and-both, both-and, pick-both, both-pick, pick-other, other-pick}
+
+-- ---- facts
+
+-- "each property one of the 15 values"
+pub record SoundWord (w : ℕ) : Type 0 where
+  pub mode : modeOf w ≤ 4
+  pub state : stateOf w ≤ 2
+
+-- a record r of a context with m terminations: "at most 32, and not 0 exactly when some termination stands in that context; at most 8"
+pub record SoundRecord (r m : ℕ) : Type 0 where
+  pub low : r ≤ 32
+  pub both : min r 1 ≡ min m 1
+  pub room : m ≤ most
+
+pub record Whole (t : List ℕ) : Type 0 where
+  pub long : length t ≡ words
+  -- "each context word at most 128"
+  pub place : (i : ℕ) → i < terminations → get t (ctx i) ≤ contexts
+  pub word : (i : ℕ) → i < terminations → SoundWord (get t (cell (prop i)))
+  -- "an absent ephemeral's property 0"
+  pub absent : (i : ℕ) → lineTerminations ≤ i → i < terminations → get t (ctx i) ≡ 0 → get t (cell (prop i)) ≡ 0
+  pub held : (c : ℕ) → 0 < c → c ≤ contexts → SoundRecord (get t (cell (rec c))) (members c t)
+
+-- a context has a record exactly when some termination stands in it
+pub alive : (t : List ℕ) → Whole t → (c : ℕ) → 0 < c → c ≤ contexts → 0 < members c t → 0 < get t (cell (rec c))
+alive t w c p q h = let s = w .held c p q in omega arith
+
+pub peopled : (t : List ℕ) → Whole t → (c : ℕ) → 0 < c → c ≤ contexts → 0 < get t (cell (rec c)) → 0 < members c t
+peopled t w c p q h = let s = w .held c p q in omega arith
+
+-- ---- the tests of one word, and of one record
+
+pub word-sound : (w : ℕ) → isPropertyWord w ≡ true → SoundWord w
+unfolding isPropertyWord
+word-sound w e =
+    let b = and-both (leb (modeOf w) 4) (leb (stateOf w) 2) e in
+    record { mode = leb-true (modeOf w) 4 (b .0); state = leb-true (stateOf w) 2 (b .1) }
+
+pub sound-word : (w : ℕ) → SoundWord w → isPropertyWord w ≡ true
+unfolding isPropertyWord
+sound-word w s = both-and (leb (modeOf w) 4) (leb (stateOf w) 2) (le-leb (modeOf w) 4 (s .mode)) (le-leb (stateOf w) 2 (s .state))
+
+-- both are 0, or neither
+both-zero : (r m : ℕ) (b : Bool) → eqb m 0 ≡ b → pick b (eqb r 0) (not (eqb r 0)) ≡ true → min r 1 ≡ min m 1
+unfolding pick
+both-zero r m true e h = omega (arith, eqb-true m 0 e, eqb-true r 0 h)
+both-zero r m false e h = omega (arith, eqb-false m 0 e, eqb-false r 0 (not-true (eqb r 0) h))
+
+zero-both : (r m : ℕ) (b : Bool) → eqb m 0 ≡ b → min r 1 ≡ min m 1 → pick b (eqb r 0) (not (eqb r 0)) ≡ true
+unfolding pick
+zero-both r m true e h = eq-eqb r 0 (omega (arith, eqb-true m 0 e))
+zero-both r m false e h = ap not (ne-eqb r 0 (λ z. eqb-false m 0 e (omega arith)))
+
+pub record-sound : (r m : ℕ) → recordIsSound r m ≡ true → SoundRecord r m
+unfolding recordIsSound
+record-sound r m e =
+    let p : Bool = pick (eqb m 0) (eqb r 0) (not (eqb r 0)) in
+    let b = and-both (leb r 32 && p) (leb m most) e in
+    let a = and-both (leb r 32) p (b .0) in
+    record { low = leb-true r 32 (a .0); both = both-zero r m (eqb m 0) refl (a .1); room = leb-true m most (b .1) }
+
+pub sound-record : (r m : ℕ) → SoundRecord r m → recordIsSound r m ≡ true
+unfolding recordIsSound
+sound-record r m s = rw (le-leb r 32 (s .low), zero-both r m (eqb m 0) refl (s .both)) (le-leb m most (s .room))
+
+-- ---- the tests of a row of words
+
+module _ (p : ℕ → Bool) where
+  every-at : (l : List ℕ) → every p l ≡ true → (i : ℕ) → i < length l → p (getD l i 0) ≡ true
+  unfolding every
+  every-at [] e i h = absurd (omega arith)
+  every-at (x ∷ xs) e zero h = pick-both (p x) (every p xs) e .0
+  every-at (x ∷ xs) e (suc i) h = every-at xs (pick-both (p x) (every p xs) e .1) i (omega arith)
+
+  at-every : (l : List ℕ) → ((i : ℕ) → i < length l → p (getD l i 0) ≡ true) → every p l ≡ true
+  unfolding every
+  at-every [] f = refl
+  at-every (x ∷ xs) f = both-pick (p x) (every p xs) (f 0 (omega arith)) (at-every xs (λ i h. f (suc i) (omega arith)))
+
+absent-at : (cs ps : List ℕ) → absentAreZero cs ps ≡ true → (i : ℕ) → i < length cs → i < length ps → getD cs i 0 ≡ 0 → getD ps i 0 ≡ 0
+unfolding absentAreZero
+absent-at [] ps e i h k z = absurd (omega arith)
+absent-at (c ∷ cs) [] e i h k z = absurd (omega arith)
+absent-at (c ∷ cs) (p ∷ ps) e zero h k z =
+    eqb-true p 0 (not-false (eqb p 0) (rw (eq-eqb c 0 z) at (pick-other (eqb c 0 && not (eqb p 0)) (absentAreZero cs ps) e .0)))
+absent-at (c ∷ cs) (p ∷ ps) e (suc i) h k z = absent-at cs ps (pick-other (eqb c 0 && not (eqb p 0)) (absentAreZero cs ps) e .1) i (omega arith) (omega arith) z
+
+at-absent : (cs ps : List ℕ) → ((i : ℕ) → i < length cs → i < length ps → getD cs i 0 ≡ 0 → getD ps i 0 ≡ 0) → absentAreZero cs ps ≡ true
+unfolding absentAreZero
+at-absent [] ps f = refl
+at-absent (c ∷ cs) [] f = refl
+at-absent (c ∷ cs) (p ∷ ps) f =
+    other-pick (eqb c 0 && not (eqb p 0)) (absentAreZero cs ps) (by (eqb c 0) refl) (at-absent cs ps (λ i h k. f (suc i) (omega arith) (omega arith)))
+  where
+    by : (b : Bool) → eqb c 0 ≡ b → b && not (eqb p 0) ≡ false
+    by true e = ap not (eq-eqb p 0 (f 0 (omega arith) (omega arith) (eqb-true c 0 e)))
+    by false e = refl
+
+records-at : (cs : List ℕ) (c : ℕ) (rs : List ℕ) → recordsAreSound cs c rs ≡ true → (i : ℕ) → i < length rs → SoundRecord (getD rs i 0) (count (c + i) cs)
+unfolding recordsAreSound
+records-at cs c [] e i h = absurd (omega arith)
+records-at cs c (r ∷ rs) e zero h = rw add-zero (record-sound r (count c cs) (pick-both (recordIsSound r (count c cs)) (recordsAreSound cs (c + 1) rs) e .0))
+records-at cs c (r ∷ rs) e (suc i) h =
+    let n : c + suc i ≡ c + 1 + i = omega arith in
+    rw n (records-at cs (c + 1) rs (pick-both (recordIsSound r (count c cs)) (recordsAreSound cs (c + 1) rs) e .1) i (omega arith))
+
+at-records : (cs : List ℕ) (c : ℕ) (rs : List ℕ) → ((i : ℕ) → i < length rs → SoundRecord (getD rs i 0) (count (c + i) cs)) → recordsAreSound cs c rs ≡ true
+unfolding recordsAreSound
+at-records cs c [] f = refl
+at-records cs c (r ∷ rs) f =
+    both-pick (recordIsSound r (count c cs)) (recordsAreSound cs (c + 1) rs) (sound-record r (count c cs) (rw add-zero at (f 0 (omega arith))))
+    (at-records cs (c + 1) rs (λ i h. let n : c + 1 + i ≡ c + suc i = omega arith in rw n (f (suc i) (omega arith))))
+
+-- ---- the parts of a table
+
+module _ (t : List ℕ) (l : length t ≡ words) where
+  pub context-words : length (contextWords t) ≡ terminations
+  unfolding contextWords
+  context-words = simp length-take (omega arith)
+
+  pub property-words : length (propertyWords t) ≡ terminations
+  unfolding propertyWords
+  property-words = simp (length-take, length-drop) (omega arith)
+
+  pub record-words : length (recordWords t) ≡ contexts
+  unfolding recordWords
+  record-words = simp (length-take, length-drop) (omega arith)
+
+  pub ephemeral-contexts : length (ephemeralContexts t) ≡ ephemerals
+  unfolding ephemeralContexts
+  ephemeral-contexts = simp length-drop (omega (arith, context-words))
+
+  pub ephemeral-properties : length (ephemeralProperties t) ≡ ephemerals
+  unfolding ephemeralProperties
+  ephemeral-properties = simp length-drop (omega (arith, property-words))
+
+pub context-at : (t : List ℕ) (i : ℕ) → i < terminations → getD (contextWords t) i 0 ≡ get t (ctx i)
+unfolding contextWords
+context-at t i h = getD-take terminations t i 0 h
+
+pub property-at : (t : List ℕ) (i : ℕ) → i < terminations → getD (propertyWords t) i 0 ≡ get t (cell (prop i))
+unfolding propertyWords
+property-at t i h = getD-take terminations (drop terminations t) i 0 h ∙ getD-drop terminations t i 0
+
+pub record-at : (t : List ℕ) (k : ℕ) → k < contexts → getD (recordWords t) k 0 ≡ get t (cell (rec (1 + k)))
+unfolding recordWords
+record-at t k h =
+    let n : terminations + (terminations + (1 + k - 1)) ≡ terminations + terminations + k = omega arith in
+    rw n (getD-take contexts (drop (terminations + terminations) t) k 0 h ∙ getD-drop (terminations + terminations) t k 0)
+
+pub ephemeral-context-at : (t : List ℕ) (k : ℕ) → k < ephemerals → getD (ephemeralContexts t) k 0 ≡ get t (ctx (lineTerminations + k))
+unfolding ephemeralContexts
+ephemeral-context-at t k h = getD-drop lineTerminations (contextWords t) k 0 ∙ context-at t (lineTerminations + k) (omega arith)
+
+pub ephemeral-property-at : (t : List ℕ) (k : ℕ) → k < ephemerals → getD (ephemeralProperties t) k 0 ≡ get t (cell (prop (lineTerminations + k)))
+unfolding ephemeralProperties
+ephemeral-property-at t k h = getD-drop lineTerminations (propertyWords t) k 0 ∙ property-at t (lineTerminations + k) (omega arith)
+
+-- ---- the test of a table
+
+-- the five tests of `sound`, one by one
+record FiveTests (t : List ℕ) : Type 0 where
+  long : eqb (length t) words ≡ true
+  places : every (λ w. leb w contexts) (contextWords t) ≡ true
+  properties : every isPropertyWord (propertyWords t) ≡ true
+  absents : absentAreZero (ephemeralContexts t) (ephemeralProperties t) ≡ true
+  records : recordsAreSound (contextWords t) 1 (recordWords t) ≡ true
+
+sound-tests : (t : List ℕ) → sound t ≡ true → FiveTests t
+unfolding sound
+sound-tests t e =
+    let b₁ = and-both _ _ e in
+    let b₂ = and-both _ _ (b₁ .0) in
+    let b₃ = and-both _ _ (b₂ .0) in
+    let b₄ = and-both _ _ (b₃ .0) in
+    record { long = b₄ .0; places = b₄ .1; properties = b₃ .1; absents = b₂ .1; records = b₁ .1 }
+
+tests-sound : (t : List ℕ) → FiveTests t → sound t ≡ true
+unfolding sound
+tests-sound t s = rw (s .long, s .places, s .properties, s .absents, s .records)
+
+pub sound-whole : (t : List ℕ) → sound t ≡ true → Whole t
+unfolding members
+sound-whole t e = record { long = long; place = place; word = word; absent = absent; held = held }
+  where
+    s : FiveTests t
+    s = sound-tests t e
+
+    long : length t ≡ words
+    long = eqb-true (length t) words (s .long)
+
+    place : (i : ℕ) → i < terminations → get t (ctx i) ≤ contexts
+    place i h =
+        rw (context-at t i h) at (leb-true (getD (contextWords t) i 0) contexts (every-at (λ w. leb w contexts) (contextWords t) (s .places) i (omega (arith, context-words t long))))
+
+    word : (i : ℕ) → i < terminations → SoundWord (get t (cell (prop i)))
+    word i h =
+        rw (property-at t i h) at (word-sound (getD (propertyWords t) i 0) (every-at isPropertyWord (propertyWords t) (s .properties) i (omega (arith, property-words t long))))
+
+    absent : (i : ℕ) → lineTerminations ≤ i → i < terminations → get t (ctx i) ≡ 0 → get t (cell (prop i)) ≡ 0
+    absent i k h z =
+        let j : ℕ = i - lineTerminations in
+        let n : i ≡ lineTerminations + j = omega arith in
+        let b : j < ephemerals = omega arith in
+        let f = absent-at (ephemeralContexts t) (ephemeralProperties t) (s .absents) j (omega (arith, ephemeral-contexts t long)) (omega (arith, ephemeral-properties t long)) in
+        rw n (sym (ephemeral-property-at t j b) ∙ f (ephemeral-context-at t j b ∙ rw (← n) z))
+
+    held : (c : ℕ) → 0 < c → c ≤ contexts → SoundRecord (get t (cell (rec c))) (members c t)
+    held c p q =
+        let k : ℕ = c - 1 in
+        let n : c ≡ 1 + k = omega arith in
+        let b : k < contexts = omega arith in
+        rw n (rw (record-at t k b) at (records-at (contextWords t) 1 (recordWords t) (s .records) k (omega (arith, record-words t long))))
+
+pub whole-sound : (t : List ℕ) → Whole t → sound t ≡ true
+unfolding members
+whole-sound t w =
+    tests-sound t
+    (record {
+      long = eq-eqb (length t) words (w .long);
+      places = at-every (λ x. leb x contexts) (contextWords t) place;
+      properties = at-every isPropertyWord (propertyWords t) word;
+      absents = at-absent (ephemeralContexts t) (ephemeralProperties t) absent;
+      records = at-records (contextWords t) 1 (recordWords t) held;
+    })
+  where
+    place : (i : ℕ) → i < length (contextWords t) → leb (getD (contextWords t) i 0) contexts ≡ true
+    place i h =
+        let b : i < terminations = omega (arith, context-words t (w .long)) in
+        rw (context-at t i b) (le-leb (get t (ctx i)) contexts (w .place i b))
+
+    word : (i : ℕ) → i < length (propertyWords t) → isPropertyWord (getD (propertyWords t) i 0) ≡ true
+    word i h =
+        let b : i < terminations = omega (arith, property-words t (w .long)) in
+        rw (property-at t i b) (sound-word (get t (cell (prop i))) (w .word i b))
+
+    absent : (i : ℕ) → i < length (ephemeralContexts t) → i < length (ephemeralProperties t) → getD (ephemeralContexts t) i 0 ≡ 0 → getD (ephemeralProperties t) i 0 ≡ 0
+    absent i h k z =
+        let b : i < ephemerals = omega (arith, ephemeral-contexts t (w .long)) in
+        ephemeral-property-at t i b ∙ w .absent (lineTerminations + i) (omega arith) (omega arith) (sym (ephemeral-context-at t i b) ∙ z)
+
+    held : (i : ℕ) → i < length (recordWords t) → SoundRecord (getD (recordWords t) i 0) (count (1 + i) (contextWords t))
+    held i h =
+        let b : i < contexts = omega (arith, record-words t (w .long)) in
+        rw (record-at t i b) (w .held (1 + i) (omega arith) (omega arith))
+
+-- "All zero is the fresh table"
+pub fresh-sound : sound (replicate words 0) ≡ true
+unfolding sound contextWords propertyWords recordWords ephemeralContexts ephemeralProperties every isPropertyWord absentAreZero recordIsSound recordsAreSound count pick
+fresh-sound = refl

@@ -1,0 +1,86 @@
+-- What an attempt sees depends on its footprint alone.
+use Prim.Native.Nat.{ℕ, _≤_, _<_}
+use mathlib.Core.Path.{_≡_, refl, sym, ap, _∙_}
+use mathlib.Core.Bool.{Bool, true, false}
+use mathlib.Core.List.{List}
+use lib.Dec.{eqb, leb, ltb}
+use borrow.Author.Tests.{leb-true, ltb-true}
+use Rattle.base.specs.Pick.{pick}
+use Rattle.megaco.specs.Table.{terminations, contexts, prop, rec, ctx, cell, get, known, members, contextWords}
+use Rattle.megaco.specs.Running.{unseen, seen, numberOf, freeAt, look}
+use Rattle.megaco.specs.declared.Context.{Context}
+use Rattle.megaco.specs.declared.Context.the-variants.{Null, Numbered, Choose, All}
+use Rattle.megaco.specs.declared.Seen.{Seen}
+use Rattle.base.proofs.TestLaws.{clash, and-left, and-right}
+use Rattle.laws.specs.Counting.{count-agree}
+use Rattle.laws.specs.Frame.{Foot, Closed, Agree}
+
+pub known-above : (c : ℕ) → known c ≡ true → 0 < c
+unfolding known
+known-above c e = ltb-true 0 c (and-left (ltb 0 c) (leb c contexts) e)
+
+pub known-below : (c : ℕ) → known c ≡ true → c ≤ contexts
+unfolding known
+known-below c e = leb-true c contexts (and-right (ltb 0 c) (leb c contexts) e)
+
+-- what is known of a context that is none of 1..128 is 0
+pub held-known : (c : ℕ) (t : List ℕ) → eqb (seen c t .held) 0 ≡ false → known c ≡ true
+unfolding seen pick
+held-known c t = by (known c)
+  where
+    by : (b : Bool) → eqb (pick b (record { held = get t (cell (rec c)); members = members c t }) unseen .held) 0 ≡ false → b ≡ true
+    by true e = refl
+    by false e = absurd (clash e)
+
+module _ (N K : ℕ → Type 0) where
+  -- a context that a step stands in
+  abbrev pub Seat : Context → Type 0
+  Seat Null = Unit {0}
+  Seat (Numbered c) = known c ≡ true → K c
+  Seat Choose = ⊥
+  Seat All = ⊥
+
+  -- null has no number to be known
+  seat-known : (w : Context) → Seat w → known (numberOf w) ≡ true → K (numberOf w)
+  unfolding numberOf known
+  seat-known Null s e = absurd (clash (sym e))
+  seat-known (Numbered c) s e = s e
+  seat-known Choose s e = absurd s
+  seat-known All s e = absurd s
+
+  module _ (F : Foot N K) (t u : List ℕ) (a : Agree N K t u) where
+    seen-same : (c : ℕ) → (known c ≡ true → K c) → seen c t ≡ seen c u
+    unfolding seen members contextWords pick
+    seen-same c s = by (known c) refl
+      where
+        by : (x : Bool) → known c ≡ x
+            → _≡_ {A = Seen}
+            (pick x (record { held = get t (cell (rec c)); members = members c t }) unseen)
+            (pick x (record { held = get u (cell (rec c)); members = members c u }) unseen)
+        by true e =
+            λ j. record {
+              held = a .same (cell (rec c)) (F .above c (s e), F .below c (s e)) (s e) j;
+              members = count-agree terminations c t u (a .long) (a .stand c (s e)) j;
+            }
+        by false e = refl
+
+    -- what is seen of the context that a step stands in
+    pub seat-same : (w : Context) → Seat w → seen (numberOf w) t ≡ seen (numberOf w) u
+    seat-same w s = seen-same (numberOf w) (seat-known w s)
+
+    free-same : (w : Context) → Seat w → freeAt w t ≡ freeAt w u
+    unfolding freeAt
+    free-same Null s = refl
+    free-same (Numbered c) s = refl
+    free-same Choose s = absurd s
+    free-same All s = absurd s
+
+    pub look-same : (w : Context) (i : ℕ) → Closed N K t → Seat w → N i → look w i t ≡ look w i u
+    unfolding look
+    look-same w i c s m =
+        let b : i < terminations = F .small i m in
+        let p : get t (ctx i) ≡ get u (ctx i) = a .same (ctx i) b m in
+        let q : get t (cell (prop i)) ≡ get u (cell (prop i)) = a .same (cell (prop i)) b m in
+        let y : seen (get t (ctx i)) t ≡ seen (get t (ctx i)) u = seen-same (get t (ctx i)) (λ e. c .home i m (known-above (get t (ctx i)) e)) in
+        let z : seen (get t (ctx i)) t ≡ seen (get u (ctx i)) u = y ∙ ap (λ (d : ℕ). seen d u) p in
+        λ j. record { here = p j; word = q j; there = seat-same w s j; from = z j; free = free-same w s j }

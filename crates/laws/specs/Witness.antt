@@ -1,0 +1,100 @@
+-- Demand 3 is not empty: two messages that meet its conditions, and that both change the table.
+use Prim.Native.Nat.{ℕ}
+use Prim.Native.String.{String}
+use mathlib.Core.Path.{_≡_, refl}
+use mathlib.Core.Bool.{true, false}
+use mathlib.Core.List.{List, [], _∷_, _++_}
+use lib.ListN.{replicate, set}
+use Rattle.base.specs.Lists.{same}
+use Rattle.base.specs.Bytes.{text}
+use Rattle.megaco.specs.Tree.{Transaction, transaction, Message, wellFormed, fault400, fault403, fault406}
+use Rattle.megaco.specs.Reading.{messageR}
+use Rattle.megaco.specs.Table.{words, sound}
+use Rattle.megaco.specs.Running.{Step, runTransaction}
+use Rattle.laws.specs.Membership.{all?, noneShared?, onlyZeroShared?, ahead, collect}
+use Rattle.laws.specs.Mix.{Mixture, over, first, second, mixed}
+use Rattle.laws.specs.Apart.{contextsIn, namesThen, namesIn, Apart}
+use Rattle.laws.specs.ApartTest.{byNumberOrNull?, contextsPlain?, namePlain?, namesPlain?, terminationOf, writtenNumber, named, numbered, standing, reached, terminationsApart?, contextsApart?, apart?, apart-is}
+use Rattle.laws.specs.Reaching.{stepsOf, outset}
+use Rattle.laws.specs.Demand.{EitherOrderOfMessages, demand-3-messages, AsOneAfterOther, any-mixture}
+use Rattle.megaco.proofs.Opened.{opened}
+
+-- a message with this inside, and the transaction that it reads as
+abbrev pub message : String → List ℕ
+message s = text "!/1 [10.0.0.1] " ++ text s
+
+unfoldable pub firstOf : Message → Transaction
+firstOf (wellFormed []) = transaction 0 []
+firstOf (wellFormed (x ∷ xs)) = x
+firstOf fault400 = transaction 0 []
+firstOf (fault403 id) = transaction 0 []
+firstOf fault406 = transaction 0 []
+
+abbrev pub read : String → Transaction
+read s = firstOf (messageR (message s))
+
+-- the fresh table with words written
+unfoldable pub with-words : List (ℕ × ℕ) → List ℕ
+with-words [] = replicate words 0
+with-words (w ∷ ws) = set (with-words ws) (w .0) (w .1)
+
+-- every test, opened
+unfoldable pub tests : Unit {0}
+unfolding opened firstOf with-words all? ahead collect contextsIn namesThen namesIn byNumberOrNull? contextsPlain? namePlain? namesPlain? terminationOf writtenNumber named numbered standing reached noneShared? onlyZeroShared? terminationsApart? contextsApart? apart?
+tests = tt
+
+-- ---- a pair that meets the conditions: L/1/1 and L/1/2 in context 1, L/1/3 in context 2, all else null
+
+abbrev pub start : List ℕ
+start = with-words ((0, 1) ∷ (1, 1) ∷ (2, 2) ∷ (624, 1) ∷ (625, 1) ∷ [])
+
+-- properties, a Subtract, an Add that sets a mode, a Modify in null; an Add that fails, a Subtract that ends its context, an Add that then
+-- fails and stops the rest
+abbrev pub one : String
+one = "T=7{C=1{PR=3,EG,S=L/1/1,A=l/8/31{M{O{MO=SR}}}},C=-{MF=L/1/1{M{TS{SI=TE}}}}}"
+
+abbrev pub two : String
+two = "T=8{C=2{O-A=R/9,S=L/1/3},C=200{O-MV=ROOT},C=2{A=L/1/6},C=-{MF=L/1/4{M{O{MO=LB}}}}}"
+
+reads-one : messageR (message one) ≡ wellFormed (read one ∷ [])
+unfolding tests
+reads-one = refl
+
+reads-two : messageR (message two) ≡ wellFormed (read two ∷ [])
+unfolding tests
+reads-two = refl
+
+start-sound : sound start ≡ true
+unfolding tests
+start-sound = refl
+
+meets : apart? start (read one) (read two) ≡ true
+unfolding tests
+meets = refl
+
+-- both change the table
+pub both-change : (same (runTransaction (read one) start .table) start ≡ false) × (same (runTransaction (read two) start .table) start ≡ false)
+unfolding tests
+both-change = (refl, refl)
+
+pub replies : (runTransaction (read one) start .text ≡ text "P=7{C=1{S=L/1/1,A=L/8/31},C=-{MF=L/1/1}}")
+    × (runTransaction (read two) start .text ≡ text "P=8{C=2{A=R/9{ER=430{}},S=L/1/3},C=200{MV=ROOT{ER=411{}}},C=2{A=L/1/6{ER=411{}}}}")
+unfolding tests
+replies = (refl, refl)
+
+pub apart : Apart start (read one) (read two)
+apart = apart-is start (read one) (read two) .0 meets
+
+pub they-end-alike : EitherOrderOfMessages start (message one) (message two)
+they-end-alike = demand-3-messages start start-sound (message one) (message two) (read one) (read two) reads-one reads-two apart
+
+-- ---- and turn by turn
+
+pub alternate : (ss rs : List Step) → Mixture ss rs
+alternate [] [] = over
+alternate [] (r ∷ rs) = second r (alternate [] rs)
+alternate (s ∷ ss) [] = first s (alternate ss [])
+alternate (s ∷ ss) (r ∷ rs) = first s (second r (alternate ss rs))
+
+pub turn-by-turn : AsOneAfterOther start (read one) (read two) (mixed (alternate (stepsOf (read one)) (stepsOf (read two))) (outset start))
+turn-by-turn = any-mixture start start-sound (read one) (read two) apart (alternate (stepsOf (read one)) (stepsOf (read two)))

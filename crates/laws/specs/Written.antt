@@ -1,0 +1,152 @@
+-- What an attempt, or an action's start, writes lies in its footprint.
+use Prim.Native.Nat.{ℕ, _<_}
+use mathlib.Core.Path.{_≡_, refl}
+use mathlib.Core.Bool.{Bool, true, false}
+use mathlib.Core.List.{List, [], _∷_}
+use lib.Dec.{eqb, leb}
+use borrow.Author.Tests.{eqb-true, eqb-false, not-false}
+use native.Mathlib.Omega.{arith}
+use Rattle.base.specs.Pick.{pick}
+use Rattle.megaco.specs.Table.{prop, rec, ctx, cell, Write}
+use Rattle.megaco.specs.Running.{Check, check, Result, refused, done, judge, seen, numberOf, isChoose, target, checks, joining, leaving, placed, changes, attempt, settled, Effect, concluded, effect}
+use Rattle.megaco.specs.Running.{isNull, isModify, barred, lost, anyGiven, startChecks, startWrites, Start, startedBy, started}
+use Rattle.megaco.specs.declared.Context.{Context}
+use Rattle.megaco.specs.declared.Context.the-variants.{Null, Numbered, Choose, All}
+use Rattle.megaco.specs.declared.Property.{Property}
+use Rattle.megaco.specs.declared.Op.{Op}
+use Rattle.megaco.specs.declared.Op.the-variants.{Add, Modify, Subtract, Move}
+use Rattle.megaco.specs.declared.Values.{Values}
+use Rattle.megaco.specs.declared.View.{View}
+use Rattle.base.proofs.TestLaws.{clash, and-false}
+use Rattle.laws.specs.Frame.{Ours, AllOurs, nothing, also, Foot}
+use Rattle.laws.specs.Views.{known-above, held-known, Seat}
+
+-- every test is passed
+abbrev pub Passed : List Check → Type 0
+Passed [] = Unit {0}
+Passed (check b code ∷ cs) = (b ≡ false) × Passed cs
+
+nonzero : (x : ℕ) → (x ≡ 0 → ⊥) → 0 < x
+nonzero x h = omega arith
+
+module _ (N K : ℕ → Type 0) where
+  pub data Good : Result → Type 0 where
+    fails : {code : ℕ} → Good (refused code)
+    does : {ws : List Write} → AllOurs N K ws → Good (done ws)
+
+  judge-good : (cs : List Check) (ws : List Write) → (Passed cs → AllOurs N K ws) → Good (judge cs ws)
+  unfolding judge pick
+  judge-good [] ws h = does (h tt)
+  judge-good (check true code ∷ cs) ws h = fails
+  judge-good (check false code ∷ cs) ws h = judge-good cs ws (λ p. h (refl, p))
+
+  pick-all : (b : Bool) (vs ws : List Write) → (b ≡ true → AllOurs N K vs) → AllOurs N K ws → AllOurs N K (pick b vs ws)
+  unfolding pick
+  pick-all true vs ws p q = p refl
+  pick-all false vs ws p q = q
+
+  -- a context that exists now: null, or one of the footprint
+  pub seat-home : (op : Op) (w : Context) (t : List ℕ) → Seat N K w → lost op w (seen (numberOf w) t .held) ≡ false → 0 < numberOf w → K (numberOf w)
+  unfolding lost numberOf
+  seat-home op Null t s e h = absurd (omega arith)
+  seat-home op (Numbered c) t s e h = s (held-known c t e)
+  seat-home op Choose t s e h = absurd s
+  seat-home op All t s e h = absurd s
+
+  -- a numbered one, but for a Modify
+  pub seat-above : (op : Op) (w : Context) (t : List ℕ) → Seat N K w → isModify op ≡ false → barred op w ≡ false → lost op w (seen (numberOf w) t .held) ≡ false
+      → 0 < numberOf w
+  unfolding lost numberOf barred isNull
+  seat-above op Null t s x b e = absurd (clash (rw x at b))
+  seat-above op (Numbered c) t s x b e = known-above c (held-known c t e)
+  seat-above op Choose t s x b e = absurd s
+  seat-above op All t s x b e = absurd s
+
+  module _ (F : Foot N K) where
+    -- one law for each kind of slot
+    ours-ctx : (i v : ℕ) → N i → (0 < v → K v) → Ours N K (ctx i) v
+    ours-ctx i v m k = record { valid = F .small i m; mine = m; fits = k }
+
+    ours-prop : (i v : ℕ) → N i → Ours N K (cell (prop i)) v
+    ours-prop i v m = record { valid = F .small i m; mine = m; fits = tt }
+
+    ours-rec : (c v : ℕ) → K c → Ours N K (cell (rec c)) v
+    ours-rec c v k = record { valid = (F .above c k, F .below c k); mine = k; fits = tt }
+
+    placed-all : (i c word : ℕ) → N i → (0 < c → K c) → AllOurs N K (placed i c word)
+    unfolding placed
+    placed-all i c word m k = also (ours-ctx i c m k) (also (ours-prop i word m) nothing)
+
+    -- no context is made where none is chosen
+    joining-all : (w : Context) (given : ℕ) (v : View) (i word : ℕ) → Seat N K w → N i → (0 < numberOf w → K (numberOf w))
+        → AllOurs N K (joining w given v (placed i (target w v) word))
+    unfolding joining target isChoose pick
+    joining-all Null given v i word s m k = placed-all i _ word m k
+    joining-all (Numbered c) given v i word s m k = placed-all i _ word m k
+    joining-all Choose given v i word s m k = absurd s
+    joining-all All given v i word s m k = absurd s
+
+    leaving-all : (v : View) (ws : List Write) → K (v .here) → AllOurs N K ws → AllOurs N K (leaving v ws)
+    unfolding leaving
+    leaving-all v ws k a = pick-all (leb (v .from .members) 1) _ ws (λ e. also (ours-rec (v .here) 0 k) a) a
+
+    -- an attempt that passes its tests, in a context that exists
+    changes-all : (op : Op) (w : Context) (given i : ℕ) (vs : Values) (v : View) → Seat N K w → N i → (0 < v .here → K (v .here))
+        → (0 < numberOf w → K (numberOf w)) → (isModify op ≡ false → 0 < numberOf w) → Passed (checks op w v) → AllOurs N K (changes op w given i vs v)
+    unfolding checks changes isModify
+    changes-all Add w given i vs v s m h k z p = joining-all w given v i _ s m k
+    changes-all Modify w given i vs v s m h k z p = also (ours-prop i _ m) nothing
+    changes-all Subtract w given i vs v s m h k z p =
+        let e : v .here ≡ numberOf w = eqb-true (v .here) (numberOf w) (not-false (eqb (v .here) (numberOf w)) (search)) in
+        leaving-all v _ (h (rw e (z refl))) (placed-all i 0 _ m (λ y. absurd (omega arith)))
+    changes-all Move w given i vs v s m h k z p =
+        leaving-all v _ (h (nonzero (v .here) (eqb-false (v .here) 0 (search)))) (joining-all w given v i _ s m k)
+
+    -- what an attempt writes, and where its action stands after it
+    pub record Lies (e : Effect) : Type 0 where
+      pub all : AllOurs N K (e .writes)
+      pub seat : Seat N K (e .at)
+
+    seat-settled : (w : Context) (v : View) → Seat N K w → Seat N K (settled w v)
+    unfolding settled isChoose pick
+    seat-settled Null v s = s
+    seat-settled (Numbered c) v s = s
+    seat-settled Choose v s = absurd s
+    seat-settled All v s = absurd s
+
+    concluded-lies : (op : Op) (wild : Bool) (name : List ℕ) (i : ℕ) (w : Context) (v : View) (r : Result) → Seat N K w → Good r → Lies (concluded op wild name i w v r)
+    unfolding concluded
+    concluded-lies op wild name i w v (refused code) s fails = record { all = nothing; seat = s }
+    concluded-lies op wild name i w v (done ws) s (does g) = record { all = g; seat = seat-settled w v s }
+
+    pub effect-lies : (op : Op) (wild : Bool) (name : List ℕ) (given : ℕ) (vs : Values) (i : ℕ) (w : Context) (v : View) → Seat N K w → N i
+        → (0 < v .here → K (v .here)) → (0 < numberOf w → K (numberOf w)) → (isModify op ≡ false → 0 < numberOf w)
+        → Lies (effect op wild name given vs i w v)
+    unfolding effect attempt
+    effect-lies op wild name given vs i w v s m h k z =
+        concluded-lies op wild name i w v _ s (judge-good (checks op w v) (changes op w given i vs v) (changes-all op w given i vs v s m h k z))
+
+    -- ---- an action's start
+
+    -- what it writes, and where its action stands
+    pub record StartLies (x : Start) : Type 0 where
+      pub all : AllOurs N K (x .writes)
+      pub seat : Seat N K (x .acted .at)
+
+    startedBy-lies : (w : Context) (ps : List Property) (alone : Bool) (held : ℕ) (r : Result) → Seat N K w → Good r → StartLies (startedBy w ps alone held r)
+    unfolding startedBy
+    startedBy-lies w ps alone held (refused code) s fails = record { all = nothing; seat = s }
+    startedBy-lies w ps alone held (done ws) s (does g) = record { all = g; seat = s }
+
+    writes-all : (w : Context) (ps : List Property) (alone : Bool) (t : List ℕ) → Seat N K w
+        → Passed (startChecks w ps alone (seen (numberOf w) t .held)) → AllOurs N K (startWrites w ps (seen (numberOf w) t .held))
+    unfolding startChecks startWrites numberOf
+    writes-all Null ps alone t s p = nothing
+    writes-all (Numbered c) ps alone t s p =
+        pick-all (anyGiven ps) _ [] (λ e. also (ours-rec c _ (s (held-known c t (and-false (anyGiven ps) (eqb (seen c t .held) 0) e (search))))) nothing) nothing
+    writes-all Choose ps alone t s p = absurd s
+    writes-all All ps alone t s p = absurd s
+
+    pub started-lies : (w : Context) (ps : List Property) (alone : Bool) (t : List ℕ) → Seat N K w → StartLies (started w ps alone (seen (numberOf w) t .held))
+    unfolding started
+    started-lies w ps alone t s = startedBy-lies w ps alone _ _ s (judge-good _ _ (writes-all w ps alone t s))

@@ -1,0 +1,242 @@
+// Leaf readers: bytes and their classes, white space, rows of bytes, given bytes. Keywords are in keywords.rt.
+ghost use mathlib.Core.Path.{_≡_};
+ghost use Prim.Native.Nat.{_<_};
+ghost use Rattle.base.specs.Lists.{isAt};
+ghost use Rattle.megaco.specs.Bytes.{isLetter, isDigit, isWhite, isLineEnd, isComment, inClass, capital};
+ghost use Rattle.megaco.specs.White.{goesOn, insideAfter, stopAt, whiteAt, sepAt};
+ghost use Rattle.megaco.specs.Tokens.{markAt, signAt, letterAt, rowAt};
+ghost use Rattle.text.specs.Classes.{lowOf, highOf, halfOf, OfMaps};
+
+mod keywords;
+
+pub use keywords::spells;
+use megaco::Class;
+use megaco::Parsed;
+
+// ---- bytes
+
+// Whether a byte stands at a place. Past the end stands 0.
+pub fn is_at(s: &[u8], at: usize, b: u8) -> bool
+    ensures { λ r. ⌜ r ≡ isAt (now (s .entry)) at b ⌝ }
+{
+    if at < s.len() { s[at] == b } else { 0 == b }
+}
+
+pub fn is_letter(b: u8) -> bool
+    ensures { λ r. ⌜ r ≡ isLetter b ⌝ }
+{
+    (0x41 <= b) & (b <= 0x5a) | (0x61 <= b) & (b <= 0x7a)
+}
+
+pub fn is_digit(b: u8) -> bool
+    ensures { λ r. ⌜ r ≡ isDigit b ⌝ }
+{
+    (0x30 <= b) & (b <= 0x39)
+}
+
+pub fn letter_at(s: &[u8], at: usize) -> bool
+    ensures { λ r. ⌜ r ≡ letterAt (now (s .entry)) at ⌝ }
+{
+    if at < s.len() {
+        is_letter(s[at])
+    } else {
+        false
+    }
+}
+
+// A small letter as its capital; any other byte as it is.
+pub fn capital(b: u8) -> u8
+    ensures { λ r. ⌜ r ≡ capital b ⌝ }
+{
+    if (0x61 <= b) & (b <= 0x7a) {
+        return b - 0x20;
+    }
+    b
+}
+
+// ---- classes of bytes
+
+// A class as two maps: bit n of the low one for byte n, of the high one for byte 64 + n.
+fn low_of(k: Class) -> u64
+    ensures { λ r. ⌜ r ≡ lowOf k ⌝ }
+{
+    match k {
+        Class::WordByte => 0x03ff_0000_0000_0000,
+        Class::NameByte => 0x03ff_8410_0000_0000,
+        Class::SafeByte => 0x83ff_eff2_0000_0000,
+        Class::QuotedByte => 0xffff_fffb_0000_0200,
+        Class::DomainByte => 0x03ff_6000_0000_0000,
+    }
+}
+
+fn high_of(k: Class) -> u64
+    ensures { λ r. ⌜ r ≡ highOf k ⌝ }
+{
+    match k {
+        Class::WordByte => 0x07ff_fffe_87ff_fffe,
+        Class::NameByte => 0x07ff_fffe_87ff_fffe,
+        Class::SafeByte => 0x57ff_ffff_d7ff_ffff,
+        Class::QuotedByte => 0x7fff_ffff_ffff_ffff,
+        Class::DomainByte => 0x07ff_fffe_07ff_fffe,
+    }
+}
+
+// The map that has the byte's bit.
+fn half(b: u8, low: u64, high: u64) -> u64
+    ensures { λ r. ⌜ r ≡ halfOf b low high ⌝ }
+{
+    if b < 64 {
+        return low;
+    }
+    if b < 128 {
+        return high;
+    }
+    0
+}
+
+// Whether a byte is in the class that has these maps.
+fn in_maps(b: u8, low: u64, high: u64) -> bool
+    ensures { λ r. ⌜ OfMaps b low high r ⌝ }
+{
+    (half(b, low, high) >> (b % 64)) % 2 == 1
+}
+
+pub fn in_class(k: Class, b: u8) -> bool
+    ensures { λ r. ⌜ r ≡ inClass k b ⌝ }
+{
+    in_maps(b, low_of(k), high_of(k))
+}
+
+// The end of the bytes of a class that stand here.
+pub fn row(s: &[u8], at: usize, k: Class) -> usize
+    ensures { λ r. ⌜ r ≡ rowAt k (now (s .entry)) at ⌝ }
+{
+    let low = low_of(k);
+    let high = high_of(k);
+    let mut i = at;
+    while i < s.len() {
+        if in_maps(s[i], low, high) {
+            i += 1;
+        } else {
+            return i;
+        }
+    }
+    i
+}
+
+// ---- white space
+
+fn is_white(b: u8) -> bool
+    ensures { λ r. ⌜ r ≡ isWhite b ⌝ }
+{
+    (b == 0x20) | (b == 0x09) | (b == 0x0d) | (b == 0x0a)
+}
+
+fn is_line_end(b: u8) -> bool
+    ensures { λ r. ⌜ r ≡ isLineEnd b ⌝ }
+{
+    (b == 0x0d) | (b == 0x0a)
+}
+
+fn is_comment(b: u8) -> bool
+    ensures { λ r. ⌜ r ≡ isComment b ⌝ }
+{
+    (b == 0x09) | (0x20 <= b) & (b <= 0x7e)
+}
+
+// A byte that white space goes on with, inside a comment or outside one.
+fn goes_on(inside: bool, b: u8) -> bool
+    ensures { λ r. ⌜ r ≡ goesOn inside b ⌝ }
+{
+    if inside {
+        is_comment(b) | is_line_end(b)
+    } else {
+        is_white(b) | (b == 0x3b)
+    }
+}
+
+// A comment begins with `;` and ends with its line end.
+fn inside_after(inside: bool, b: u8) -> bool
+    ensures { λ r. ⌜ r ≡ insideAfter inside b ⌝ }
+{
+    if inside { !is_line_end(b) } else { b == 0x3b }
+}
+
+// White space may stop outside a comment only.
+fn stop_at(inside: bool, i: usize) -> Parsed
+    ensures { λ r. ⌜ r ≡ stopAt inside i ⌝ }
+{
+    if inside {
+        return Parsed::Fault;
+    }
+    Parsed::Next(i)
+}
+
+// White space of some bytes.
+fn white_run(s: &[u8], at: usize) -> Parsed
+    ensures { λ r. ⌜ r ≡ whiteAt (now (s .entry)) at ⌝ }
+{
+    let mut i = at;
+    let mut inside = false;
+    while i < s.len() {
+        let b = s[i];
+        if goes_on(inside, b) {
+            inside = inside_after(inside, b);
+            i += 1;
+        } else {
+            return stop_at(inside, i);
+        }
+    }
+    stop_at(inside, i)
+}
+
+// White space that may stand here. Most often there is none.
+pub fn white(s: &[u8], at: usize) -> Parsed
+    ensures { λ r. ⌜ r ≡ whiteAt (now (s .entry)) at ⌝ }
+{
+    if at < s.len() {
+        if goes_on(false, s[at]) {
+            return white_run(s, at);
+        }
+    }
+    Parsed::Next(at)
+}
+
+// White space that must stand here.
+pub fn sep(s: &[u8], at: usize) -> Parsed
+    ensures { λ r. ⌜ r ≡ sepAt (now (s .entry)) at ⌝ }
+{
+    let w = white(s, at);
+    let Parsed::Next(p) = w else {
+        return Parsed::Fault;
+    };
+    if at < p {
+        return Parsed::Next(p);
+    }
+    Parsed::Fault
+}
+
+// ---- given bytes
+
+// One given byte.
+pub fn mark(s: &[u8], at: usize, b: u8) -> Parsed
+    requires { ⌜ 0 < b ⌝ }
+    ensures { λ r. ⌜ r ≡ markAt b (now (s .entry)) at ⌝ }
+{
+    if is_at(s, at, b) {
+        return Parsed::Next(at + 1);
+    }
+    Parsed::Fault
+}
+
+// One given byte, and white space after it.
+pub fn sign(s: &[u8], at: usize, b: u8) -> Parsed
+    requires { ⌜ 0 < b ⌝ }
+    ensures { λ r. ⌜ r ≡ signAt b (now (s .entry)) at ⌝ }
+{
+    let m = mark(s, at, b);
+    let Parsed::Next(p) = m else {
+        return Parsed::Fault;
+    };
+    white(s, p)
+}

@@ -1,0 +1,13 @@
+use borrow.Author.Needs.{needs}
+use Rattle.tokens.proofs.TokenLaws.{no-digit}
+use Rattle.tokens.proofs.digit_at.Statement.{statement}
+use Rattle.tokens.proofs.digit_at.Tie as tie
+
+pub digit-at-spec : {M : Type 1} → statement M
+digit-at-spec =
+    tie.close
+    (tie.spec
+    (λ c. search needs)
+    (λ c κs. search needs)
+    (λ c. search needs)
+    (λ c. search no-digit))

@@ -1,0 +1,80 @@
+//! A small Megaco (H.248.1) text gateway, in plain Rust, after document 01.
+//!
+//! One message, a lent table of 752 words and a lent reply buffer go in; an
+//! [`Answer`] comes out. The whole message is read to a tree before anything
+//! runs. The quoted sentences in the comments are document 01's.
+
+pub mod listing;
+pub mod reply;
+pub mod run;
+pub mod table;
+pub mod text;
+
+use reply::Reply;
+use table::Table;
+use text::Fault;
+
+/// The least length of a reply buffer.
+pub const REPLY_BYTES: usize = 16_640;
+/// The greatest length of a message.
+pub const MESSAGE_BYTES: usize = 4_096;
+/// The greatest length of the gateway's own mId.
+pub const OWN_MID_BYTES: usize = 64;
+
+/// What became of a call: taken, with the reply's length, or turned down.
+#[derive(Clone, Copy, Debug, PartialEq, Eq)]
+pub enum Answer {
+    /// The call was taken; so many bytes of the reply buffer were written.
+    Taken(usize),
+    /// "reply buffer under 16,640 bytes"
+    ReplyTooShort,
+    /// "table not 752 words, or not sound"
+    BadTable,
+    /// "gateway's own mId not an mId as below, or over 64 bytes"
+    BadMid,
+    /// "message of 0 or over 4,096 bytes"
+    BadMessage,
+}
+
+impl Answer {
+    /// Document 01's number of a refusal, 0 for a call that was taken.
+    pub fn number(&self) -> u32 {
+        match self {
+            Answer::Taken(_) => 0,
+            Answer::BadMessage => 1,
+            Answer::BadTable => 2,
+            Answer::ReplyTooShort => 3,
+            Answer::BadMid => 4,
+        }
+    }
+}
+
+/// Answers one message.
+///
+/// A call turned down changes neither `reply` nor `table`. A call taken writes
+/// its reply from the start of the buffer, "and bytes past its length stay".
+pub fn answer(message: &[u8], table: &mut [u32], own: &[u8], reply: &mut [u8]) -> Answer {
+    if reply.len() < REPLY_BYTES {
+        return Answer::ReplyTooShort;
+    }
+    let Some(mut table) = Table::sound(table) else {
+        return Answer::BadTable;
+    };
+    if own.len() > OWN_MID_BYTES || !text::is_mid(own) {
+        return Answer::BadMid;
+    }
+    if message.is_empty() || message.len() > MESSAGE_BYTES {
+        return Answer::BadMessage;
+    }
+
+    let mut out = Reply::new(own);
+    match text::read(message) {
+        Ok(transactions) => run::run(&transactions, &mut table, &mut out),
+        Err(Fault::Message) => out.message_error(400),
+        Err(Fault::Version) => out.message_error(406),
+        Err(Fault::Transaction(id)) => out.transaction_error(id, 403),
+    }
+    let bytes = out.bytes();
+    reply[..bytes.len()].copy_from_slice(bytes);
+    Answer::Taken(bytes.len())
+}

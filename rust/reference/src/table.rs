@@ -1,0 +1,334 @@
+//! The lent table: its words, its soundness, and the names of terminations.
+//!
+//! "Words 0..311: the context of each termination, 0 for null. Words 312..623:
+//! its properties, mode + 8 × state. Words 624..751: contexts 1..128, 0 if
+//! absent, else 1 + priority + 16 × emergency."
+
+use std::ops::Range;
+
+use crate::text::keyword;
+
+const LINES: usize = 8;
+const CHANNELS: usize = 31;
+const EPHEMERALS: usize = 64;
+
+/// The line terminations have the numbers under it.
+pub const LINE_TERMINATIONS: usize = LINES * CHANNELS;
+/// All terminations, existing or not, have the numbers under it.
+pub const TERMINATIONS: usize = LINE_TERMINATIONS + EPHEMERALS;
+pub const CONTEXTS: usize = 128;
+/// "at most 8 terminations in each non-null context"
+pub const MEMBERS: u16 = 8;
+
+const PROPERTIES: usize = TERMINATIONS;
+const RECORDS: usize = PROPERTIES + TERMINATIONS;
+pub const WORDS: usize = RECORDS + CONTEXTS;
+
+/// A context's priority and emergency.
+#[derive(Clone, Copy, Debug, Default, PartialEq, Eq)]
+pub struct Record {
+    pub priority: u32,
+    pub emergency: bool,
+}
+
+impl Record {
+    fn from_word(word: u32) -> Self {
+        Record {
+            priority: (word - 1) % 16,
+            emergency: word > 16,
+        }
+    }
+
+    fn word(self) -> u32 {
+        1 + self.priority + 16 * u32::from(self.emergency)
+    }
+}
+
+/// The property values a command gives.
+#[derive(Clone, Copy, Debug, Default, PartialEq, Eq)]
+pub struct Values {
+    pub mode: Option<u32>,
+    pub state: Option<u32>,
+}
+
+/// A sound table, with counts of what stands in it.
+pub struct Table<'t> {
+    words: &'t mut [u32; WORDS],
+    /// How many terminations stand in each context; place 0 is the null one.
+    members: [u16; CONTEXTS + 1],
+    /// Bit c - 1 is set for a context c that exists.
+    contexts: u128,
+    /// Bit n - 1 is set for an ephemeral `R/n` that exists.
+    ephemerals: u64,
+}
+
+impl<'t> Table<'t> {
+    /// Takes the table if it is of 752 words and sound.
+    pub fn sound(words: &'t mut [u32]) -> Option<Self> {
+        let words: &mut [u32; WORDS] = words.try_into().ok()?;
+        let mut members = [0; CONTEXTS + 1];
+        let mut contexts = 0;
+        let mut ephemerals = 0;
+
+        let (stands_in, rest) = words.split_at(PROPERTIES);
+        let (properties, records) = rest.split_at(RECORDS - PROPERTIES);
+        for (termination, (&context, &property)) in stands_in.iter().zip(properties).enumerate() {
+            // "each context word at most 128"
+            *members.get_mut(context as usize)? += 1;
+            // "each property one of the 15 values"
+            if property > 20 || property % 8 > 4 {
+                return None;
+            }
+            if termination >= LINE_TERMINATIONS {
+                if context != 0 {
+                    ephemerals |= 1 << (termination - LINE_TERMINATIONS);
+                } else if property != 0 {
+                    // "an absent ephemeral's property 0"
+                    return None;
+                }
+            }
+        }
+        // "a context's record at most 32, and not 0 exactly when some
+        // termination stands in that context; at most 8 terminations"
+        for (place, (&record, &count)) in records.iter().zip(&members[1..]).enumerate() {
+            if record > 32 || (record != 0) != (count != 0) || count > MEMBERS {
+                return None;
+            }
+            contexts |= u128::from(count != 0) << place;
+        }
+        Some(Table {
+            words,
+            members,
+            contexts,
+            ephemerals,
+        })
+    }
+
+    /// The context a termination stands in, 0 for null.
+    pub fn context_of(&self, termination: usize) -> usize {
+        self.words[termination] as usize
+    }
+
+    /// The contexts of all terminations in a range of numbers.
+    pub fn contexts_of(&self, terminations: Range<usize>) -> &[u32] {
+        &self.words[terminations]
+    }
+
+    /// "It always exists", or for an ephemeral: "exactly when its context word
+    /// is not 0".
+    pub fn exists(&self, termination: usize) -> bool {
+        termination < LINE_TERMINATIONS || self.words[termination] != 0
+    }
+
+    /// How many terminations stand in a context; 0 exactly if it is absent.
+    pub fn members(&self, context: usize) -> u16 {
+        self.members[context]
+    }
+
+    /// The context of that number, if it exists: "0 and numbers over 128 never
+    /// do".
+    pub fn context(&self, number: u32) -> Option<usize> {
+        let context = number as usize;
+        let exists = (1..=CONTEXTS).contains(&context) && self.members[context] != 0;
+        exists.then_some(context)
+    }
+
+    pub fn lowest_absent_context(&self) -> Option<usize> {
+        let context = self.contexts.trailing_ones() as usize + 1;
+        (context <= CONTEXTS).then_some(context)
+    }
+
+    /// The termination number of the lowest absent ephemeral.
+    pub fn lowest_absent_ephemeral(&self) -> Option<usize> {
+        let place = self.ephemerals.trailing_ones() as usize;
+        (place < EPHEMERALS).then_some(LINE_TERMINATIONS + place)
+    }
+
+    /// The record of a context that exists.
+    pub fn record(&self, context: usize) -> Record {
+        Record::from_word(self.words[RECORDS + context - 1])
+    }
+
+    pub fn set_record(&mut self, context: usize, record: Record) {
+        self.words[RECORDS + context - 1] = record.word();
+    }
+
+    /// Puts a termination that stands in null into a context; an ephemeral
+    /// comes to be by it.
+    pub fn enter(&mut self, termination: usize, context: usize) {
+        self.words[termination] = context as u32;
+        self.members[0] -= 1;
+        self.members[context] += 1;
+        self.contexts |= 1 << (context - 1);
+        if termination >= LINE_TERMINATIONS {
+            self.ephemerals |= 1 << (termination - LINE_TERMINATIONS);
+        }
+    }
+
+    /// Takes a termination out of its context to null; an ephemeral is gone by
+    /// it. "A context ends with its last termination, and its number and
+    /// properties are free again."
+    pub fn leave(&mut self, termination: usize) {
+        let context = self.context_of(termination);
+        self.words[termination] = 0;
+        self.members[0] += 1;
+        self.members[context] -= 1;
+        if self.members[context] == 0 {
+            self.contexts &= !(1 << (context - 1));
+            self.words[RECORDS + context - 1] = 0;
+        }
+        if termination >= LINE_TERMINATIONS {
+            self.ephemerals &= !(1 << (termination - LINE_TERMINATIONS));
+        }
+    }
+
+    /// Sets the property values given and keeps the others.
+    pub fn set_values(&mut self, termination: usize, values: Values) {
+        let property = &mut self.words[PROPERTIES + termination];
+        let mode = values.mode.unwrap_or(*property % 8);
+        let state = values.state.unwrap_or(*property / 8);
+        *property = mode + 8 * state;
+    }
+
+    /// "Subtract removes an ephemeral; a line returns to null with mode 0, its
+    /// state kept."
+    pub fn subtract(&mut self, termination: usize) {
+        self.leave(termination);
+        let property = &mut self.words[PROPERTIES + termination];
+        *property = if termination < LINE_TERMINATIONS {
+            *property / 8 * 8
+        } else {
+            0
+        };
+    }
+}
+
+/// The mode a value names.
+pub fn mode(value: &[u8]) -> Option<u32> {
+    const MODES: [(&[u8], &[u8]); 5] = [
+        (b"Inactive", b"IN"),
+        (b"SendOnly", b"SO"),
+        (b"ReceiveOnly", b"RC"),
+        (b"SendReceive", b"SR"),
+        (b"Loopback", b"LB"),
+    ];
+    place(value, &MODES)
+}
+
+/// The service state a value names.
+pub fn state(value: &[u8]) -> Option<u32> {
+    const STATES: [(&[u8], &[u8]); 3] = [
+        (b"InService", b"IV"),
+        (b"OutOfService", b"OS"),
+        (b"Test", b"TE"),
+    ];
+    place(value, &STATES)
+}
+
+fn place(value: &[u8], words: &[(&[u8], &[u8])]) -> Option<u32> {
+    words
+        .iter()
+        .position(|(long, short)| keyword(value, long, short))
+        .map(|place| place as u32)
+}
+
+/// What a name received in a command stands for.
+#[derive(Clone, Debug, PartialEq, Eq)]
+pub enum Name {
+    Root,
+    /// `$` or `R/$`
+    Choose,
+    /// another name with `$`
+    BadChoose,
+    /// `*`, `L/*`, `L/l/*`, `R/*`: the numbers to match among
+    Wildcard(Range<usize>),
+    /// another name with `*` and no `$`
+    BadWildcard,
+    /// a line or an ephemeral, existing or not
+    Termination(usize),
+    /// any other name
+    Unknown,
+}
+
+impl Name {
+    pub fn of(name: &[u8]) -> Self {
+        if name.contains(&b'$') {
+            match name {
+                b"$" | b"R/$" | b"r/$" => Name::Choose,
+                _ => Name::BadChoose,
+            }
+        } else if name.contains(&b'*') {
+            match name {
+                b"*" => Name::Wildcard(0..TERMINATIONS),
+                b"L/*" | b"l/*" => Name::Wildcard(0..LINE_TERMINATIONS),
+                b"R/*" | b"r/*" => Name::Wildcard(LINE_TERMINATIONS..TERMINATIONS),
+                [b'L' | b'l', b'/', line @ b'1'..=b'8', b'/', b'*'] => {
+                    let first = CHANNELS * usize::from(line - b'1');
+                    Name::Wildcard(first..first + CHANNELS)
+                }
+                _ => Name::BadWildcard,
+            }
+        } else if name.eq_ignore_ascii_case(b"ROOT") {
+            Name::Root
+        } else {
+            match number(name) {
+                Some(termination) => Name::Termination(termination),
+                None => Name::Unknown,
+            }
+        }
+    }
+}
+
+/// "Termination `L/l/s`, l 1..8, s 1..31, is number 31 × (l − 1) + (s − 1)";
+/// "Ephemeral `R/n`, n 1..64, is number 247 + n".
+fn number(name: &[u8]) -> Option<usize> {
+    match name {
+        [b'L' | b'l', b'/', line @ b'1'..=b'8', b'/', channel @ ..] => {
+            Some(CHANNELS * usize::from(line - b'1') + up_to(channel, CHANNELS)? - 1)
+        }
+        [b'R' | b'r', b'/', ephemeral @ ..] => {
+            Some(LINE_TERMINATIONS + up_to(ephemeral, EPHEMERALS)? - 1)
+        }
+        _ => None,
+    }
+}
+
+/// A number 1..most of at most two digits; "leading zeros are unknown".
+fn up_to(digits: &[u8], most: usize) -> Option<usize> {
+    let value = match *digits {
+        [one @ b'1'..=b'9'] => usize::from(one - b'0'),
+        [ten @ b'1'..=b'9', one @ b'0'..=b'9'] => {
+            10 * usize::from(ten - b'0') + usize::from(one - b'0')
+        }
+        _ => return None,
+    };
+    (value <= most).then_some(value)
+}
+
+/// Writes the full name of a termination with capital letters.
+pub fn write_name(termination: usize, out: &mut Vec<u8>) {
+    if termination < LINE_TERMINATIONS {
+        let line = (termination / CHANNELS) as u8 + 1;
+        out.extend_from_slice(&[b'L', b'/', b'0' + line, b'/']);
+        write_number((termination % CHANNELS) as u32 + 1, out);
+    } else {
+        out.extend_from_slice(b"R/");
+        write_number((termination - LINE_TERMINATIONS) as u32 + 1, out);
+    }
+}
+
+/// "Numbers have no leading zeros."
+pub fn write_number(number: u32, out: &mut Vec<u8>) {
+    let mut digits = [0; 10];
+    let mut first = digits.len();
+    let mut rest = number;
+    loop {
+        first -= 1;
+        digits[first] = b'0' + (rest % 10) as u8;
+        rest /= 10;
+        if rest == 0 {
+            break;
+        }
+    }
+    out.extend_from_slice(&digits[first..]);
+}

@@ -1,0 +1,480 @@
+//! The session, the short cases and the boundaries of document 01.
+
+use reference::listing::listing;
+use reference::{answer, Answer};
+
+const OWN: &[u8] = b"[10.0.0.9]";
+const HEADER_IN: &str = "!/1 [10.0.0.1] ";
+const HEADER_OUT: &str = "!/1 [10.0.0.9] ";
+const FILL: u8 = 0xA5;
+
+/// Answers a whole message, checks that the bytes past the reply stay, and
+/// gives what stands after the reply's header.
+fn whole(message: &[u8], table: &mut [u32]) -> String {
+    let mut reply = vec![FILL; 16_640];
+    let Answer::Taken(length) = answer(message, table, OWN, &mut reply) else {
+        panic!("turned down");
+    };
+    assert!(reply[length..].iter().all(|&byte| byte == FILL));
+    let text = String::from_utf8(reply[..length].to_vec()).unwrap();
+    text.strip_prefix(HEADER_OUT).unwrap().to_string()
+}
+
+/// Answers a message of these transactions.
+fn inside(request: &str, table: &mut [u32]) -> String {
+    whole(format!("{HEADER_IN}{request}").as_bytes(), table)
+}
+
+fn fresh(request: &str) -> String {
+    inside(request, &mut [0; 752])
+}
+
+/// From a table with L/1/1 alone in context 1.
+fn context_1(request: &str) -> String {
+    let mut table = [0; 752];
+    inside("T=1{C=${A=L/1/1}}", &mut table);
+    inside(request, &mut table)
+}
+
+const SESSION: [(&str, &str); 6] = [
+    ("T=7{C=${A=L/1/5,A=$}}", "P=7{C=1{A=L/1/5,A=R/1}}"),
+    ("T=8{C=1{A=L/1/5}}", "P=8{C=1{A=L/1/5{ER=433{}}}}"),
+    ("T=9{C=${MV=L/1/5}}", "P=9{C=2{MV=L/1/5}}"),
+    (
+        "T=10{C=1{S=*,A=L/2/1}}",
+        "P=10{C=1{S=R/1,A=L/2/1{ER=411{}}}}",
+    ),
+    (
+        "T=11{C=2{O-S=L/8/31,MF=L/1/5{M{O{MO=SR}}}}}",
+        "P=11{C=2{S=L/8/31{ER=435{}},MF=L/1/5}}",
+    ),
+    (
+        "T=12{C=2{S=L/8/31,S=L/1/5}}",
+        "P=12{C=2{S=L/8/31{ER=435{}}}}",
+    ),
+];
+
+/// The words that are not 0.
+fn words(table: &[u32]) -> Vec<(usize, u32)> {
+    let places = table.iter().copied().enumerate();
+    places.filter(|&(_, word)| word != 0).collect()
+}
+
+#[test]
+fn session() {
+    let after: [&[(usize, u32)]; 6] = [
+        &[(4, 1), (248, 1), (624, 1)],
+        &[(4, 1), (248, 1), (624, 1)],
+        &[(4, 2), (248, 1), (624, 1), (625, 1)],
+        &[(4, 2), (625, 1)],
+        &[(4, 2), (316, 3), (625, 1)],
+        &[(4, 2), (316, 3), (625, 1)],
+    ];
+    let mut table = [0; 752];
+    for ((request, reply), after) in SESSION.iter().zip(after) {
+        assert_eq!(inside(request, &mut table), *reply);
+        assert_eq!(words(&table), after);
+    }
+}
+
+fn list(input: &[u8]) -> String {
+    let mut out = Vec::new();
+    listing(input, &mut out).unwrap();
+    String::from_utf8(out).unwrap()
+}
+
+#[test]
+fn session_listed() {
+    let input: String = SESSION
+        .iter()
+        .map(|(request, _)| format!("{HEADER_IN}{request}\n"))
+        .collect();
+    let replies: String = SESSION
+        .iter()
+        .map(|(_, reply)| format!("{HEADER_OUT}{reply}\n"))
+        .collect();
+    assert_eq!(
+        list(input.as_bytes()),
+        format!("{replies}contexts 1\n2 0 0 L/1/5\n")
+    );
+}
+
+#[test]
+fn lines() {
+    let refused = "refused 1\n";
+    let error = format!("{HEADER_OUT}ER=400{{}}\n");
+    assert_eq!(list(b""), "contexts 0\n");
+    assert_eq!(list(b"\n"), format!("{refused}contexts 0\n"));
+    assert_eq!(list(b"\n\n"), format!("{refused}{refused}contexts 0\n"));
+    assert_eq!(list(b"x"), format!("{error}contexts 0\n"));
+    assert_eq!(list(b"\r\n"), format!("{error}contexts 0\n"));
+    assert_eq!(list(b"\0\nx\n"), format!("{error}{error}contexts 0\n"));
+    for (length, printed) in [(4_096, error.as_str()), (4_097, refused), (99_999, refused)] {
+        let mut input = vec![b' '; length];
+        assert_eq!(list(&input), format!("{printed}contexts 0\n"));
+        input.extend_from_slice(b"\nx");
+        assert_eq!(list(&input), format!("{printed}{error}contexts 0\n"));
+    }
+    let properties = format!("{HEADER_IN}T=1{{C=${{PR=15,EG,A=$,A=l/8/31,A=L/1/1}},C=${{A=$}}}}\r");
+    assert_eq!(
+        list(properties.as_bytes()),
+        format!(
+            "{HEADER_OUT}P=1{{C=1{{A=R/1,A=L/8/31,A=L/1/1}},C=2{{A=R/2}}}}\n\
+             contexts 2\n1 15 1 L/1/1 L/8/31 R/1\n2 0 0 R/2\n"
+        )
+    );
+}
+
+#[test]
+fn short_cases() {
+    for (request, reply) in [
+        ("T=1{C=5{}}", "P=1{ER=403{}}"),
+        ("T=1{}", "P=1{ER=403{}}"),
+        ("T=1{C=5{S=*", "P=1{ER=403{}}"),
+        ("Q=1{}", "ER=400{}"),
+        ("T=1{C=1{PR=16}}", "P=1{C=1{ER=449{}}}"),
+        ("T=1{C=5{PR=3}}", "P=1{C=5{ER=411{}}}"),
+        ("T=1{C=-{A=$}}", "P=1{C=-{ER=421{}}}"),
+        ("T=1{C=${A=R/1}}", "P=1{C=${A=R/1{ER=430{}}}}"),
+        ("T=1{C=-{MF=*}}", "P=1{ER=533{}}"),
+    ] {
+        let mut table = [0; 752];
+        assert_eq!(inside(request, &mut table), reply, "{request}");
+        assert_eq!(table, [0; 752], "{request}");
+    }
+}
+
+#[test]
+fn turned_down() {
+    let message = b"!/1 [10.0.0.1] T=7{C=${A=L/1/5,A=$}}";
+    let long = [b' '; 4_097];
+    let own_65 = [b'a'; 65];
+    let sound = [0; 752];
+    let mut unsound = sound;
+    unsound[751] = 1;
+    for (message, words, own, length, expected) in [
+        (&message[..], &sound[..], OWN, 16_639, Answer::ReplyTooShort),
+        (b"", &unsound, b"", 0, Answer::ReplyTooShort),
+        (message, &sound[..751], OWN, 16_640, Answer::BadTable),
+        (message, &[0; 753], OWN, 16_640, Answer::BadTable),
+        (message, &[], OWN, 16_640, Answer::BadTable),
+        (b"", &unsound, b"", 16_640, Answer::BadTable),
+        (b"", &sound, b"", 16_640, Answer::BadMid),
+        (message, &sound, b"[10.0.0.9] ", 16_640, Answer::BadMid),
+        (message, &sound, &own_65, 16_640, Answer::BadMid),
+        (b"", &sound, OWN, 16_640, Answer::BadMessage),
+        (&long, &sound, OWN, 16_640, Answer::BadMessage),
+    ] {
+        let mut table = words.to_vec();
+        let mut reply = vec![FILL; length];
+        let got = answer(message, &mut table, own, &mut reply);
+        assert_eq!(got, expected);
+        assert_eq!(table, words);
+        assert!(reply.iter().all(|&byte| byte == FILL));
+    }
+    assert_eq!(Answer::Taken(5).number(), 0);
+    assert_eq!(Answer::BadMessage.number(), 1);
+    assert_eq!(Answer::BadTable.number(), 2);
+    assert_eq!(Answer::ReplyTooShort.number(), 3);
+    assert_eq!(Answer::BadMid.number(), 4);
+    // A longer buffer, and an own mId of just 64 bytes, are fine.
+    let mut reply = vec![FILL; 20_000];
+    let taken = answer(message, &mut [0; 752], &own_65[..64], &mut reply);
+    assert_eq!(taken, Answer::Taken(4 + 64 + 1 + 23));
+}
+
+#[test]
+fn tables_not_sound() {
+    // A sound one: L/1/1 and R/1 in context 3, priority 15 and emergency.
+    let mut sound = [0; 752];
+    sound[0] = 3;
+    sound[248] = 3;
+    sound[626] = 32;
+    sound[312] = 20;
+    let taken = |table: &[u32; 752]| {
+        let mut reply = vec![FILL; 16_640];
+        let got = answer(b"x", &mut table.clone(), OWN, &mut reply);
+        got != Answer::BadTable
+    };
+    assert!(taken(&sound));
+    for (place, word) in [
+        (0, 129),
+        (0, u32::MAX),
+        (0, 4),
+        (247, 128),
+        (312, 5),
+        (312, 13),
+        (312, 21),
+        (312, u32::MAX),
+        (561, 1),
+        (626, 0),
+        (626, 33),
+        (627, 1),
+    ] {
+        let mut table = sound;
+        table[place] = word;
+        assert!(!taken(&table), "{place} {word}");
+    }
+    // "at most 8 terminations in each non-null context"
+    let mut table = sound;
+    table[1..7].fill(3);
+    assert!(taken(&table));
+    table[7] = 3;
+    assert!(!taken(&table));
+}
+
+#[test]
+fn headers() {
+    for (message, reply) in [
+        ("!/1 [1.1.1.1] ", "ER=400{}"),
+        ("!/2 [1.1.1.1] ", "ER=406{}"),
+        ("!/2 [1.1.1.1]", "ER=400{}"),
+        ("!/2 [1.1.1.1] ;x", "ER=400{}"),
+        ("!/2 [1.1.1.1];x\r", "ER=406{}"),
+        ("!/2 [1.1.1.256] T=1{C=-{MF=ROOT}}", "ER=400{}"),
+        ("!/01 [1.1.1.1] T=1{C=-{MF=ROOT}}", "P=1{C=-{MF=ROOT}}"),
+        ("!/00 [1.1.1.1] T=1{C=-{MF=ROOT}}", "ER=406{}"),
+        ("!/001 [1.1.1.1] T=1{C=-{MF=ROOT}}", "ER=400{}"),
+        ("!/1;c\n<a>:00080;c\rT=1{C=-{MF=ROOT}}", "P=1{C=-{MF=ROOT}}"),
+        (
+            " \r\nmegaco/1 *a$/b T=1{C=-{MF=ROOT}} \n",
+            "P=1{C=-{MF=ROOT}}",
+        ),
+        ("!/1 [1.1.1.1] T=1{C=-{MF=ROOT}};x", "ER=400{}"),
+        ("!/1 [1.1.1.1] T=1{C=-{MF=ROOT};x", "P=1{ER=403{}}"),
+        ("!/1 T=1{C=-{MF=ROOT}}", "ER=400{}"),
+        ("!/1 [1.1.1.1]:65536 T=1{C=-{MF=ROOT}}", "ER=400{}"),
+        ("!/1 a:1 T=1{C=-{MF=ROOT}}", "ER=400{}"),
+        ("! /1 [1.1.1.1] T=1{C=-{MF=ROOT}}", "ER=400{}"),
+        ("!", "ER=400{}"),
+    ] {
+        let mut table = [0; 752];
+        assert_eq!(whole(message.as_bytes(), &mut table), reply, "{message:?}");
+    }
+}
+
+#[test]
+fn boundaries() {
+    for (request, reply) in [
+        ("T=0", "P=0{ER=403{}}"),
+        ("T=0 x", "P=0{ER=403{}}"),
+        ("T=00000000000{}", "ER=400{}"),
+        ("T=007{", "P=7{ER=403{}}"),
+        ("T=4294967296{}", "ER=400{}"),
+        ("T=4294967295{C=-{MF=ROOT}}", "P=4294967295{C=-{MF=ROOT}}"),
+        ("T=1{C=4294967295{S=*}}", "P=1{C=4294967295{S=*{ER=411{}}}}"),
+        ("T=1{C=4294967296{S=*}}", "P=1{ER=403{}}"),
+        ("T=1{C=0005{S=*}}", "P=1{C=5{S=*{ER=411{}}}}"),
+        ("T=1{C=-{MF=ROOT}}T=2{}T=3{", "P=2{ER=403{}}"),
+        ("T=1{C=${PR=99,A=$}}", "P=1{C=${ER=449{}}}"),
+        ("T=1{C=${PR=100000,A=$}}", "P=1{ER=403{}}"),
+        ("T=1{C=${PR=3}}", "P=1{C=${ER=421{}}}"),
+        ("T=1{C=*{PR=99,A=$}}", "P=1{C=*{ER=421{}}}"),
+        ("T=1{C=-{PR=99}}", "P=1{C=-{ER=421{}}}"),
+        ("T=1{C=-{MF=L/1/1,A=$}}", "P=1{C=-{MF=L/1/1,ER=421{}}}"),
+        ("T=1{C=-{O-W-A=$,MF=ROOT}}", "P=1{C=-{ER=443{}}}"),
+        (
+            "T=1{C=5{O-S=*{ZZ},S=*}}",
+            "P=1{C=5{S=*{ER=411{}},S=*{ER=411{}}}}",
+        ),
+        (
+            "T=1{C=-{MF=Root{M{O{MO=XX}}}}}",
+            "P=1{C=-{MF=Root{ER=449{}}}}",
+        ),
+        (
+            "T=1{C=${O-A=L/$,O-A=r/$,MF=$}}",
+            "P=1{C=1{A=L/${ER=432{}},A=R/1,MF=${ER=410{}}}}",
+        ),
+        (
+            "T=1{C=-{MF=L/1/1{M{O{MO=SR},O=5}}}}",
+            "P=1{C=-{MF=L/1/1{ER=448{}}}}",
+        ),
+        (
+            "T=1{C=-{MF=L/1/1{M=5{O{MO=ZZ}}}}}",
+            "P=1{C=-{MF=L/1/1{ER=442{}}}}",
+        ),
+        (
+            "T=1{C=-{MF=L/1/1{M{O{MO=XX,ZZ}}}}}",
+            "P=1{C=-{MF=L/1/1{ER=449{}}}}",
+        ),
+        (
+            "T=1{C=-{MF=L/1/1{a{a{a{a{a{a{a{a}}}}}}}}}}",
+            "P=1{C=-{MF=L/1/1{ER=444{}}}}",
+        ),
+        (
+            "T=1{C=-{MF=L/1/1{a{a{a{a{a{a{a{a{a}}}}}}}}}}}",
+            "P=1{ER=403{}}",
+        ),
+        (
+            "T=1{C=${A=L/1/1,S=L/1/1,O-A=L/1/1,O-A=$},C=${A=$}}",
+            "P=1{C=1{A=L/1/1,S=L/1/1,A=L/1/1{ER=411{}},A=${ER=411{}}},C=1{A=R/1}}",
+        ),
+        (
+            "T=1{C=${A=L/1/1},C=5{EG},C=${A=$}}",
+            "P=1{C=1{A=L/1/1},C=5{ER=411{}}}",
+        ),
+    ] {
+        assert_eq!(fresh(request), reply, "{request}");
+    }
+    for (request, reply) in [
+        ("T=1{C=1{PR=5,EG,PR=00003}}", "P=1{C=1{PR=3,EG}}"),
+        ("T=1{C=1{EG}}", "P=1{C=1{PR=0,EG}}"),
+        ("T=1{C=1{A=$,PR=3}}", "P=1{ER=403{}}"),
+        (
+            "T=1{C=1{O-S=*{ZZ},S=ROOT}}",
+            "P=1{C=1{S=*{ER=447{}},S=ROOT{ER=410{}}}}",
+        ),
+        (
+            "T=2{C=${MV=L/1/1},C=${A=$}}",
+            "P=2{C=2{MV=L/1/1},C=1{A=R/1}}",
+        ),
+        ("T=2{C=1{MV=*}}", "P=2{C=1{MV=*{ER=431{}}}}"),
+        ("T=2{C=1{O-PR=3}}", "P=2{ER=403{}}"),
+        ("T=2{C=1{W-EG}}", "P=2{ER=403{}}"),
+        ("T=2{C=1{EG=1}}", "P=2{ER=403{}}"),
+        ("T=2{C=1{S=*,EG}}", "P=2{ER=403{}}"),
+        ("T=2{C=1{MF=*{M{O{MO=}}}}}", "P=2{ER=403{}}"),
+        (r#"T=2{C=1{MF=*{M{O{MO=""}}}}}"#, "P=2{C=1{MF=*{ER=449{}}}}"),
+        ("T=2{C=1{MF=L/9/*}}", "P=2{C=1{MF=L/9/*{ER=431{}}}}"),
+        ("T=2{C=1{PR=15},C=1{EG}}", "P=2{C=1{PR=15},C=1{PR=15,EG}}"),
+        ("T=2{C=-{PR=1,MF=L/1/2}}", "P=2{C=-{ER=421{}}}"),
+    ] {
+        assert_eq!(context_1(request), reply, "{request}");
+    }
+}
+
+#[test]
+fn message_of_4096() {
+    let mut message = format!("{HEADER_IN}T=1{{C=${{A=$}}}}").into_bytes();
+    message.resize(4_096, b' ');
+    assert_eq!(whole(&message, &mut [0; 752]), "P=1{C=1{A=R/1}}");
+    message.push(b' ');
+    let refused = answer(&message, &mut [0; 752], OWN, &mut [0; 16_640]);
+    assert_eq!(refused, Answer::BadMessage);
+}
+
+#[test]
+fn eight_and_nine_members() {
+    let mut expected = String::from("P=1{C=1{A=L/1/1");
+    for channel in 2..=31 {
+        expected += &format!(",A=L/1/{channel}");
+        if channel > 8 {
+            expected += "{ER=434{}}";
+        }
+    }
+    assert_eq!(fresh("T=1{C=${A=L/1/*}}"), expected + "}}");
+}
+
+#[test]
+fn reply_of_2048_and_2049() {
+    let long = "x".repeat(64);
+    let commands = format!("O-A={long},").repeat(26);
+    let request = |last: usize| format!("T=1{{C=5{{{commands}O-A={}}}}}", "x".repeat(last));
+    assert_eq!(fresh(&request(24)).len(), 2_048);
+    assert_eq!(fresh(&request(25)), "P=1{ER=533{}}");
+    // The number that a `$` turns into counts too, and the changes stand.
+    let request = |last: usize| {
+        format!(
+            "T=1{{C=${{{commands}O-A={},A=$}}}}T=2{{C=1{{PR=2}}}}",
+            "x".repeat(last)
+        )
+    };
+    let done = fresh(&request(18));
+    assert_eq!(done.find("P=2"), Some(2_048));
+    assert_eq!(fresh(&request(19)), "P=1{ER=533{}}P=2{C=1{PR=2}}");
+}
+
+#[test]
+fn subtracted_line_keeps_its_state() {
+    let mut table = [0; 752];
+    let request = "T=1{C=${A=L/1/1{M{TS{SI=te},O{mode=LoopBack}}},A=$,S=L/1/1}}";
+    assert_eq!(
+        inside(request, &mut table),
+        "P=1{C=1{A=L/1/1,A=R/1,S=L/1/1}}"
+    );
+    assert_eq!(words(&table), [(248, 1), (312, 16), (624, 1)]);
+}
+
+#[test]
+fn no_context_left() {
+    // Contexts 1..128, each with one line termination; no ephemeral.
+    let mut table = [0; 752];
+    for context in 1..=128 {
+        table[context as usize - 1] = context;
+        table[623 + context as usize] = 1;
+    }
+    assert_eq!(
+        inside("T=1{C=${O-A=$,O-MV=L/1/1}}", &mut table),
+        "P=1{C=${A=${ER=412{}},MV=L/1/1{ER=412{}}}}"
+    );
+    // The last number is found when it alone is absent.
+    assert_eq!(
+        inside("T=1{C=128{S=*},C=${PR=7,MV=L/1/1}}", &mut table),
+        "P=1{C=128{S=L/5/4},C=128{MV=L/1/1}}"
+    );
+    assert_eq!((table[0], table[624], table[751]), (128, 0, 8));
+}
+
+/// A small generator of numbers for the noise below.
+struct Numbers(u64);
+
+impl Numbers {
+    fn next(&mut self, under: usize) -> usize {
+        self.0 ^= self.0 << 13;
+        self.0 ^= self.0 >> 7;
+        self.0 ^= self.0 << 17;
+        (self.0 >> 11) as usize % under
+    }
+}
+
+#[test]
+fn line_noise() {
+    // Well-formed requests with bytes changed, cut and swapped: each call ends,
+    // leaves a sound table, and leaves the bytes past its reply.
+    let pieces: [&str; 24] = [
+        "!/1 [1.2.3.4] ",
+        "T=5{",
+        "C=${",
+        "C=1{",
+        "C=-{",
+        "A=$",
+        "A=*",
+        "MV=*",
+        "S=*",
+        "MF=L/1/*",
+        "S=R/2",
+        "A=L/3/7",
+        "O-",
+        "W-",
+        "{M{O{MO=SR}}}",
+        "{M{TS{SI=\"OS\"}}}",
+        "PR=3",
+        "EG",
+        ",",
+        ",",
+        "}",
+        "}}",
+        ";c\n",
+        "\u{7f}",
+    ];
+    let mut numbers = Numbers(0x9E37_79B9_7F4A_7C15);
+    let mut table = [0; 752];
+    for round in 0..20_000 {
+        let mut message = b"!/1 [1.2.3.4] T=5{C=${A=$".to_vec();
+        for _ in 0..numbers.next(12) {
+            message.extend_from_slice(pieces[numbers.next(pieces.len())].as_bytes());
+        }
+        message.extend_from_slice(b"}}");
+        for _ in 0..numbers.next(3) {
+            let place = numbers.next(message.len());
+            message[place] = numbers.next(256) as u8;
+        }
+        message.truncate(1 + numbers.next(2 * message.len()));
+        whole(&message, &mut table);
+        let sound = answer(b"x", &mut table, OWN, &mut [0; 16_640]);
+        assert_ne!(sound, Answer::BadTable);
+        if round % 64 == 0 {
+            table = [0; 752];
+        }
+    }
+}

@@ -1,0 +1,221 @@
+//! Runs the recorded calls and listings in the folder that the variable
+//! VECTORS names; without it, nothing is run.
+
+use std::fs;
+use std::path::{Path, PathBuf};
+
+use reference::listing::listing;
+use reference::{answer, Answer};
+
+fn folder() -> Option<PathBuf> {
+    let folder = std::env::var_os("VECTORS").map(PathBuf::from);
+    if folder.is_none() {
+        println!("VECTORS is not set: the recorded calls are not run");
+    }
+    folder
+}
+
+fn read(path: &Path) -> Vec<u8> {
+    fs::read(path).unwrap_or_else(|error| panic!("{}: {error}", path.display()))
+}
+
+/// One line of `calls.jsonl`.
+struct Row {
+    kind: String,
+    message: Vec<u8>,
+    table: Vec<u32>,
+    own: Vec<u8>,
+    buffer: usize,
+    refusal: u32,
+    reply: Vec<u8>,
+    after: Vec<u32>,
+}
+
+/// A reader of the one shape of JSON that the rows have: strings without
+/// escapes, numbers, and lists of pairs, under fixed keys in a fixed order.
+struct Json<'a>(&'a str);
+
+impl<'a> Json<'a> {
+    fn skip(&mut self, text: &str) {
+        let rest = self.0.trim_start().strip_prefix(text);
+        self.0 = rest.unwrap_or_else(|| panic!("no {text} at {:.40}", self.0));
+    }
+
+    fn take(&mut self, text: &str) -> bool {
+        let rest = self.0.trim_start().strip_prefix(text);
+        self.0 = rest.unwrap_or(self.0);
+        rest.is_some()
+    }
+
+    fn key(&mut self, name: &str) {
+        let string = self.string();
+        assert_eq!(string, name);
+        self.skip(":");
+    }
+
+    fn string(&mut self) -> &'a str {
+        self.skip("\"");
+        let (string, rest) = self.0.split_once('"').expect("a closing quote");
+        assert!(!string.contains('\\'), "no escapes");
+        self.0 = rest;
+        string
+    }
+
+    fn number<T: std::str::FromStr>(&mut self) -> T {
+        let text = self.0.trim_start();
+        let end = text.find(|c: char| !c.is_ascii_digit());
+        let (digits, rest) = text.split_at(end.unwrap_or(text.len()));
+        self.0 = rest;
+        let Ok(number) = digits.parse() else {
+            panic!("no number at {text:.40}");
+        };
+        number
+    }
+
+    fn hex(&mut self) -> Vec<u8> {
+        let digits = self.string();
+        assert_eq!(digits.len() % 2, 0);
+        let pair = |at| u8::from_str_radix(&digits[at..at + 2], 16).expect("hex digits");
+        (0..digits.len()).step_by(2).map(pair).collect()
+    }
+
+    /// The words that are not 0, as `[index, value]`.
+    fn words(&mut self, length: usize) -> Vec<u32> {
+        let mut words = vec![0; length];
+        self.skip("[");
+        if self.take("]") {
+            return words;
+        }
+        loop {
+            self.skip("[");
+            let index: usize = self.number();
+            self.skip(",");
+            words[index] = self.number();
+            self.skip("]");
+            if !self.take(",") {
+                break;
+            }
+        }
+        self.skip("]");
+        words
+    }
+
+    fn row(line: &'a str) -> Row {
+        let mut json = Json(line);
+        json.skip("{");
+        json.key("kind");
+        let kind = json.string().to_string();
+        json.skip(",");
+        json.key("message");
+        let message = json.hex();
+        json.skip(",");
+        json.key("table_len");
+        let length = json.number();
+        json.skip(",");
+        json.key("table");
+        let table = json.words(length);
+        json.skip(",");
+        json.key("own");
+        let own = json.hex();
+        json.skip(",");
+        json.key("buf");
+        let buffer = json.number();
+        json.skip(",");
+        json.key("refusal");
+        let refusal = json.number();
+        json.skip(",");
+        json.key("reply");
+        let reply = json.hex();
+        json.skip(",");
+        json.key("after");
+        let after = json.words(length);
+        json.skip("}");
+        assert!(json.0.trim().is_empty());
+        Row {
+            kind,
+            message,
+            table,
+            own,
+            buffer,
+            refusal,
+            reply,
+            after,
+        }
+    }
+}
+
+/// Runs one row; gives what differs.
+fn differs(row: &Row) -> Option<String> {
+    // A pattern that no run of equal bytes would leave unnoticed.
+    let pattern: Vec<u8> = (0..row.buffer)
+        .map(|at| (at * 7 + at / 256) as u8 | 0x80)
+        .collect();
+    let mut reply = pattern.clone();
+    let mut table = row.table.clone();
+    let got = answer(&row.message, &mut table, &row.own, &mut reply);
+    let length = match got {
+        Answer::Taken(length) => length,
+        _ => 0,
+    };
+    let mut expected = pattern;
+    expected[..row.reply.len()].copy_from_slice(&row.reply);
+    if got.number() != row.refusal {
+        return Some(format!("refusal {}, not {}", got.number(), row.refusal));
+    }
+    if length != row.reply.len() || reply != expected {
+        return Some(format!(
+            "reply {}, not {}",
+            reply[..length].escape_ascii(),
+            row.reply.escape_ascii()
+        ));
+    }
+    let word = (0..table.len()).find(|&place| table[place] != row.after[place])?;
+    Some(format!(
+        "word {word} is {}, not {}",
+        table[word], row.after[word]
+    ))
+}
+
+#[test]
+fn calls() {
+    let Some(folder) = folder() else { return };
+    let text = String::from_utf8(read(&folder.join("calls.jsonl"))).unwrap();
+    let mut rows = 0;
+    let mut different = 0;
+    for (number, line) in text.lines().enumerate() {
+        let row = Json::row(line);
+        rows += 1;
+        if let Some(difference) = differs(&row) {
+            different += 1;
+            println!(
+                "row {} ({}): {difference}\n  message {}",
+                number + 1,
+                row.kind,
+                row.message.escape_ascii()
+            );
+        }
+    }
+    println!("{rows} calls, {different} different");
+    assert!(rows > 0);
+    assert_eq!(different, 0);
+}
+
+#[test]
+fn listings() {
+    let Some(folder) = folder() else { return };
+    let folder = folder.join("listing");
+    let mut inputs: Vec<PathBuf> = fs::read_dir(&folder)
+        .unwrap()
+        .map(|entry| entry.unwrap().path())
+        .filter(|path| path.extension().is_some_and(|kind| kind == "in"))
+        .collect();
+    inputs.sort();
+    for input in &inputs {
+        let mut out = Vec::new();
+        listing(read(input).as_slice(), &mut out).unwrap();
+        let expected = read(&input.with_extension("out"));
+        assert!(out == expected, "{} differs", input.display());
+    }
+    println!("{} listings", inputs.len());
+    assert!(!inputs.is_empty());
+}
