@@ -1,7 +1,7 @@
 -- How long the contexts of a sound table are, printed.
 use Prim.Native.Nat.{ℕ, zero, suc, _+_, _*_, _-_, _/_, _%_, _≤_, _<_}
-use mathlib.Core.Path.{_≡_, refl, sym}
-use mathlib.Core.Bool.{Bool, true, false, _&&_, and-eq-true-iff, true≢false}
+use mathlib.Core.Path.{_≡_, refl}
+use mathlib.Core.Bool.{Bool, true, false, _&&_}
 use mathlib.Core.List.{List, [], _∷_}
 use native.Mathlib.Omega.{arith}
 use lib.ListN.{length, drop, length-take}
@@ -11,7 +11,9 @@ use Rattle.base.specs.Pick.{pick}
 use Rattle.base.specs.Lists.{every, count}
 use Rattle.base.specs.Bytes.{text, decimal, _then_}
 use Rattle.base.proofs.PickLaws.{pick-ind}
+use Rattle.base.proofs.TestLaws.{pick-both, and-right}
 use Rattle.base.proofs.TextLaws.{length-then, length-below}
+use Rattle.laws.specs.Sound.{record-sound}
 use Rattle.megaco.specs.Table.{channels, terminations, contexts, words, lineTerminations, isEphemeral, contextWords, propertyWords, recordWords, ephemeralContexts, ephemeralProperties, isPropertyWord, absentAreZero, priorityOf, emergencyOf, most, recordIsSound, recordsAreSound, sound}
 use Rattle.megaco.specs.Names.{nameText}
 use Rattle.sessions.specs.Lines.{lineEnd}
@@ -42,11 +44,9 @@ members-fit c i [] h = omega arith
 members-fit c i (w ∷ ws) h = simp length-then (omega (arith, member-fits c i w (omega arith), members-fit c (i + 1) ws (omega arith)))
 
 line-fits : (ws : List ℕ) (c r : ℕ) → length ws ≤ terminations → c ≤ contexts → recordIsSound r (count c ws) ≡ true → length (contextLine ws c r) ≤ 65
-unfolding contextLine propertiesText recordIsSound
+unfolding contextLine propertiesText
 line-fits ws c r l h s =
-    let both = and-eq-true-iff _ (leb (count c ws) most) .0 s in
-    let few : count c ws ≤ most = leb-true (count c ws) most (both .1) in
-    let small : r ≤ 32 = leb-true r 32 (and-eq-true-iff (leb r 32) _ .0 (both .0) .0) in
+    let k = record-sound r (count c ws) s in
     pick-ind (λ x. length x ≤ 65) (eqb r 0) [] (decimal c then propertiesText r then membersText c ws then (lineEnd ∷ [])) (λ e. omega arith)
     (λ e.
     simp length-then
@@ -54,15 +54,11 @@ line-fits ws c r l h s =
 
 lines-fit : (ws : List ℕ) (c : ℕ) (rs : List ℕ) → length ws ≤ terminations → c + length rs ≤ suc contexts → recordsAreSound ws c rs ≡ true
     → length (each (contextLine ws) c rs) ≤ 65 * length rs
-unfolding each recordsAreSound pick
+unfolding each recordsAreSound
 lines-fit ws c [] l h s = omega arith
-lines-fit ws c (r ∷ rs) l h s = by (recordIsSound r (count c ws)) refl s (lines-fit ws (c + 1) rs l (omega arith))
-  where
-    by : (x : Bool) → recordIsSound r (count c ws) ≡ x → pick x (recordsAreSound ws (c + 1) rs) false ≡ true
-        → (recordsAreSound ws (c + 1) rs ≡ true → length (each (contextLine ws) (c + 1) rs) ≤ 65 * length rs)
-        → length (contextLine ws c r then each (contextLine ws) (c + 1) rs) ≤ 65 * suc (length rs)
-    by true e s more = simp length-then (omega (arith, line-fits ws c r l (omega arith) e, more s))
-    by false e s more = absurd (true≢false (sym s))
+lines-fit ws c (r ∷ rs) l h s =
+    let k = pick-both (recordIsSound r (count c ws)) (recordsAreSound ws (c + 1) rs) s in
+    simp length-then (omega (arith, line-fits ws c r l (omega arith) (k .0), lines-fit ws (c + 1) rs l (omega arith) (k .1)))
 
 present-fits : (rs : List ℕ) → present rs ≤ length rs
 unfolding present
@@ -72,13 +68,11 @@ present-fits (r ∷ rs) = let one : pick (eqb r 0) 0 1 ≤ 1 = pick-ind (λ n. n
 records-of-sound : (t : List ℕ) → sound t ≡ true → recordsAreSound (contextWords t) 1 (recordWords t) ≡ true
 unfolding sound
 records-of-sound t s =
-    and-eq-true-iff
+    and-right
     (eqb (length t) words && every (λ w. leb w contexts) (contextWords t) && every isPropertyWord (propertyWords t)
     && absentAreZero (ephemeralContexts t) (ephemeralProperties t))
     (recordsAreSound (contextWords t) 1 (recordWords t))
-    .0
     s
-    .1
 
 -- the contexts of a sound table take at most 8,333 bytes
 pub report-fits : (t : List ℕ) → sound t ≡ true → length (reportText t) ≤ 8333

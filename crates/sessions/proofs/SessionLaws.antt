@@ -15,6 +15,8 @@ use Rattle.base.proofs.OutLaws.{none, take-put, same-length-by}
 use Rattle.base.proofs.PickLaws.{pick-ind}
 use Rattle.base.proofs.TextLaws.{length-then, none-then, length-decimal}
 use Rattle.laws.specs.Bounds.{call-bounded}
+use Rattle.laws.specs.Sound.{fresh-sound}
+use Rattle.laws.specs.Kept.{call-sound}
 use Rattle.megaco.specs.Call.{Called, written, replied, taken, call}
 use Rattle.megaco.specs.Table.{sound}
 use Rattle.sessions.specs.Lines.{lineEnd, linesOf, Unended, nothing, byte, lineFrom, lineEndAt}
@@ -110,6 +112,10 @@ answer-fits m t =
     (λ e. simp (length-then, length-take) (omega (arith, call-bounded m t ownMid (replicate 16640 0) .fits)))
     (λ e. simp length-then (omega (arith, length-decimal (c .refusal) (omega (arith, refusal-small m t ownMid (replicate 16640 0))))))
 
+answered-sound : (m t : List ℕ) → sound t ≡ true → sound (answered m t .table) ≡ true
+unfolding answered
+answered-sound m t k = call-sound m t ownMid (replicate 16640 0) k
+
 -- no byte is held at the start
 pub holds-none : (line : List ℕ) → length line ≡ lineRoom → Holds line 0
 holds-none line e = record { room = e; within = omega arith; unended = nothing }
@@ -128,6 +134,7 @@ module _ (s : List ℕ) (from e : ℕ) (is : e ≡ lineEndAt s from) (line : Lis
       record {
         on = omega arith;
         holds = holds-none line′ (on .room);
+        kept = λ k. rw (a .table) (answered-sound (take (h - 0) line′) t k);
         said = answerText (answered (take (h - 0) line′) t);
         put = a .put;
         fits = omega (arith, answer-fits (take (h - 0) line′) t);
@@ -142,6 +149,7 @@ module _ (s : List ℕ) (from e : ℕ) (is : e ≡ lineEndAt s from) (line : Lis
       record {
         on = omega arith;
         holds = holds-on line held hold (lineFrom s from) line′ h took u;
+        kept = λ k. k;
         said = [];
         put = none o 0;
         fits = omega arith;
@@ -157,12 +165,13 @@ rest-last (b ∷ h) t u l = rw (lines-fronted u [], fronted-is b h [], append-ni
 
 pub finish-none : (line : List ℕ) (held : ℕ) (t o : List ℕ) → held ≡ 0 → Finished line held t o t o 0
 unfolding restText sessionText linesOf
-finish-none line held t o e = record { said = []; put = none o 0; fits = omega arith; rest = rw (e, none-then) }
+finish-none line held t o e = record { kept = λ k. k; said = []; put = none o 0; fits = omega arith; rest = rw (e, none-then) }
 
 pub finish-last : (line : List ℕ) (held : ℕ) (t o t′ o′ : List ℕ) (n : ℕ) → Holds line held → (held ≡ 0 → ⊥) → answerRoom ≤ length o
     → Answers (take (held - 0) (drop 0 line)) t o t′ o′ n → Finished line held t o t′ o′ n
 finish-last line held t o t′ o′ n hold h w a =
     record {
+      kept = λ k. rw (a .table) (answered-sound (take (held - 0) line) t k);
       said = answerText (answered (take (held - 0) line) t);
       put = a .put;
       fits = omega (arith, answer-fits (take (held - 0) line) t);
@@ -176,17 +185,14 @@ shown : (o x o′ : List ℕ) (n : ℕ) → Appended o 0 x o′ n → length x �
 shown o x o′ n f h = let e : n ≡ length x = omega (arith, f .next) in rw (f .text, e) (take-put o x h)
 
 -- what a run prints is what the session prints for the rest of the input, wherever that is cut
-run-prints : {line : List ℕ} {held : ℕ} {t s : List ℕ} {from : ℕ} {ss : List (List ℕ)} {x : List ℕ} → Run line held t s from ss x
+run-prints : {line : List ℕ} {held : ℕ} {t s : List ℕ} {from : ℕ} {ss : List (List ℕ)} {x : List ℕ} → sound t ≡ true → Run line held t s from ss x
     → x ≡ restText (take held line) t (drop from s ++ joined ss)
 unfolding joined
-run-prints (turn a r) = rw (shown _ _ _ _ (a .put) (a .fits)) (ap (λ (y : List ℕ). a .said then y) (run-prints r) ∙ sym (a .rest _))
-run-prints {s = s} (read h r) = rw (drop-of-length-le s h) (run-prints r)
-run-prints {s = s} (end h a) = rw (shown _ _ _ _ (a .put) (a .fits), drop-of-length-le s h) (sym (a .rest))
+run-prints g (turn a r) = rw (shown _ _ _ _ (a .put) (a .fits)) (ap (λ (y : List ℕ). a .said then y) (run-prints (a .kept g) r) ∙ sym (a .rest _))
+run-prints {s = s} g (read h r) = rw (drop-of-length-le s h) (run-prints g r)
+run-prints {s = s} g (end {t′ = t′} h a w f) =
+    rw (shown _ _ _ _ (a .put) (a .fits), shown _ _ _ _ f (omega (arith, report-fits t′ (a .kept g))), drop-of-length-le s h) (sym (a .rest))
 
 pub session-prints : (line : List ℕ) (ss : List (List ℕ)) (x : List ℕ) → Run line 0 freshTable [] 0 ss x → x ≡ printedText (joined ss)
-unfolding printedText
-session-prints line ss x r = run-prints r
-
--- the contexts of a sound table are printed whole
-pub report-shown : (t o o′ : List ℕ) (n : ℕ) → sound t ≡ true → 8333 ≤ length o → Appended o 0 (reportText t) o′ n → take n o′ ≡ reportText t
-report-shown t o o′ n s h f = shown o (reportText t) o′ n f (omega (arith, report-fits t s))
+unfolding printedText freshTable
+session-prints line ss x r = run-prints fresh-sound r

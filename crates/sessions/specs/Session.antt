@@ -1,13 +1,14 @@
 -- What a whole session prints (document 01, 'Sessions to check').
 use Prim.Native.Nat.{ℕ, _≤_, _<_}
 use mathlib.Core.Path.{_≡_}
+use mathlib.Core.Bool.{true}
 use mathlib.Core.List.{List, [], _∷_, _++_}
 use lib.ListN.{length, take, drop, replicate}
 use lib.Dec.{eqb}
 use Rattle.base.specs.Pick.{pick}
 use Rattle.base.specs.Bytes.{text, _then_}
 use Rattle.base.specs.Out.{Appended}
-use Rattle.megaco.specs.Table.{words}
+use Rattle.megaco.specs.Table.{words, sound}
 use Rattle.megaco.specs.Call.{Called, call}
 use Rattle.sessions.specs.Lines.{lineEnd, linesOf, Unended}
 use Rattle.sessions.specs.Listing.{reportText, refusedText}
@@ -67,6 +68,7 @@ pub record Holds (line : List ℕ) (held : ℕ) : Type 0 where
 pub record Turned (s : List ℕ) (from : ℕ) (line : List ℕ) (held : ℕ) (t o line′ t′ o′ : List ℕ) (next held′ size : ℕ) : Type 0 where
   pub on : from < next
   pub holds : Holds line′ held′
+  pub kept : sound t ≡ true → sound t′ ≡ true
   pub said : List ℕ
   pub put : Appended o 0 said o′ size
   pub fits : length said ≤ length o
@@ -74,6 +76,7 @@ pub record Turned (s : List ℕ) (from : ℕ) (line : List ℕ) (held : ℕ) (t 
 
 -- the input has ended: `said` is to be printed for a line that is still held, and then the contexts
 pub record Finished (line : List ℕ) (held : ℕ) (t o t′ o′ : List ℕ) (size : ℕ) : Type 0 where
+  pub kept : sound t ≡ true → sound t′ ≡ true
   pub said : List ℕ
   pub put : Appended o 0 said o′ size
   pub fits : length said ≤ length o
@@ -91,5 +94,6 @@ pub data Run : (line : List ℕ) (held : ℕ) (t s : List ℕ) (from : ℕ) → 
       → Turned s from line held t o line′ t′ o′ next held′ size → Run line′ held′ t′ s next ss x → Run line held t s from ss (take size o′ then x)
   read : {line : List ℕ} {held : ℕ} {t s : List ℕ} {from : ℕ} {s′ : List ℕ} {ss : List (List ℕ)} {x : List ℕ}
       → length s ≤ from → Run line held t s′ 0 ss x → Run line held t s from (s′ ∷ ss) x
-  end : {line : List ℕ} {held : ℕ} {t s : List ℕ} {from : ℕ} {o t′ o′ : List ℕ} {size : ℕ}
-      → length s ≤ from → Finished line held t o t′ o′ size → Run line held t s from [] (take size o′ then reportText t′)
+  end : {line : List ℕ} {held : ℕ} {t s : List ℕ} {from : ℕ} {o t′ o′ q q′ : List ℕ} {size k : ℕ}
+      → length s ≤ from → Finished line held t o t′ o′ size → answerRoom ≤ length q → Appended q 0 (reportText t′) q′ k
+      → Run line held t s from [] (take size o′ then take k q′)
