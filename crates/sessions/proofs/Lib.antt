@@ -4,3 +4,4 @@ pub mod PartLaws
 pub mod SessionLaws
 pub mod FitLaws
 pub mod AnswerLaws
+pub mod SessionExample
