@@ -1,24 +1,27 @@
 -- The answer to a line, from the gateway's call with any buffer that is long enough.
 use Prim.Native.Nat.{ℕ, _≤_, _<_}
-use mathlib.Core.Path.{_≡_, refl, sym, ap, _∙_}
+use mathlib.Core.Path.{_≡_, refl, sym, _∙_}
 use mathlib.Core.Logic.{_≢_}
 use mathlib.Core.Bool.{Bool, true, false, not, _||_}
 use mathlib.Core.List.{List, [], _∷_}
 use native.Mathlib.Omega.{arith}
-use lib.ListN.{length, take, replicate, length-replicate}
+use lib.ListN.{length, take, replicate, length-take, length-replicate}
 use lib.Dec.{eqb, ltb}
-use borrow.Author.Tests.{le-ltb, eq-eqb, ne-eqb}
+use borrow.Author.Tests.{lt-ltb, le-ltb, eq-eqb, ne-eqb}
 use Rattle.base.specs.Pick.{pick}
 use Rattle.base.specs.Bytes.{put, _then_}
 use Rattle.base.specs.Out.{Appended}
-use Rattle.base.proofs.OutLaws.{none, take-put, _▸_, chosen-yes, chosen-no}
+use Rattle.base.proofs.PickLaws.{pick-ind}
+use Rattle.base.proofs.TextLaws.{length-then, length-decimal}
+use Rattle.base.proofs.OutLaws.{_▸_, chosen-yes, chosen-no}
 use Rattle.laws.specs.Bounds.{replyTo, call-ind, call-bounded, refusal-keeps, call-taken}
+use Rattle.laws.specs.Kept.{call-sound}
 use Rattle.megaco.specs.Table.{sound}
 use Rattle.megaco.specs.Tokens.{isMid}
 use Rattle.megaco.specs.Call.{Called, turnedDown, written, replied, taken, call}
 use Rattle.sessions.specs.Lines.{lineEnd}
 use Rattle.sessions.specs.Listing.{refusedText}
-use Rattle.sessions.specs.Session.{ownMid, answered, answerText, Answers}
+use Rattle.sessions.specs.Session.{ownMid, answered, answerText, answerRoom, Answers}
 
 -- the refusal of one of four calls, chosen by three tests
 refusal-of : (x y z : Bool) (a b c d : Called)
@@ -68,3 +71,36 @@ module _ (m t o : List ℕ) (room : 16640 ≤ length o) where
       let k : call m t ownMid (replicate 16640 0) .refusal ≢ 0 = λ q. omega arith in
       let b = refusal-keeps m t ownMid (replicate 16640 0) k in
       record { put = chosen-no _ _ _ _ _ _ _ (ne-eqb _ _ k) (rw z (rw (y ∙ a .reply) at f)); table = x ∙ a .table ∙ sym (b .table) }
+
+-- ---- what holds of every answer
+
+-- messages of over 4,096 bytes are answered alike
+pub long-alike : (m n t : List ℕ) → 4096 < length m → 4096 < length n → answered m t ≡ answered n t
+unfolding answered call pick
+long-alike m n t h k =
+    rw (ne-eqb (length m) 0 (omega arith), lt-ltb 4096 (length m) h, ne-eqb (length n) 0 (omega arith), lt-ltb 4096 (length n) k)
+
+-- a reply or `refused n`, with its line end, is no longer than the buffer
+refusal-small : (m t own o : List ℕ) → call m t own o .refusal ≤ 4
+unfolding call taken replied written
+refusal-small m t own o =
+    pick-ind small _ _ _ (λ e. omega arith) λ a.
+    pick-ind small _ _ _ (λ e. omega arith) λ b.
+    pick-ind small _ _ _ (λ e. omega arith) λ d.
+    pick-ind small _ _ _ (λ e. omega arith) (λ e. omega arith)
+  where
+    small : Called → Type 0
+    small c = c .refusal ≤ 4
+
+pub answer-fits : (m t : List ℕ) → length (answerText (answered m t)) ≤ answerRoom
+unfolding answered answerText refusedText
+answer-fits m t =
+    let c = call m t ownMid (replicate 16640 0) in
+    pick-ind (λ l. length l ≤ answerRoom) (eqb (c .refusal) 0) (take (c .size) (c .reply) then (lineEnd ∷ [])) (refusedText (c .refusal))
+    (λ e. simp (length-then, length-take) (omega (arith, call-bounded m t ownMid (replicate 16640 0) .fits)))
+    (λ e. simp length-then (omega (arith, length-decimal (c .refusal) (omega (arith, refusal-small m t ownMid (replicate 16640 0))))))
+
+-- a line leaves a sound table sound
+pub answered-sound : (m t : List ℕ) → sound t ≡ true → sound (answered m t .table) ≡ true
+unfolding answered
+answered-sound m t k = call-sound m t ownMid (replicate 16640 0) k

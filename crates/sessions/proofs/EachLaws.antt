@@ -2,7 +2,7 @@
 use Prim.Native.Nat.{ℕ, _+_, _≤_, _<_}
 use mathlib.Core.Path.{_≡_, refl, _∙_}
 use mathlib.Core.Bool.{Bool, true, false, not}
-use mathlib.Core.List.{List, [], _∷_}
+use mathlib.Core.List.{List}
 use native.Mathlib.Numerals.{add-one}
 use native.Mathlib.Omega.{arith}
 use lib.ListN.{length, getD, drop, drop-of-length-le}
@@ -10,7 +10,7 @@ use lib.Seq.{drop-cons}
 use lib.Dec.{eqb}
 use mir.Val.{boolByte}
 use Rattle.base.specs.Pick.{pick}
-use Rattle.base.specs.Bytes.{text, decimal, _then_}
+use Rattle.base.specs.Bytes.{text, decimal}
 use Rattle.base.specs.Out.{Appended}
 use Rattle.base.proofs.OutLaws.{none, _▸_, same-length-by}
 use Rattle.megaco.specs.Table.{priorityOf, emergencyOf}

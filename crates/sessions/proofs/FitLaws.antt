@@ -1,12 +1,12 @@
 -- How long the contexts of a sound table are, printed.
-use Prim.Native.Nat.{ℕ, zero, suc, _+_, _*_, _-_, _/_, _%_, _≤_, _<_}
-use mathlib.Core.Path.{_≡_, refl}
+use Prim.Native.Nat.{ℕ, suc, _+_, _*_, _-_, _/_, _%_, _≤_, _<_}
+use mathlib.Core.Path.{_≡_}
 use mathlib.Core.Bool.{Bool, true, false, _&&_}
 use mathlib.Core.List.{List, [], _∷_}
 use native.Mathlib.Omega.{arith}
 use lib.ListN.{length, drop, length-take}
 use lib.Dec.{eqb, leb}
-use borrow.Author.Tests.{leb-true, leb-false}
+use borrow.Author.Tests.{leb-false}
 use Rattle.base.specs.Pick.{pick}
 use Rattle.base.specs.Lists.{every, count}
 use Rattle.base.specs.Bytes.{text, decimal, _then_}
@@ -17,7 +17,7 @@ use Rattle.laws.specs.Sound.{record-sound}
 use Rattle.megaco.specs.Table.{channels, terminations, contexts, words, lineTerminations, isEphemeral, contextWords, propertyWords, recordWords, ephemeralContexts, ephemeralProperties, isPropertyWord, absentAreZero, priorityOf, emergencyOf, most, recordIsSound, recordsAreSound, sound}
 use Rattle.megaco.specs.Names.{nameText}
 use Rattle.sessions.specs.Lines.{lineEnd}
-use Rattle.sessions.specs.Listing.{each, memberText, membersText, propertiesText, contextLine, contextLines, present, countLine, partsText, reportText}
+use Rattle.sessions.specs.Listing.{each, memberText, membersText, propertiesText, contextLine, present, countLine, partsText, reportText}
 
 -- `R/n`, `L/l/s`
 name-fits : (i : ℕ) → i < terminations → length (nameText i) ≤ 6

@@ -1,37 +1,28 @@
 -- What is printed for a chunk of input is what the session prints for it, wherever the input is cut.
-use Prim.Native.Nat.{ℕ, zero, suc, _+_, _-_, _≤_, _<_, min, max}
+use Prim.Native.Nat.{ℕ, zero, suc, _+_, _-_, _≤_, _<_, min}
 use mathlib.Core.Path.{_≡_, refl, sym, ap, _∙_}
-use mathlib.Core.Bool.{Bool, true, false, not, _||_}
+use mathlib.Core.Bool.{Bool, true, false}
 use mathlib.Core.List.{List, [], _∷_, _++_, append-assoc, append-nil}
 use native.Mathlib.Omega.{arith}
-use lib.ListN.{length, take, drop, replicate, length-append, length-take, drop-of-length-le}
+use lib.ListN.{length, take, drop, length-append, length-take, drop-of-length-le}
 use lib.Seq.{take-all, take-nil}
-use lib.Dec.{eqb, ltb, leb}
-use borrow.Author.Tests.{lt-ltb, le-ltb, ne-eqb, leb-true, leb-false}
-use Rattle.base.specs.Pick.{pick}
+use lib.Dec.{leb}
+use borrow.Author.Tests.{leb-true, leb-false}
 use Rattle.base.specs.Bytes.{put, _then_}
 use Rattle.base.specs.Out.{Appended}
 use Rattle.base.proofs.OutLaws.{none, take-put, same-length-by}
-use Rattle.base.proofs.PickLaws.{pick-ind}
-use Rattle.base.proofs.TextLaws.{length-then, none-then, length-decimal}
-use Rattle.laws.specs.Bounds.{call-bounded}
+use Rattle.base.proofs.TextLaws.{none-then}
 use Rattle.laws.specs.Sound.{fresh-sound}
-use Rattle.laws.specs.Kept.{call-sound}
-use Rattle.megaco.specs.Call.{Called, written, replied, taken, call}
+use Rattle.megaco.specs.Call.{taken}
 use Rattle.megaco.specs.Table.{sound}
 use Rattle.sessions.specs.Lines.{lineEnd, linesOf, Unended, nothing, byte, lineFrom, lineEndAt}
-use Rattle.sessions.specs.Listing.{reportText, refusedText}
-use Rattle.sessions.specs.Session.{ownMid, answered, answerText, sessionText, restText, lineRoom, answerRoom, Answers, Holds, Turned, Finished, freshTable, printedText, joined, Run, turn, read, end}
+use Rattle.sessions.specs.Listing.{reportText}
+use Rattle.sessions.specs.Session.{answered, answerText, sessionText, restText, lineRoom, answerRoom, Answers, Holds, Turned, Finished, freshTable, printedText, joined, Run, turn, read, end}
+use Rattle.sessions.proofs.AnswerLaws.{long-alike, answer-fits, answered-sound}
 use Rattle.sessions.proofs.FitLaws.{report-fits}
-use Rattle.sessions.proofs.LineLaws.{unended-before, unended-append, unended-take, fronted, lines-fronted, firstOf, othersOf, fronted-is, lines-ended, chunk-ended, chunk-open}
+use Rattle.sessions.proofs.LineLaws.{unended-before, unended-append, unended-take, fronted, lines-fronted, firstOf, fronted-is, lines-ended, chunk-ended, chunk-open}
 
 -- ---- a line that is too long
-
--- messages of over 4,096 bytes are answered alike
-long-alike : (m n t : List ℕ) → 4096 < length m → 4096 < length n → answered m t ≡ answered n t
-unfolding answered call pick
-long-alike m n t h k =
-    rw (ne-eqb (length m) 0 (omega arith), lt-ltb 4096 (length m) h, ne-eqb (length n) 0 (omega arith), lt-ltb 4096 (length n) k)
 
 long-fronts : (h g : List ℕ) (ls : List (List ℕ)) (t : List ℕ) → 4096 < length h → 4096 < length g → sessionText (fronted h ls) t ≡ sessionText (fronted g ls) t
 unfolding sessionText
@@ -91,30 +82,6 @@ module _ (line : List ℕ) (held : ℕ) (hold : Holds line held) (g : List ℕ) 
 rest-ended : (m t s : List ℕ) → Unended m → restText m t (lineEnd ∷ s) ≡ answerText (answered m t) then restText [] (answered m t .table) s
 unfolding restText sessionText
 rest-ended m t s u = rw (lines-ended u s)
-
--- a reply or `refused n`, with its line end, is no longer than the buffer
-refusal-small : (m t own o : List ℕ) → call m t own o .refusal ≤ 4
-unfolding call taken replied written
-refusal-small m t own o =
-    pick-ind small _ _ _ (λ e. omega arith) λ a.
-    pick-ind small _ _ _ (λ e. omega arith) λ b.
-    pick-ind small _ _ _ (λ e. omega arith) λ d.
-    pick-ind small _ _ _ (λ e. omega arith) (λ e. omega arith)
-  where
-    small : Called → Type 0
-    small c = c .refusal ≤ 4
-
-pub answer-fits : (m t : List ℕ) → length (answerText (answered m t)) ≤ answerRoom
-unfolding answered answerText refusedText
-answer-fits m t =
-    let c = call m t ownMid (replicate 16640 0) in
-    pick-ind (λ l. length l ≤ answerRoom) (eqb (c .refusal) 0) (take (c .size) (c .reply) then (lineEnd ∷ [])) (refusedText (c .refusal))
-    (λ e. simp (length-then, length-take) (omega (arith, call-bounded m t ownMid (replicate 16640 0) .fits)))
-    (λ e. simp length-then (omega (arith, length-decimal (c .refusal) (omega (arith, refusal-small m t ownMid (replicate 16640 0))))))
-
-answered-sound : (m t : List ℕ) → sound t ≡ true → sound (answered m t .table) ≡ true
-unfolding answered
-answered-sound m t k = call-sound m t ownMid (replicate 16640 0) k
 
 -- no byte is held at the start
 pub holds-none : (line : List ℕ) → length line ≡ lineRoom → Holds line 0

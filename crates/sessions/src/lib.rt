@@ -1,10 +1,10 @@
 // The lines that the listing program takes and prints.
 ghost use mathlib.Core.Path.{_≡_};
 ghost use mathlib.Core.List.{[], _∷_};
-ghost use Prim.Native.Nat.{ℕ, _+_, min};
+ghost use Prim.Native.Nat.{_+_, min};
 ghost use lib.ListN.{length};
 ghost use Rattle.base.specs.Out.{Appended};
-ghost use Rattle.megaco.specs.Table.{priorityOf, emergencyOf};
+ghost use Rattle.megaco.specs.Table.{emergencyOf};
 ghost use Rattle.sessions.specs.Lines.{lineEnd, lineFrom, lineEndAt};
 ghost use Rattle.sessions.specs.Listing.{memberText, membersText, propertiesText, contextLine, contextLines, present, countLine, partsText, reportText, refusedText};
 
@@ -87,15 +87,7 @@ fn put_members(out: &mut [u8], at: usize, c: usize, row: &[u32]) -> usize
     p
 }
 
-fn priority(held: u32) -> u32
-    ensures { λ r. ⌜ r ≡ priorityOf held ⌝ }
-{
-    if held == 0 {
-        return 0;
-    }
-    (held - 1) % 16
-}
-
+// The emergency in a context's record.
 fn emergency(held: u32) -> u32
     ensures { λ r. ⌜ r ≡ emergencyOf held ⌝ }
 {
@@ -110,7 +102,7 @@ fn put_properties(out: &mut [u8], at: usize, held: u32) -> usize
     ensures { λ r. ⌜ Appended (now (out .entry)) at (propertiesText held) (now (out .exit)) r ⌝ }
 {
     let p = writer::put_byte(out, at, b' ');
-    let q = writer::put_decimal(out, p, priority(held));
+    let q = writer::put_decimal(out, p, report::priority(held));
     let u = writer::put_byte(out, q, b' ');
     writer::put_decimal(out, u, emergency(held))
 }
