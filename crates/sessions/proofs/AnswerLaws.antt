@@ -16,6 +16,7 @@ use Rattle.base.proofs.TextLaws.{length-then, length-decimal}
 use Rattle.base.proofs.OutLaws.{_▸_, chosen-yes, chosen-no}
 use Rattle.laws.specs.Bounds.{replyTo, call-ind, call-bounded, refusal-keeps, call-taken}
 use Rattle.laws.specs.Kept.{call-sound}
+use Rattle.megaco.proofs.Opened.{opened}
 use Rattle.megaco.specs.Table.{sound}
 use Rattle.megaco.specs.Tokens.{isMid}
 use Rattle.megaco.specs.Call.{Called, turnedDown, written, replied, taken, call}
@@ -79,6 +80,15 @@ pub long-alike : (m n t : List ℕ) → 4096 < length m → 4096 < length n → 
 unfolding answered call pick
 long-alike m n t h k =
     rw (ne-eqb (length m) 0 (omega arith), lt-ltb 4096 (length m) h, ne-eqb (length n) 0 (omega arith), lt-ltb 4096 (length n) k)
+
+own-is : isMid ownMid ≡ true
+unfolding opened ownMid
+own-is = refl
+
+-- "`refused 1`" is the only refusal, and only of a line of 0 or over 4,096 bytes
+pub refused-one : (m t : List ℕ) → sound t ≡ true → answered m t .refusal ≡ pick (eqb (length m) 0 || ltb 4096 (length m)) 1 0
+unfolding answered pick
+refused-one m t k = refusal-is m t ownMid (replicate 16640 0) (omega (arith, length-replicate {A = ℕ} 16640 0)) ∙ rw (k, own-is)
 
 -- a reply or `refused n`, with its line end, is no longer than the buffer
 refusal-small : (m t own o : List ℕ) → call m t own o .refusal ≤ 4

@@ -33,7 +33,7 @@ module _ (s : List ℕ) (i q : ℕ) (inv : q ≡ lineEndAt s i) where
 
 -- ---- the part that is taken
 
-pub take-before : (b : ℕ) (s : List ℕ) → take (length (before b s)) s ≡ before b s
+take-before : (b : ℕ) (s : List ℕ) → take (length (before b s)) s ≡ before b s
 unfolding before
 take-before b [] = refl
 take-before b (x ∷ s) = pick-ind (λ l. take (length l) (x ∷ s) ≡ l) _ _ _ (λ t. refl) (λ t. ap (λ (l : List ℕ). x ∷ l) (take-before b s))

@@ -13,7 +13,6 @@ use Rattle.base.specs.Out.{Appended}
 use Rattle.base.proofs.OutLaws.{none, take-put, same-length-by}
 use Rattle.base.proofs.TextLaws.{none-then}
 use Rattle.laws.specs.Sound.{fresh-sound}
-use Rattle.megaco.specs.Call.{taken}
 use Rattle.megaco.specs.Table.{sound}
 use Rattle.sessions.specs.Lines.{lineEnd, linesOf, Unended, nothing, byte, lineFrom, lineEndAt}
 use Rattle.sessions.specs.Listing.{reportText}
@@ -37,7 +36,7 @@ long-fronts (b ∷ h) (d ∷ g) ls t p q =
     )
 
 -- of a line the first 4,097 bytes are enough
-pub rest-cut : (k : ℕ) (h t s : List ℕ) → 4096 < k → Unended h → restText h t s ≡ restText (take k h) t s
+rest-cut : (k : ℕ) (h t s : List ℕ) → 4096 < k → Unended h → restText h t s ≡ restText (take k h) t s
 unfolding restText
 rest-cut k h t s l u = by (leb (length h) k) refl
   where
@@ -64,10 +63,10 @@ held-after (y ∷ o) (suc at) bs r h e =
     rw z (ap (λ (l : List ℕ). y ∷ l) (held-after o at bs q (omega arith) refl))
 
 module _ (line : List ℕ) (held : ℕ) (hold : Holds line held) (g : List ℕ) (line′ : List ℕ) (h : ℕ) (took : Appended line held g line′ h) where
-  pub held-is : take h line′ ≡ take (length line) (take held line ++ g)
+  held-is : take h line′ ≡ take (length line) (take held line ++ g)
   held-is = rw (took .text) (held-after line held g h (omega (arith, hold .room, hold .within)) (omega (arith, took .next, hold .room, hold .within)))
 
-  pub holds-on : Unended g → Holds line′ h
+  holds-on : Unended g → Holds line′ h
   holds-on u =
       record {
         room = same-length-by _ _ _ _ _ took ∙ hold .room;
@@ -75,7 +74,7 @@ module _ (line : List ℕ) (held : ℕ) (hold : Holds line held) (g : List ℕ) 
         unended = rw held-is (unended-take (length line) (unended-append (hold .unended) u));
       }
 
-  pub rest-part : Unended g → (t s : List ℕ) → restText (take held line) t (g ++ s) ≡ restText (take h line′) t s
+  rest-part : Unended g → (t s : List ℕ) → restText (take held line) t (g ++ s) ≡ restText (take h line′) t s
   unfolding restText
   rest-part u t s = rw (← append-assoc, held-is) (rest-cut (length line) (take held line ++ g) t s (omega (arith, hold .room)) (unended-append (hold .unended) u))
 

@@ -21,7 +21,7 @@ memberText c i word = pick (eqb word c) (text " " then nameText i) []
 abbrev pub membersText : ℕ → List ℕ → List ℕ
 membersText c ws = each (memberText c) 0 ws
 
--- "number, priority, emergency 0 or 1", from the context's record
+-- "priority, emergency 0 or 1", from the context's record
 unfoldable pub propertiesText : ℕ → List ℕ
 propertiesText r = text " " then decimal (priorityOf r) then text " " then decimal (emergencyOf r)
 

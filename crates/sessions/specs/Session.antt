@@ -42,7 +42,7 @@ restText h t s = sessionText (linesOf (h ++ s)) t
 unfoldable pub printedText : List ℕ → List ℕ
 printedText s = restText [] freshTable s
 
--- ---- what the functions of the program promise, besides
+-- ---- what the functions of the program promise
 
 -- the answer to a line stands at the start of a buffer, r bytes long, and the table is that of its call
 pub record Answers (m t o t′ o′ : List ℕ) (r : ℕ) : Type 0 where
