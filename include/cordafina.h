@@ -8,7 +8,8 @@
  *
  *     cc -I include program.c target/staticlib/libgateway.a
  *
- * The archive asks for nothing but the C library's memory functions.
+ * The archive is for x86-64 Linux and asks for nothing but the C library's
+ * memory functions.
  */
 #ifndef CORDAFINA_H
 #define CORDAFINA_H

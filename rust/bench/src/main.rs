@@ -20,11 +20,11 @@ const ROUNDS: usize = 15;
 const ROUND: Duration = Duration::from_millis(10);
 
 const HOW: &str = "\
-Times: CPU time of one thread, median of 15 rounds of about 10 ms, the sides by turns in each round. Both
-sides in one release build. One reply buffer of 16,640 bytes, not cleared between calls; after each pass over a
-workload's messages the words of the table that they change are put back, for both sides alike, within
-the time. Instructions: callgrind's count for the same loop, the difference of two runs of different
-length, so that start and set-up are not in it. Ratios are archive to reference, within this run.
+Times: CPU time of one thread, median of 15 rounds of about 10 ms, the sides by turns in each round, both in
+one release build. One reply buffer of 16,640 bytes, not cleared between calls. After each pass over a
+workload's messages the words of the table that they change are put back, on both sides, within the time.
+Instructions: callgrind's count of the same loop, as the difference of a longer and a shorter run, so that
+start and set-up are not in it. Ratios are archive to reference, within this run.
 ";
 
 fn main() {

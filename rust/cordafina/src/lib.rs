@@ -2,7 +2,9 @@
 //!
 //! One message, a lent [`Table`] and a lent reply buffer go in; an [`Answer`]
 //! comes out. Nothing need be checked beforehand. The library has no state and
-//! no heap, and neither has this crate.
+//! no heap, and neither has this crate. The archive that is linked is the one
+//! that `rt staticlib gateway` writes, or the one that the variable
+//! `CORDAFINA_LIB` names when this crate is built.
 //!
 //! ```
 //! use cordafina::{answer, Answer, Table, REPLY_BYTES};

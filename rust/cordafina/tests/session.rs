@@ -6,23 +6,36 @@ use cordafina::{MESSAGE_BYTES, REPLY_BYTES, TABLE_WORDS};
 const OWN: &[u8] = b"[10.0.0.9]";
 const FILL: u8 = 0xA5;
 
-const SESSION: [(&str, &str); 6] = [
-    ("T=7{C=${A=L/1/5,A=$}}", "P=7{C=1{A=L/1/5,A=R/1}}"),
-    ("T=8{C=1{A=L/1/5}}", "P=8{C=1{A=L/1/5{ER=433{}}}}"),
-    ("T=9{C=${MV=L/1/5}}", "P=9{C=2{MV=L/1/5}}"),
-    (
-        "T=10{C=1{S=*,A=L/2/1}}",
-        "P=10{C=1{S=R/1,A=L/2/1{ER=411{}}}}",
-    ),
-    (
-        "T=11{C=2{O-S=L/8/31,MF=L/1/5{M{O{MO=SR}}}}}",
-        "P=11{C=2{S=L/8/31{ER=435{}},MF=L/1/5}}",
-    ),
-    (
-        "T=12{C=2{S=L/8/31,S=L/1/5}}",
-        "P=12{C=2{S=L/8/31{ER=435{}}}}",
-    ),
-];
+/// Requests and replies, without their headers.
+const SESSION: &str = "\
+T=7{C=${A=L/1/5,A=$}} P=7{C=1{A=L/1/5,A=R/1}}
+T=8{C=1{A=L/1/5}} P=8{C=1{A=L/1/5{ER=433{}}}}
+T=9{C=${MV=L/1/5}} P=9{C=2{MV=L/1/5}}
+T=10{C=1{S=*,A=L/2/1}} P=10{C=1{S=R/1,A=L/2/1{ER=411{}}}}
+T=11{C=2{O-S=L/8/31,MF=L/1/5{M{O{MO=SR}}}}} P=11{C=2{S=L/8/31{ER=435{}},MF=L/1/5}}
+T=12{C=2{S=L/8/31,S=L/1/5}} P=12{C=2{S=L/8/31{ER=435{}}}}
+";
+
+/// The same, each from a fresh table, which stays fresh.
+const SHORT_CASES: &str = "\
+T=1{C=5{}} P=1{ER=403{}}
+T=1{} P=1{ER=403{}}
+T=1{C=5{S=* P=1{ER=403{}}
+Q=1{} ER=400{}
+T=1{C=1{PR=16}} P=1{C=1{ER=449{}}}
+T=1{C=5{PR=3}} P=1{C=5{ER=411{}}}
+T=1{C=-{A=$}} P=1{C=-{ER=421{}}}
+T=1{C=${A=R/1}} P=1{C=${A=R/1{ER=430{}}}}
+T=1{C=-{MF=*}} P=1{ER=533{}}
+";
+
+/// Each message of such lines with the reply to it.
+fn messages(lines: &str) -> impl Iterator<Item = (Vec<u8>, Vec<u8>)> + '_ {
+    lines.lines().map(|line| {
+        let (request, reply) = line.split_once(' ').unwrap();
+        (message(request), text(reply))
+    })
+}
 
 /// "Word 4 is then 2, word 316 is 3, word 625 is 1, all others 0."
 fn table_at_the_end() -> Table {
@@ -44,12 +57,12 @@ fn text(inside: &str) -> Vec<u8> {
 #[test]
 fn session() {
     let mut table = Table::fresh();
-    for (request, expected) in SESSION {
+    for (message, expected) in messages(SESSION) {
         let mut reply = [FILL; REPLY_BYTES];
-        let Answer::Taken(length) = answer(&message(request), &mut table, OWN, &mut reply) else {
-            panic!("turned down: {request}");
+        let Answer::Taken(length) = answer(&message, &mut table, OWN, &mut reply) else {
+            panic!("turned down: {}", message.escape_ascii());
         };
-        assert_eq!(&reply[..length], text(expected), "{request}");
+        assert_eq!(&reply[..length], expected);
         assert!(reply[length..].iter().all(|&byte| byte == FILL));
     }
     assert_eq!(table, table_at_the_end());
@@ -58,8 +71,8 @@ fn session() {
 #[test]
 fn session_of_a_gateway() {
     let mut gateway = Gateway::new(OWN).unwrap();
-    for (request, expected) in SESSION {
-        assert_eq!(gateway.answer(&message(request)), Ok(&*text(expected)));
+    for (message, expected) in messages(SESSION) {
+        assert_eq!(gateway.answer(&message), Ok(&*expected));
     }
     assert_eq!(gateway.table(), &table_at_the_end());
     assert_eq!(gateway.answer(b""), Err(Refusal::BadMessage));
@@ -70,19 +83,9 @@ fn session_of_a_gateway() {
 
 #[test]
 fn short_cases() {
-    for (request, expected) in [
-        ("T=1{C=5{}}", "P=1{ER=403{}}"),
-        ("T=1{}", "P=1{ER=403{}}"),
-        ("T=1{C=5{S=*", "P=1{ER=403{}}"),
-        ("Q=1{}", "ER=400{}"),
-        ("T=1{C=1{PR=16}}", "P=1{C=1{ER=449{}}}"),
-        ("T=1{C=5{PR=3}}", "P=1{C=5{ER=411{}}}"),
-        ("T=1{C=-{A=$}}", "P=1{C=-{ER=421{}}}"),
-        ("T=1{C=${A=R/1}}", "P=1{C=${A=R/1{ER=430{}}}}"),
-        ("T=1{C=-{MF=*}}", "P=1{ER=533{}}"),
-    ] {
+    for (message, expected) in messages(SHORT_CASES) {
         let mut gateway = Gateway::new(OWN).unwrap();
-        assert_eq!(gateway.answer(&message(request)), Ok(&*text(expected)));
+        assert_eq!(gateway.answer(&message), Ok(&*expected));
         assert_eq!(gateway.table(), &Table::fresh());
     }
 }
@@ -136,8 +139,8 @@ fn threads_apart() {
             std::thread::spawn(|| {
                 for _ in 0..200 {
                     let mut gateway = Gateway::new(OWN).unwrap();
-                    for (request, expected) in SESSION {
-                        assert_eq!(gateway.answer(&message(request)), Ok(&*text(expected)));
+                    for (message, expected) in messages(SESSION) {
+                        assert_eq!(gateway.answer(&message), Ok(&*expected));
                     }
                 }
             })

@@ -109,7 +109,7 @@ fn own(numbers: &mut Numbers, table: &[u32]) -> Vec<u8> {
     let scope = Scope::whole(numbers, table);
     let mut writer = Writer::new(numbers, table, &scope);
     if odd == 0 {
-        limits::own_mid(&mut writer);
+        limits::mid(&mut writer);
     } else {
         writer.mid();
     }

@@ -72,7 +72,7 @@ pub fn message(numbers: &mut Numbers, table: &[u32], scope: &Scope) -> Vec<u8> {
     match numbers.under(16) {
         0 => message_length(numbers, table, scope),
         1 => version(numbers),
-        2 => mid(numbers, table, scope),
+        2 => sender(numbers, table, scope),
         3 => several_transactions(numbers, table, scope),
         4 | 5 => reply_length(numbers, table),
         6 => members(numbers),
@@ -199,16 +199,17 @@ fn version(numbers: &mut Numbers) -> Vec<u8> {
     message
 }
 
-fn mid(numbers: &mut Numbers, table: &[u32], scope: &Scope) -> Vec<u8> {
+/// A message whose sender has an mId at its limits.
+fn sender(numbers: &mut Numbers, table: &[u32], scope: &Scope) -> Vec<u8> {
     let mut writer = Writer::new(numbers, table, scope);
     writer.put(b"!/1 ");
-    own_mid(&mut writer);
+    mid(&mut writer);
     writer.put(b" T=1{C=-{MF=L/1/1}}");
     writer.bytes
 }
 
 /// An mId at its limits.
-pub fn own_mid(writer: &mut Writer) {
+pub fn mid(writer: &mut Writer) {
     match writer.numbers.under(4) {
         0 => {
             let length = writer.numbers.within(60..=65);
@@ -276,8 +277,7 @@ fn reply_length(numbers: &mut Numbers, table: &[u32]) -> Vec<u8> {
         (b"C=-{O-MF=L/4/*,O-MF=ROOT},C=${PR=2,O-MV=R/*", b"MV"),
     ]);
     let mut message = b"!/1 [10.0.0.1] ".to_vec();
-    let before = numbers.one_in(4);
-    if before {
+    if numbers.one_in(4) {
         message.extend_from_slice(b"T=1{C=-{MF=L/8/8}}");
     }
     let place = message.len();

@@ -12,35 +12,33 @@ use differential::calls::{compare, shortened, Cases, Tally, GUARD};
 use differential::numbers::Numbers;
 use differential::pairs::Pair;
 
+const USAGE: &str = "usage: differential calls SEED COUNT [exact] | differential pairs SEED COUNT";
+
 fn main() -> ExitCode {
     let words: Vec<String> = std::env::args().skip(1).collect();
     let words: Vec<&str> = words.iter().map(String::as_str).collect();
-    let number = |word: &str| word.parse().ok();
-    let passed = match words[..] {
-        ["calls", seed, count] => run(calls, number(seed), number(count), GUARD),
-        ["calls", seed, count, "exact"] => run(calls, number(seed), number(count), 0),
-        ["pairs", seed, count] => run(pairs, number(seed), number(count), 0),
-        _ => None,
-    };
-    match passed {
+    match test(&words) {
         Some(true) => ExitCode::SUCCESS,
         Some(false) => ExitCode::FAILURE,
         None => {
-            eprintln!(
-                "usage: differential calls SEED COUNT [exact] | differential pairs SEED COUNT"
-            );
+            eprintln!("{USAGE}");
             ExitCode::from(2)
         }
     }
 }
 
-fn run(
-    test: fn(u64, u64, usize) -> bool,
-    seed: Option<u64>,
-    count: Option<u64>,
-    guard: usize,
-) -> Option<bool> {
-    Some(test(seed?, count?, guard))
+/// Whether the test that the words ask for passed.
+fn test(words: &[&str]) -> Option<bool> {
+    let [kind, seed, count, rest @ ..] = words else {
+        return None;
+    };
+    let (seed, count) = (seed.parse().ok()?, count.parse().ok()?);
+    match (*kind, rest) {
+        ("calls", []) => Some(calls(seed, count, GUARD)),
+        ("calls", ["exact"]) => Some(calls(seed, count, 0)),
+        ("pairs", []) => Some(pairs(seed, count)),
+        _ => None,
+    }
 }
 
 fn calls(seed: u64, count: u64, guard: usize) -> bool {
@@ -69,7 +67,7 @@ fn calls(seed: u64, count: u64, guard: usize) -> bool {
     true
 }
 
-fn pairs(seed: u64, count: u64, _: usize) -> bool {
+fn pairs(seed: u64, count: u64) -> bool {
     let mut numbers = Numbers::new(seed);
     let (mut apart, mut both_change, mut others, mut unlike) = (0, 0, 0, 0);
     while apart < count {
