@@ -27,7 +27,7 @@ unfolding _then_
 then-none a = append-nil a
 
 -- numbers of at most j + 1 digits are below
-abbrev tens : ℕ → ℕ
+abbrev pub tens : ℕ → ℕ
 tens zero = 10
 tens (suc j) = 10 * tens j
 
@@ -42,7 +42,10 @@ length-digits (suc k) j n h = by (ltb n 10) refl j h (λ i l. length-digits k i 
     by false e zero h front = absurd (omega (arith, ltb-false))
     by false e (suc j) h front = simp length-append (omega (arith, front j (omega arith)))
 
+pub length-below : (j n : ℕ) → n < tens j → length (decimal n) ≤ suc j
+unfolding decimal
+length-below j n h = length-digits (n + 1) j n h
+
 -- a number of 32 bits has at most 10 digits
 pub length-decimal : (n : ℕ) → n ≤ 4294967295 → length (decimal n) ≤ 10
-unfolding decimal
-length-decimal n h = length-digits (n + 1) 9 n (omega arith)
+length-decimal n h = length-below 9 n (omega arith)

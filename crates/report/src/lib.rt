@@ -87,7 +87,8 @@ pub fn put_failed(out: &mut [u8], at: usize, code: u32) -> usize
     put_error(out, at, code)
 }
 
-fn priority(held: u32) -> u32
+// The priority in a context's record.
+pub fn priority(held: u32) -> u32
     ensures { λ r. ⌜ r ≡ priorityOf held ⌝ }
 {
     if held == 0 {

@@ -1,0 +1,7 @@
+pub mod LineLaws
+pub mod EachLaws
+pub mod PartLaws
+pub mod FitLaws
+pub mod AnswerLaws
+pub mod SessionLaws
+pub mod SessionExample

@@ -1,0 +1,38 @@
+-- The parts of a table from which its contexts are printed.
+use Prim.Native.Nat.{ℕ, zero, suc, _+_, _-_, min}
+use mathlib.Core.Path.{_≡_, refl, sym, ap}
+use mathlib.Core.List.{List, [], _∷_}
+use native.Mathlib.Omega.{arith}
+use lib.ListN.{length, take, drop, length-drop}
+use lib.Seq.{take-nil, drop-nil}
+use Rattle.base.specs.Out.{Appended}
+use Rattle.base.proofs.OutLaws.{_▸_}
+use Rattle.megaco.specs.Table.{terminations, contexts, words, contextWords, recordWords}
+use Rattle.sessions.specs.Listing.{present, countLine, contextLines, partsText, reportText}
+
+-- a list taken or dropped up to a place, or to its end if that comes first
+take-reach : (k : ℕ) (l : List ℕ) (n : ℕ) → n ≡ min k (length l) → take n l ≡ take k l
+take-reach zero l n e = let z : n ≡ 0 = omega arith in rw z
+take-reach (suc k) [] n e = take-nil n
+take-reach (suc k) (x ∷ l) n e = let q : ℕ = min k (length l) in let z : n ≡ suc q = omega arith in rw z (ap (λ (l : List ℕ). x ∷ l) (take-reach k l q refl))
+
+drop-reach : (k : ℕ) (l : List ℕ) (n : ℕ) → n ≡ min k (length l) → drop n l ≡ drop k l
+drop-reach zero l n e = let z : n ≡ 0 = omega arith in rw z
+drop-reach (suc k) [] n e = drop-nil n
+drop-reach (suc k) (x ∷ l) n e = let q : ℕ = min k (length l) in let z : n ≡ suc q = omega arith in rw z (drop-reach k l q refl)
+
+module _ (o : List ℕ) (at : ℕ) (o′ : List ℕ) (r : ℕ) where
+  pub parts-are : (ws rs : List ℕ) (n : ℕ) (o₁ : List ℕ) (p : ℕ) → n ≡ present rs → Appended o at (countLine n) o₁ p → Appended o₁ p (contextLines ws rs) o′ r
+      → Appended o at (partsText ws rs) o′ r
+  unfolding partsText
+  parts-are ws rs n o₁ p e f g = (rw e at f) ▸ g
+
+  pub contexts-are : (t : List ℕ) (a b e : ℕ) → a ≡ min terminations (length t) → b ≡ min (terminations + terminations) (length t) → e ≡ min words (length t)
+      → Appended o at (partsText (take (a - 0) (drop 0 t)) (take (e - b) (drop b t))) o′ r → Appended o at (reportText t) o′ r
+  unfolding reportText contextWords recordWords
+  contexts-are t a b e l m n f =
+      let x : take (a - 0) t ≡ contextWords t = take-reach terminations t (a - 0) (omega arith) in
+      let y : drop b t ≡ drop (terminations + terminations) t = drop-reach (terminations + terminations) t b m in
+      let z : take (e - b) (drop (terminations + terminations) t) ≡ recordWords t =
+      take-reach contexts (drop (terminations + terminations) t) (e - b) (omega (arith, length-drop (terminations + terminations) t)) in
+      rw (sym x, sym z, sym y) f

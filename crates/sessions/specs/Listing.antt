@@ -1,0 +1,54 @@
+-- What the listing program prints (document 01, 'Sessions to check').
+use Prim.Native.Nat.{ℕ, _+_}
+use mathlib.Core.List.{List, [], _∷_}
+use lib.Dec.{eqb}
+use Rattle.base.specs.Pick.{pick}
+use Rattle.base.specs.Bytes.{text, decimal, _then_}
+use Rattle.megaco.specs.Table.{contextWords, recordWords, priorityOf, emergencyOf}
+use Rattle.megaco.specs.Names.{nameText}
+use Rattle.sessions.specs.Lines.{lineEnd}
+
+-- the texts of a row's elements one after another, each made of its number, counted from n, and the element
+unfoldable pub each : (ℕ → ℕ → List ℕ) → ℕ → List ℕ → List ℕ
+each f n [] = []
+each f n (x ∷ xs) = f n x then each f (n + 1) xs
+
+-- a termination's name, if it stands in the context
+unfoldable pub memberText : ℕ → ℕ → ℕ → List ℕ
+memberText c i word = pick (eqb word c) (text " " then nameText i) []
+
+-- "member names ascending", from the context words
+abbrev pub membersText : ℕ → List ℕ → List ℕ
+membersText c ws = each (memberText c) 0 ws
+
+-- "priority, emergency 0 or 1", from the context's record
+unfoldable pub propertiesText : ℕ → List ℕ
+propertiesText r = text " " then decimal (priorityOf r) then text " " then decimal (emergencyOf r)
+
+-- "number, priority, emergency 0 or 1, member names ascending, one space between fields"; no line for an absent context
+unfoldable pub contextLine : List ℕ → ℕ → ℕ → List ℕ
+contextLine ws c r = pick (eqb r 0) [] (decimal c then propertiesText r then membersText c ws then (lineEnd ∷ []))
+
+-- "a line per context ascending", from the records and the context words
+abbrev pub contextLines : List ℕ → List ℕ → List ℕ
+contextLines ws rs = each (contextLine ws) 1 rs
+
+-- how many contexts there are
+unfoldable pub present : List ℕ → ℕ
+present [] = 0
+present (r ∷ rs) = pick (eqb r 0) 0 1 + present rs
+
+-- "Then `contexts` and their count"
+unfoldable pub countLine : ℕ → List ℕ
+countLine n = text "contexts " then decimal n then (lineEnd ∷ [])
+
+-- "Then `contexts` and their count, and a line per context", from the context words and the records
+unfoldable pub partsText : List ℕ → List ℕ → List ℕ
+partsText ws rs = countLine (present rs) then contextLines ws rs
+
+unfoldable pub reportText : List ℕ → List ℕ
+reportText t = partsText (contextWords t) (recordWords t)
+
+-- "`refused 1`"
+unfoldable pub refusedText : ℕ → List ℕ
+refusedText n = text "refused " then decimal n then (lineEnd ∷ [])

@@ -1,0 +1,99 @@
+-- What a whole session prints (document 01, 'Sessions to check').
+use Prim.Native.Nat.{ℕ, _≤_, _<_}
+use mathlib.Core.Path.{_≡_}
+use mathlib.Core.Bool.{true}
+use mathlib.Core.List.{List, [], _∷_, _++_}
+use lib.ListN.{length, take, drop, replicate}
+use lib.Dec.{eqb}
+use Rattle.base.specs.Pick.{pick}
+use Rattle.base.specs.Bytes.{text, _then_}
+use Rattle.base.specs.Out.{Appended}
+use Rattle.megaco.specs.Table.{words, sound}
+use Rattle.megaco.specs.Call.{Called, call}
+use Rattle.sessions.specs.Lines.{lineEnd, linesOf, Unended}
+use Rattle.sessions.specs.Listing.{reportText, refusedText}
+
+-- "own mId `[10.0.0.9]`"
+unfoldable pub ownMid : List ℕ
+ownMid = text "[10.0.0.9]"
+
+-- "from a fresh table": "All zero is the fresh table"
+unfoldable pub freshTable : List ℕ
+freshTable = replicate words 0
+
+-- the call for a line
+unfoldable pub answered : List ℕ → List ℕ → Called
+answered m t = call m t ownMid (replicate 16640 0)
+
+-- "Per line it prints the reply or `refused 1`"
+unfoldable pub answerText : Called → List ℕ
+answerText c = pick (eqb (c .refusal) 0) (take (c .size) (c .reply) then (lineEnd ∷ [])) (refusedText (c .refusal))
+
+-- the answers to lines one after another, and then the contexts
+unfoldable pub sessionText : List (List ℕ) → List ℕ → List ℕ
+sessionText [] t = reportText t
+sessionText (m ∷ ms) t = let c = answered m t in answerText c then sessionText ms (c .table)
+
+-- what is printed for the rest s of an input, where the bytes h of a line are held and the table is t
+unfoldable pub restText : List ℕ → List ℕ → List ℕ → List ℕ
+restText h t s = sessionText (linesOf (h ++ s)) t
+
+-- what is printed for an input
+unfoldable pub printedText : List ℕ → List ℕ
+printedText s = restText [] freshTable s
+
+-- ---- what the functions of the program promise
+
+-- the answer to a line stands at the start of a buffer, r bytes long, and the table is that of its call
+pub record Answers (m t o t′ o′ : List ℕ) (r : ℕ) : Type 0 where
+  pub put : Appended o 0 (answerText (answered m t)) o′ r
+  pub table : t′ ≡ answered m t .table
+
+-- a line's buffer has one byte more than a message may have, so that a line that is too long is seen
+abbrev pub lineRoom : ℕ
+lineRoom = 4097
+
+-- a buffer for the answer to a line: a reply and a line end
+abbrev pub answerRoom : ℕ
+answerRoom = 16641
+
+-- the first bytes of a line that has not ended are held in the line's buffer
+pub record Holds (line : List ℕ) (held : ℕ) : Type 0 where
+  pub room : length line ≡ lineRoom
+  pub within : held ≤ lineRoom
+  pub unended : Unended (take held line)
+
+-- a turn from place `from` of a chunk s to place `next`: `said` is to be printed, and whatever input comes later, that and what is
+-- printed for the rest is what is printed from here
+pub record Turned (s : List ℕ) (from : ℕ) (line : List ℕ) (held : ℕ) (t o line′ t′ o′ : List ℕ) (next held′ size : ℕ) : Type 0 where
+  pub on : from < next
+  pub holds : Holds line′ held′
+  pub kept : sound t ≡ true → sound t′ ≡ true
+  pub said : List ℕ
+  pub put : Appended o 0 said o′ size
+  pub fits : length said ≤ length o
+  pub rest : (later : List ℕ) → restText (take held line) t (drop from s ++ later) ≡ said then restText (take held′ line′) t′ (drop next s ++ later)
+
+-- the input has ended: `said` is to be printed for a line that is still held, and then the contexts
+pub record Finished (line : List ℕ) (held : ℕ) (t o t′ o′ : List ℕ) (size : ℕ) : Type 0 where
+  pub kept : sound t ≡ true → sound t′ ≡ true
+  pub said : List ℕ
+  pub put : Appended o 0 said o′ size
+  pub fits : length said ≤ length o
+  pub rest : restText (take held line) t [] ≡ said then reportText t′
+
+-- chunks one after another
+unfoldable pub joined : List (List ℕ) → List ℕ
+joined [] = []
+joined (s ∷ ss) = s ++ joined ss
+
+-- a run of the program from place `from` of a chunk s, with the chunks that are still to be read, and what it prints: turn after turn,
+-- chunk after chunk, a last line and the contexts
+pub data Run : (line : List ℕ) (held : ℕ) (t s : List ℕ) (from : ℕ) → List (List ℕ) → List ℕ → Type 0 where
+  turn : {line : List ℕ} {held : ℕ} {t s : List ℕ} {from : ℕ} {ss : List (List ℕ)} {x o line′ t′ o′ : List ℕ} {next held′ size : ℕ}
+      → Turned s from line held t o line′ t′ o′ next held′ size → Run line′ held′ t′ s next ss x → Run line held t s from ss (take size o′ then x)
+  read : {line : List ℕ} {held : ℕ} {t s : List ℕ} {from : ℕ} {s′ : List ℕ} {ss : List (List ℕ)} {x : List ℕ}
+      → length s ≤ from → Run line held t s′ 0 ss x → Run line held t s from (s′ ∷ ss) x
+  end : {line : List ℕ} {held : ℕ} {t s : List ℕ} {from : ℕ} {o t′ o′ q q′ : List ℕ} {size k : ℕ}
+      → length s ≤ from → Finished line held t o t′ o′ size → answerRoom ≤ length q → Appended q 0 (reportText t′) q′ k
+      → Run line held t s from [] (take size o′ then take k q′)

@@ -1,0 +1,32 @@
+/* Places a call: a line and an RTP ephemeral into a new context, both turned on, and cleared again. */
+#include <stdio.h>
+#include <string.h>
+
+#include "cordafina.h"
+
+static const char *const messages[] = {
+    "!/1 [10.0.0.1] T=1{C=${PR=4,A=L/1/5,A=$}}",
+    "!/1 [10.0.0.1] T=2{C=1{MF=*{M{O{MO=SendReceive}}}}}",
+    "!/1 [10.0.0.1] T=3{C=1{S=*}}",
+};
+
+int main(void)
+{
+    static const char own[] = "[10.0.0.9]";
+    static uint32_t table[CORDAFINA_TABLE_WORDS];
+    static uint8_t reply[CORDAFINA_REPLY_BYTES];
+
+    for (size_t i = 0; i < sizeof messages / sizeof messages[0]; i++) {
+        uint64_t answer = cordafina_answer((const uint8_t *)messages[i], strlen(messages[i]),
+                                           table, CORDAFINA_TABLE_WORDS,
+                                           (const uint8_t *)own, strlen(own),
+                                           reply, sizeof reply);
+        if (cordafina_refusal(answer) != CORDAFINA_TAKEN) {
+            printf("refused %d\n", cordafina_refusal(answer));
+            return 1;
+        }
+        printf("%s\n  %.*s\n", messages[i], (int)cordafina_length(answer), (const char *)reply);
+        printf("  L/1/5 stands in context %u\n", (unsigned)table[4]);
+    }
+    return 0;
+}

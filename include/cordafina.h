@@ -1,0 +1,96 @@
+/*
+ * The Megaco trunk gateway: one call, for C99 and C++.
+ *
+ * A call takes one H.248.1 (Megaco) text message, runs it on a table that the
+ * caller lends, and writes the reply into a buffer that the caller lends. What
+ * it answers is document 01's; the code of the call is proved equal to the
+ * definition in crates/megaco/specs.
+ *
+ *     cc -I include program.c target/staticlib/libgateway.a
+ *
+ * The archive is for x86-64 Linux and asks for nothing but the C library's
+ * memory functions.
+ */
+#ifndef CORDAFINA_H
+#define CORDAFINA_H
+
+#include <stddef.h>
+#include <stdint.h>
+
+/* Words of a table: exactly so many. All zero is the fresh table. */
+#define CORDAFINA_TABLE_WORDS 752
+/* Bytes of a reply buffer: at least so many. No reply is longer. */
+#define CORDAFINA_REPLY_BYTES 16640
+/* Bytes of a message: 1 to so many. */
+#define CORDAFINA_MESSAGE_BYTES 4096
+/* Bytes of the gateway's own mId: 1 to so many. */
+#define CORDAFINA_MID_BYTES 64
+
+/* What cordafina_refusal gives: document 01's numbers of the calls turned down. */
+#define CORDAFINA_TAKEN 0           /* not turned down: there is a reply */
+#define CORDAFINA_BAD_MESSAGE 1     /* message of 0 or over 4,096 bytes */
+#define CORDAFINA_BAD_TABLE 2       /* table not 752 words, or not sound */
+#define CORDAFINA_REPLY_TOO_SHORT 3 /* reply buffer under 16,640 bytes */
+#define CORDAFINA_BAD_MID 4         /* own mId not an mId, or over 64 bytes */
+
+#ifdef __cplusplus
+extern "C" {
+#endif
+
+/*
+ * Answers one message.
+ *
+ *   message, message_len   the message's bytes; read only
+ *   table, table_len       the table, its length in words; read and written
+ *   own_mid, own_mid_len   the gateway's own mId, as `[10.0.0.9]`; read only
+ *   reply, reply_len       where the reply goes, from the first byte on
+ *
+ * The low 32 bits of the result are the reply's length in bytes, the high 32
+ * bits the refusal: cordafina_length and cordafina_refusal take them apart.
+ * The refusals are judged in the order 3, 2, 4, 1, and the first that holds is
+ * given, with length 0. Any other call is taken and has a reply, whatever the
+ * message is: one that does not read is answered by an error text and changes
+ * no word of the table. The reply is not ended by a zero byte.
+ *
+ * Ownership. The four areas are the caller's before, during and after the
+ * call. The library keeps no pointer, has no state and no heap, and frees
+ * nothing. The table is all there is of the gateway's memory: keep it between
+ * calls, copy it, or store it.
+ *
+ * What stays. A call turned down writes no byte of the reply and no word of
+ * the table. A call taken writes the first cordafina_length(..) bytes of the
+ * reply, and the bytes past them stay. A table that was sound stays sound. The
+ * message and the own mId are never written, nor is anything outside the table
+ * and the reply buffer.
+ *
+ * What the caller sees to. Contents and lengths need no check beforehand: line
+ * noise, a trampled table and a short buffer are answered. But each pointer
+ * must be that of a readable (table, reply: writable) area of the length told,
+ * not null even where that is 0; the table is aligned as a uint32_t is; and
+ * neither the table nor the reply overlaps any other of the four areas.
+ *
+ * Threads. Calls may run at the same time where no table and no reply buffer
+ * is used by two of them. Messages and own mIds may be shared.
+ */
+uint64_t cordafina_answer(const uint8_t *message, size_t message_len,
+                          uint32_t *table, size_t table_len,
+                          const uint8_t *own_mid, size_t own_mid_len,
+                          uint8_t *reply, size_t reply_len);
+
+/* The reply's length in a result of cordafina_answer; 0 for a call turned down. */
+static inline size_t cordafina_length(uint64_t answer)
+{
+    return (size_t)(answer & 0xFFFFFFFFu);
+}
+
+/* The refusal in a result of cordafina_answer: CORDAFINA_TAKEN or one of the four. */
+static inline int cordafina_refusal(uint64_t answer)
+{
+    return (int)(answer >> 32);
+}
+
+#ifdef __cplusplus
+}
+#endif
+
+#endif

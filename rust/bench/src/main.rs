@@ -1,0 +1,220 @@
+//! `bench`: the archive and the reference side by side, in one table.
+//!
+//! `bench count SIDE PLACE ROUNDS` lets one side answer one workload and
+//! nothing else; the table's instruction counts come from it.
+
+mod workloads;
+
+use std::hint::black_box;
+use std::process::Command;
+use std::time::Duration;
+
+use cordafina::answer_word;
+use differential::calls::{reference_word, Call};
+use workloads::{fixed, requests, Workload, OWN};
+
+const SIDES: [(&str, Call); 2] = [("archive", answer_word), ("reference", reference_word)];
+/// Measured rounds; a median is taken of them.
+const ROUNDS: usize = 15;
+/// How long one side is timed in one round.
+const ROUND: Duration = Duration::from_millis(10);
+
+const HOW: &str = "\
+Times: CPU time of one thread, median of 15 rounds of about 10 ms, the sides by turns in each round, both in
+one release build. One reply buffer of 16,640 bytes, not cleared between calls. After each pass over a
+workload's messages the words of the table that they change are put back, on both sides, within the time.
+Instructions: callgrind's count of the same loop, as the difference of a longer and a shorter run, so that
+start and set-up are not in it. Ratios are archive to reference, within this run.
+";
+
+fn main() {
+    let words: Vec<String> = std::env::args().skip(1).collect();
+    let words: Vec<&str> = words.iter().map(String::as_str).collect();
+    match words[..] {
+        [] => report(),
+        ["count", side, place, rounds] => {
+            let call = SIDES.iter().find(|(name, _)| *name == side);
+            let (_, call) = call.expect("archive or reference");
+            let place: usize = place.parse().expect("a workload's place");
+            all()[place].run(*call, rounds.parse().expect("a number of rounds"));
+        }
+        _ => panic!("usage: bench"),
+    }
+}
+
+fn all() -> Vec<Workload> {
+    let mut all = requests();
+    all.extend(fixed());
+    all
+}
+
+fn report() {
+    print!("{HOW}");
+    println!(
+        "\n{:<27}{:>7} |{:>10}{:>11}{:>7} |{:>8}{:>11} |{:>9}{:>11}{:>7}",
+        "request",
+        "bytes",
+        "archive",
+        "reference",
+        "ratio",
+        "archive",
+        "reference",
+        "archive",
+        "reference",
+        "ratio"
+    );
+    println!(
+        "{:<34} |{:>28} |{:>19} |{:>27}",
+        "", "ns a message", "ns a byte", "instructions a byte"
+    );
+    let workloads = all();
+    let requests = workloads.len() - fixed().len();
+    for (place, workload) in workloads[..requests].iter().enumerate() {
+        let times = times(workload);
+        let counts = counts(place, workload);
+        let messages = workload.messages.len() as f64;
+        let bytes = workload.bytes() as f64;
+        println!(
+            "{:<27}{:>7.0} |{:>10.0}{:>11.0}{:>7.2} |{:>8.2}{:>11.2} |{}",
+            workload.name,
+            bytes / messages,
+            times[0] / messages,
+            times[1] / messages,
+            times[0] / times[1],
+            times[0] / bytes,
+            times[1] / bytes,
+            match counts {
+                Some([one, other]) => {
+                    format!(
+                        "{:>9.1}{:>11.1}{:>7.2}",
+                        one / bytes,
+                        other / bytes,
+                        one / other
+                    )
+                }
+                None => "  valgrind is not there".to_string(),
+            }
+        );
+    }
+    println!(
+        "\nFixed cost of a call: an empty message, turned down after the table and the own mId {} were judged,\n\
+         against one plain pass over the table (the sum of its 752 words).\n",
+        OWN.escape_ascii()
+    );
+    println!(
+        "{:<27}{:>11}{:>14}{:>11}{:>20}{:>22}",
+        "", "archive ns", "reference ns", "pass ns", "archive to pass", "archive instructions"
+    );
+    for (place, workload) in workloads.iter().enumerate().skip(requests) {
+        let times = times(workload);
+        let pass = pass_time(workload);
+        println!(
+            "{:<27}{:>11.0}{:>14.0}{:>11.0}{:>20.1}{:>22}",
+            workload.name,
+            times[0],
+            times[1],
+            pass,
+            times[0] / pass,
+            counts(place, workload).map_or("-".to_string(), |[one, _]| format!("{one:.0}"))
+        );
+    }
+}
+
+/// Nanoseconds of each side for one pass over a workload.
+fn times(workload: &Workload) -> [f64; 2] {
+    let passes = SIDES.map(|(_, call)| {
+        // As many passes as fill a round.
+        let mut passes = 1;
+        while timed(|| workload.run(call, passes)) < ROUND && passes < 1 << 20 {
+            passes *= 2;
+        }
+        passes
+    });
+    let mut rounds = [Vec::new(), Vec::new()];
+    for round in 0..ROUNDS {
+        for turn in 0..2 {
+            let side = (round + turn) % 2;
+            let time = timed(|| workload.run(SIDES[side].1, passes[side]));
+            rounds[side].push(time.as_nanos() as f64 / passes[side] as f64);
+        }
+    }
+    rounds.map(median)
+}
+
+fn pass_time(workload: &Workload) -> f64 {
+    let sum = |table: &[u32]| {
+        table
+            .iter()
+            .fold(0, |sum: u32, word| sum.wrapping_add(*word))
+    };
+    let passes = 20_000;
+    let round = || {
+        let time = timed(|| {
+            for _ in 0..passes {
+                black_box(sum(black_box(&workload.table)));
+            }
+        });
+        time.as_nanos() as f64 / passes as f64
+    };
+    median((0..ROUNDS).map(|_| round()).collect())
+}
+
+/// How long the thread works, so that other programs on the machine count less.
+fn timed(work: impl FnOnce()) -> Duration {
+    let start = thread_time();
+    work();
+    thread_time() - start
+}
+
+/// The CPU time that this thread has used.
+fn thread_time() -> Duration {
+    #[repr(C)]
+    struct Time {
+        seconds: i64,
+        nanoseconds: i64,
+    }
+    extern "C" {
+        fn clock_gettime(clock: i32, time: *mut Time) -> i32;
+    }
+    /// Linux's CLOCK_THREAD_CPUTIME_ID.
+    const THREAD: i32 = 3;
+    let mut time = Time {
+        seconds: 0,
+        nanoseconds: 0,
+    };
+    // SAFETY: the call writes one timespec, which has this layout on 64-bit
+    // Linux.
+    let failed = unsafe { clock_gettime(THREAD, &mut time) };
+    assert_eq!(failed, 0);
+    Duration::new(time.seconds as u64, time.nanoseconds as u32)
+}
+
+fn median(mut rounds: Vec<f64>) -> f64 {
+    rounds.sort_by(f64::total_cmp);
+    rounds[rounds.len() / 2]
+}
+
+/// Instructions of each side for one pass over a workload, if valgrind is there.
+fn counts(place: usize, workload: &Workload) -> Option<[f64; 2]> {
+    let more = if workload.messages.len() > 1 { 1 } else { 50 };
+    let [one, other] = SIDES.map(|(side, _)| {
+        let short = instructions(side, place, 1)?;
+        let long = instructions(side, place, 1 + more)?;
+        Some((long - short) / more as f64)
+    });
+    Some([one?, other?])
+}
+
+/// All instructions of `bench count ..` as callgrind collects them.
+fn instructions(side: &str, place: usize, rounds: usize) -> Option<f64> {
+    let program = std::env::current_exe().expect("the path of this program");
+    let output = Command::new("valgrind")
+        .args(["--tool=callgrind", "--callgrind-out-file=/dev/null"])
+        .arg(program)
+        .args(["count", side, &place.to_string(), &rounds.to_string()])
+        .output()
+        .ok()?;
+    let text = String::from_utf8_lossy(&output.stderr);
+    let (_, collected) = text.split_once("Collected : ")?;
+    collected.split_whitespace().next()?.parse().ok()
+}

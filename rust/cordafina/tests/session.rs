@@ -1,0 +1,152 @@
+//! Document 01's session and refusals, through the archive that is linked.
+
+use cordafina::{answer, answer_word, Answer, Gateway, Refusal, Table};
+use cordafina::{MESSAGE_BYTES, REPLY_BYTES, TABLE_WORDS};
+
+const OWN: &[u8] = b"[10.0.0.9]";
+const FILL: u8 = 0xA5;
+
+/// Requests and replies, without their headers.
+const SESSION: &str = "\
+T=7{C=${A=L/1/5,A=$}} P=7{C=1{A=L/1/5,A=R/1}}
+T=8{C=1{A=L/1/5}} P=8{C=1{A=L/1/5{ER=433{}}}}
+T=9{C=${MV=L/1/5}} P=9{C=2{MV=L/1/5}}
+T=10{C=1{S=*,A=L/2/1}} P=10{C=1{S=R/1,A=L/2/1{ER=411{}}}}
+T=11{C=2{O-S=L/8/31,MF=L/1/5{M{O{MO=SR}}}}} P=11{C=2{S=L/8/31{ER=435{}},MF=L/1/5}}
+T=12{C=2{S=L/8/31,S=L/1/5}} P=12{C=2{S=L/8/31{ER=435{}}}}
+";
+
+/// The same, each from a fresh table, which stays fresh.
+const SHORT_CASES: &str = "\
+T=1{C=5{}} P=1{ER=403{}}
+T=1{} P=1{ER=403{}}
+T=1{C=5{S=* P=1{ER=403{}}
+Q=1{} ER=400{}
+T=1{C=1{PR=16}} P=1{C=1{ER=449{}}}
+T=1{C=5{PR=3}} P=1{C=5{ER=411{}}}
+T=1{C=-{A=$}} P=1{C=-{ER=421{}}}
+T=1{C=${A=R/1}} P=1{C=${A=R/1{ER=430{}}}}
+T=1{C=-{MF=*}} P=1{ER=533{}}
+";
+
+/// Each message of such lines with the reply to it.
+fn messages(lines: &str) -> impl Iterator<Item = (Vec<u8>, Vec<u8>)> + '_ {
+    lines.lines().map(|line| {
+        let (request, reply) = line.split_once(' ').unwrap();
+        (message(request), text(reply))
+    })
+}
+
+/// "Word 4 is then 2, word 316 is 3, word 625 is 1, all others 0."
+fn table_at_the_end() -> Table {
+    let mut words = [0; TABLE_WORDS];
+    words[4] = 2;
+    words[316] = 3;
+    words[625] = 1;
+    Table::from_words(words)
+}
+
+fn message(request: &str) -> Vec<u8> {
+    format!("!/1 [10.0.0.1] {request}").into_bytes()
+}
+
+fn text(inside: &str) -> Vec<u8> {
+    format!("!/1 [10.0.0.9] {inside}").into_bytes()
+}
+
+#[test]
+fn session() {
+    let mut table = Table::fresh();
+    for (message, expected) in messages(SESSION) {
+        let mut reply = [FILL; REPLY_BYTES];
+        let Answer::Taken(length) = answer(&message, &mut table, OWN, &mut reply) else {
+            panic!("turned down: {}", message.escape_ascii());
+        };
+        assert_eq!(&reply[..length], expected);
+        assert!(reply[length..].iter().all(|&byte| byte == FILL));
+    }
+    assert_eq!(table, table_at_the_end());
+}
+
+#[test]
+fn session_of_a_gateway() {
+    let mut gateway = Gateway::new(OWN).unwrap();
+    for (message, expected) in messages(SESSION) {
+        assert_eq!(gateway.answer(&message), Ok(&*expected));
+    }
+    assert_eq!(gateway.table(), &table_at_the_end());
+    assert_eq!(gateway.answer(b""), Err(Refusal::BadMessage));
+    let mut kept = Gateway::with_table(OWN, gateway.table().clone()).unwrap();
+    let reply = kept.answer(&message("T=1{C=2{PR=3}}")).unwrap();
+    assert_eq!(reply, text("P=1{C=2{PR=3}}"));
+}
+
+#[test]
+fn short_cases() {
+    for (message, expected) in messages(SHORT_CASES) {
+        let mut gateway = Gateway::new(OWN).unwrap();
+        assert_eq!(gateway.answer(&message), Ok(&*expected));
+        assert_eq!(gateway.table(), &Table::fresh());
+    }
+}
+
+#[test]
+fn refusals_in_their_order() {
+    // All four hold; then one after the other is mended.
+    let mut table = [0; TABLE_WORDS];
+    table[623] = 7;
+    let trampled = table;
+    let mut reply = [FILL; REPLY_BYTES];
+    let short = &mut reply[1..];
+    assert_eq!(answer_word(b"", &mut table, b"", short), 3 << 32);
+    assert_eq!(answer_word(b"", &mut table, b"", &mut reply), 2 << 32);
+    assert_eq!(table, trampled);
+    table[623] = 0;
+    assert_eq!(answer_word(b"", &mut table[1..], b"", &mut reply), 2 << 32);
+    assert_eq!(answer_word(b"", &mut table, b"", &mut reply), 4 << 32);
+    assert_eq!(answer_word(b"", &mut table, OWN, &mut reply), 1 << 32);
+    let long = [b' '; MESSAGE_BYTES + 1];
+    assert_eq!(answer_word(&long, &mut table, OWN, &mut reply), 1 << 32);
+    assert_eq!(reply, [FILL; REPLY_BYTES]);
+    assert_eq!(table, [0; TABLE_WORDS]);
+    let taken = answer_word(&long[1..], &mut table, OWN, &mut reply);
+    assert_eq!(taken, text("ER=400{}").len() as u64);
+}
+
+#[test]
+fn refusals_by_name() {
+    let mut reply = [FILL; REPLY_BYTES];
+    let mut table = Table::fresh();
+    let refused = answer(b"x", &mut table, b"[10.0.0.256]", &mut reply);
+    assert_eq!(refused, Answer::Refused(Refusal::BadMid));
+    let refused = answer(b"x", &mut table, OWN, &mut reply[..16]);
+    assert_eq!(refused, Answer::Refused(Refusal::ReplyTooShort));
+    let trampled = Table::from_words([129; TABLE_WORDS]);
+    let refused = answer(b"x", &mut trampled.clone(), OWN, &mut reply);
+    assert_eq!(refused, Answer::Refused(Refusal::BadTable));
+    assert_eq!(Gateway::new(b"10.0.0.9").err(), Some(Refusal::BadMid));
+    assert_eq!(Gateway::new(&[b'a'; 65]).err(), Some(Refusal::BadMid));
+    assert!(Gateway::new(&[b'a'; 64]).is_ok());
+    let refused = Gateway::with_table(OWN, trampled);
+    assert_eq!(refused.err(), Some(Refusal::BadTable));
+    assert_eq!(Refusal::BadMid.number(), 4);
+}
+
+#[test]
+fn threads_apart() {
+    let sessions: Vec<_> = (0..4)
+        .map(|_| {
+            std::thread::spawn(|| {
+                for _ in 0..200 {
+                    let mut gateway = Gateway::new(OWN).unwrap();
+                    for (message, expected) in messages(SESSION) {
+                        assert_eq!(gateway.answer(&message), Ok(&*expected));
+                    }
+                }
+            })
+        })
+        .collect();
+    for session in sessions {
+        session.join().unwrap();
+    }
+}

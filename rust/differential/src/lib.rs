@@ -1,0 +1,11 @@
+//! A differential test: any callee with the gateway's face against the
+//! reference, on random, damaged and boundary calls from a seed; and demand 3
+//! on the callee alone.
+
+pub mod calls;
+pub mod damage;
+pub mod limits;
+pub mod messages;
+pub mod numbers;
+pub mod pairs;
+pub mod tables;

@@ -1,0 +1,97 @@
+//! `differential calls SEED COUNT [exact]`: so many calls, the archive against
+//! the reference. `exact` lends buffers with nothing around them, for a memory
+//! checker.
+//!
+//! `differential pairs SEED COUNT`: so many pairs of transactions that meet
+//! demand 3's conditions, in both orders.
+
+use std::process::ExitCode;
+
+use cordafina::answer_word;
+use differential::calls::{compare, shortened, Cases, Tally, GUARD};
+use differential::numbers::Numbers;
+use differential::pairs::Pair;
+
+const USAGE: &str = "usage: differential calls SEED COUNT [exact] | differential pairs SEED COUNT";
+
+fn main() -> ExitCode {
+    let words: Vec<String> = std::env::args().skip(1).collect();
+    let words: Vec<&str> = words.iter().map(String::as_str).collect();
+    match test(&words) {
+        Some(true) => ExitCode::SUCCESS,
+        Some(false) => ExitCode::FAILURE,
+        None => {
+            eprintln!("{USAGE}");
+            ExitCode::from(2)
+        }
+    }
+}
+
+/// Whether the test that the words ask for passed.
+fn test(words: &[&str]) -> Option<bool> {
+    let [kind, seed, count, rest @ ..] = words else {
+        return None;
+    };
+    let (seed, count) = (seed.parse().ok()?, count.parse().ok()?);
+    match (*kind, rest) {
+        ("calls", []) => Some(calls(seed, count, GUARD)),
+        ("calls", ["exact"]) => Some(calls(seed, count, 0)),
+        ("pairs", []) => Some(pairs(seed, count)),
+        _ => None,
+    }
+}
+
+fn calls(seed: u64, count: u64, guard: usize) -> bool {
+    let mut cases = Cases::new(seed);
+    let mut tally = Tally::default();
+    for _ in 0..count {
+        let case = cases.draw();
+        match compare(&case, answer_word, guard) {
+            Ok(outcome) => {
+                tally.count(&case, &outcome);
+                cases.left(outcome.table());
+            }
+            Err(found) => {
+                println!("{}", shortened(found, answer_word, guard));
+                println!("seed {seed}, after {tally}: 1 difference");
+                return false;
+            }
+        }
+    }
+    println!("seed {seed}, {tally}: 0 differences");
+    let missing = tally.missing();
+    if count >= 50_000 && !missing.is_empty() {
+        println!("the calls never gave {}", missing.join(", "));
+        return false;
+    }
+    true
+}
+
+fn pairs(seed: u64, count: u64) -> bool {
+    let mut numbers = Numbers::new(seed);
+    let (mut apart, mut both_change, mut others, mut unlike) = (0, 0, 0, 0);
+    while apart < count {
+        let pair = Pair::new(&mut numbers);
+        let is_apart = pair.is_apart();
+        match pair.run(answer_word) {
+            Err(what) if is_apart => {
+                println!("UNLIKE: {what}\n{pair}");
+                println!("seed {seed}, after {apart} pairs that are apart: 1 ends unlike");
+                return false;
+            }
+            run if is_apart => {
+                apart += 1;
+                both_change += u64::from(run == Ok(true));
+            }
+            run => {
+                others += 1;
+                unlike += u64::from(run.is_err());
+            }
+        }
+    }
+    println!(
+        "seed {seed}, {apart} pairs that are apart, in {both_change} both change the table: 0 end unlike; \
+         of {others} other pairs {unlike} end unlike"
+    );
+    true
+}

@@ -1,0 +1,651 @@
+//! Messages that read well: "Annex B.2, profiled", with every command, item
+//! and name, keywords long and short in any letter case, and white space in
+//! odd places.
+
+use reference::table::{write_name, write_number, CONTEXTS, TERMINATIONS};
+
+use crate::numbers::Numbers;
+use crate::tables;
+
+const LETTERS: &[u8] = b"ABCDEFGHIJKLMNOPQRSTUVWXYZabcdefghijklmnopqrstuvwxyz";
+const WORD: &[u8] = b"ABCLMORSTXZabclmorstxz0123456789_";
+const NAME: &[u8] = b"ABCLMORSTXZabclmorstxz0123456789_/*$";
+const SAFE: &[u8] = b"abcXYZ0123456789!$%&'()*+-./?@\\^_`|~";
+const QUOTED: &[u8] = b"abcXYZ019!$%&'()*+-./?@\\^_`|~#,:;<=>[]{} \t";
+const DOMAIN: &[u8] = b"abcXYZ0123456789-.";
+
+type Forms = (&'static [u8], &'static [u8]);
+
+const COMMANDS: [Forms; 4] = [
+    (b"Add", b"A"),
+    (b"Modify", b"MF"),
+    (b"Subtract", b"S"),
+    (b"Move", b"MV"),
+];
+/// Places in `COMMANDS`.
+const ADD: usize = 0;
+const MODIFY: usize = 1;
+const SUBTRACT: usize = 2;
+const MEDIA: Forms = (b"Media", b"M");
+const LOCAL_CONTROL: Forms = (b"LocalControl", b"O");
+const TERMINATION_STATE: Forms = (b"TerminationState", b"TS");
+const MODE: Forms = (b"Mode", b"MO");
+const SERVICE_STATES: Forms = (b"ServiceStates", b"SI");
+const VALUES: [Forms; 8] = [
+    (b"Inactive", b"IN"),
+    (b"SendOnly", b"SO"),
+    (b"ReceiveOnly", b"RC"),
+    (b"SendReceive", b"SR"),
+    (b"Loopback", b"LB"),
+    (b"InService", b"IV"),
+    (b"OutOfService", b"OS"),
+    (b"Test", b"TE"),
+];
+/// The values of Mode and of ServiceStates, as parts of `VALUES`.
+const MODES: &[Forms] = VALUES.split_at(5).0;
+const STATES: &[Forms] = VALUES.split_at(5).1;
+
+/// Words that stand in the wrong place now and then.
+const OTHERS: [Forms; 10] = [
+    MEDIA,
+    LOCAL_CONTROL,
+    TERMINATION_STATE,
+    MODE,
+    SERVICE_STATES,
+    (b"Signals", b"SG"),
+    (b"AuditValue", b"AV"),
+    (b"Notify", b"N"),
+    (b"Context", b"C"),
+    (b"MediaX", b"M_"),
+];
+
+/// Names that are no termination's, without `*` and `$`.
+const UNKNOWN: [&[u8]; 24] = [
+    b"L/01/5", b"L/1/05", b"L/0/5", b"L/9/1", b"L/1/0", b"L/1/32", b"L/1/311", b"L/10/1", b"R/0",
+    b"R/65", b"R/01", b"R/100", b"L/1", b"L", b"R", b"R/", b"L//1", b"L/1/5/", b"X/1", b"Add",
+    b"ROOT/1", b"ROOTS", b"L1/1", b"R/6_",
+];
+/// Names with `*` or `$`, of good and of other forms.
+const WILD: [&[u8]; 28] = [
+    b"*", b"*", b"*", b"L/*", b"R/*", b"R/*", b"L/1/*", b"L/8/*", b"$", b"$", b"$", b"$", b"R/$",
+    b"R/$", b"L/$", b"L/1/$", b"R/1$", b"L/*/$", b"*L/1", b"*R/*", b"L/*/5", b"L/9/*", b"L/01/*",
+    b"L/0/*", b"L/1/5*", b"R/**", b"L*", b"*ROOT",
+];
+
+/// What the messages name.
+pub struct Scope {
+    /// Numbers of contexts.
+    pub contexts: Vec<u32>,
+    /// Numbers of terminations.
+    pub terminations: Vec<usize>,
+    /// "every context by number or as the null one, and every termination
+    /// without `*` or `$`"
+    pub plain: bool,
+}
+
+impl Scope {
+    /// All terminations, the contexts of the table and some more.
+    pub fn whole(numbers: &mut Numbers, table: &[u32]) -> Self {
+        let mut contexts = tables::contexts(table);
+        for _ in 0..1 + contexts.len() / 8 {
+            contexts.push(numbers.within(1..=CONTEXTS) as u32);
+        }
+        Scope {
+            contexts,
+            terminations: (0..TERMINATIONS).collect(),
+            plain: false,
+        }
+    }
+}
+
+/// Writes the text of messages.
+pub struct Writer<'a> {
+    pub numbers: &'a mut Numbers,
+    table: &'a [u32],
+    scope: &'a Scope,
+    pub bytes: Vec<u8>,
+    /// White space stands at one of so many places where it may; 0 for none.
+    white: usize,
+    /// One of so many items is not what it should be; 0 for none.
+    faults: usize,
+    any_case: bool,
+    /// No more is begun past this length.
+    room: usize,
+    /// The running action's context, 0 for any but a number.
+    context: u32,
+    /// The running action's context is the null one.
+    null: bool,
+}
+
+impl<'a> Writer<'a> {
+    pub fn new(numbers: &'a mut Numbers, table: &'a [u32], scope: &'a Scope) -> Self {
+        let white = numbers.pick(&[0, 0, 20, 4]);
+        let faults = numbers.pick(&[0, 30, 6]);
+        let any_case = numbers.one_in(2);
+        let room = match numbers.under(16) {
+            0..=9 => numbers.within(20..=160),
+            10..=14 => numbers.within(100..=700),
+            _ => numbers.within(700..=4_000),
+        };
+        Writer {
+            numbers,
+            table,
+            scope,
+            bytes: Vec::with_capacity(512),
+            white,
+            faults,
+            any_case,
+            room,
+            context: 0,
+            null: false,
+        }
+    }
+
+    /// A whole message.
+    pub fn message(mut self) -> Vec<u8> {
+        self.header();
+        self.transaction();
+        let most = self.numbers.pick(&[1, 1, 2, 8]);
+        for _ in 1..most {
+            if self.bytes.len() < self.room {
+                self.transaction();
+            }
+        }
+        self.bytes
+    }
+
+    // ---- small pieces
+
+    pub fn put(&mut self, bytes: &[u8]) {
+        self.bytes.extend_from_slice(bytes);
+    }
+
+    /// Letters that ignore their case.
+    pub fn letters(&mut self, letters: &[u8]) {
+        if self.any_case {
+            for &byte in letters {
+                let byte = match self.numbers.under(3) {
+                    0 => byte.to_ascii_uppercase(),
+                    1 => byte.to_ascii_lowercase(),
+                    _ => byte,
+                };
+                self.bytes.push(byte);
+            }
+        } else {
+            self.put(letters);
+        }
+    }
+
+    pub fn keyword(&mut self, (long, short): Forms) {
+        let long_one = self.numbers.one_in(3);
+        self.letters(if long_one { long } else { short });
+    }
+
+    /// A number with up to so many leading zeros as digits are allowed.
+    pub fn number(&mut self, number: u32, digits: usize) {
+        let start = self.bytes.len();
+        write_number(number, &mut self.bytes);
+        if self.numbers.one_in(16) {
+            let written = self.bytes.len() - start;
+            let zeros = self.numbers.under(digits - written + 1);
+            self.bytes.splice(start..start, vec![b'0'; zeros]);
+        }
+    }
+
+    /// White space where it may stand.
+    pub fn white(&mut self) {
+        if self.white > 0 && self.numbers.one_in(self.white) {
+            self.space();
+        }
+    }
+
+    /// White space where it must stand: one piece or more.
+    pub fn space(&mut self) {
+        let plain = self.white == 0;
+        let pieces = if plain { 1 } else { self.numbers.within(1..=3) };
+        for _ in 0..pieces {
+            let piece: &[u8] = match self.numbers.under(9) {
+                _ if plain => b" ",
+                0..=2 => b" ",
+                3 => b"\t",
+                4 => b"\r",
+                5 => b"\n",
+                6 => b"\r\n",
+                7 => b";\r",
+                _ => b"; T=1{ \"},\t~\n",
+            };
+            self.put(piece);
+        }
+    }
+
+    /// A sign with white space around it.
+    pub fn sign(&mut self, sign: u8) {
+        self.white();
+        self.bytes.push(sign);
+        self.white();
+    }
+
+    pub fn word(&mut self, length: usize) {
+        let first = self.numbers.pick(LETTERS);
+        self.bytes.push(first);
+        let rest = self.numbers.bytes(WORD, length - 1);
+        self.put(&rest);
+    }
+
+    /// A path name of that length.
+    pub fn path_name(&mut self, length: usize) {
+        let plain = self.scope.plain;
+        let star = !plain && length > 1 && self.numbers.one_in(4);
+        if star {
+            self.bytes.push(b'*');
+        }
+        let first = self.numbers.pick(LETTERS);
+        self.bytes.push(first);
+        let from = &NAME[..NAME.len() - 2 * usize::from(plain)];
+        let rest = self.numbers.bytes(from, length - 1 - usize::from(star));
+        self.put(&rest);
+    }
+
+    pub fn plain_value(&mut self, length: usize) {
+        let value = self.numbers.bytes(SAFE, length);
+        self.put(&value);
+    }
+
+    pub fn quoted_value(&mut self, length: usize) {
+        let value = self.numbers.bytes(QUOTED, length);
+        self.bytes.push(b'"');
+        self.put(&value);
+        self.bytes.push(b'"');
+    }
+
+    pub fn domain(&mut self, length: usize) {
+        self.bytes.push(b'<');
+        let first = self.numbers.pick(b"aZ09");
+        self.bytes.push(first);
+        let rest = self.numbers.bytes(DOMAIN, length - 1);
+        self.put(&rest);
+        self.bytes.push(b'>');
+    }
+
+    // ---- the message's parts
+
+    pub fn header(&mut self) {
+        self.white();
+        self.keyword((b"MEGACO", b"!"));
+        let version = match self.numbers.under(64) {
+            0 => self.numbers.pick(&["0", "00", "2", "02", "10", "99"]),
+            1 => "01",
+            _ => "1",
+        };
+        self.bytes.push(b'/');
+        self.put(version.as_bytes());
+        self.space();
+        self.mid();
+        self.space();
+    }
+
+    pub fn mid(&mut self) {
+        match self.numbers.under(8) {
+            0..=4 => self.put(b"[10.0.0.1]"),
+            5 => {
+                self.bytes.push(b'[');
+                for place in 0..4 {
+                    if place > 0 {
+                        self.bytes.push(b'.');
+                    }
+                    let number = self.numbers.under(256) as u32;
+                    self.number(number, 3);
+                }
+                self.bytes.push(b']');
+                self.port();
+            }
+            6 => {
+                let length = self.numbers.within(1..=64);
+                self.domain(length);
+                self.port();
+            }
+            _ => {
+                let length = self.numbers.within(1..=64);
+                self.path_name(length);
+            }
+        }
+    }
+
+    fn port(&mut self) {
+        if self.numbers.one_in(2) {
+            let port = self.numbers.under(65_536) as u32;
+            self.bytes.push(b':');
+            self.number(port, 5);
+        }
+    }
+
+    /// `T=id{`
+    pub fn open_transaction(&mut self) {
+        let id = match self.numbers.under(8) {
+            0 => 1 + self.numbers.word() as u32 / 2,
+            _ => self.numbers.within(1..=999) as u32,
+        };
+        self.keyword((b"Transaction", b"T"));
+        self.sign(b'=');
+        self.number(id, 10);
+        self.sign(b'{');
+    }
+
+    pub fn transaction(&mut self) {
+        self.open_transaction();
+        self.action();
+        let most = self.numbers.pick(&[1, 1, 1, 3, 16]);
+        for _ in 1..most {
+            if self.bytes.len() < self.room {
+                self.sign(b',');
+                self.action();
+            }
+        }
+        self.sign(b'}');
+    }
+
+    /// `C=id{`
+    pub fn open_action(&mut self) {
+        self.keyword((b"Context", b"C"));
+        self.sign(b'=');
+        (self.context, self.null) = (0, false);
+        let context = self.numbers.pick(&self.scope.contexts);
+        let absent = !tables::has_context(self.table, context);
+        match self.numbers.under(32) {
+            0 if !self.scope.plain => self.bytes.push(b'*'),
+            1..=6 if !self.scope.plain => self.bytes.push(b'$'),
+            7..=20 if !self.scope.plain && absent => self.bytes.push(b'$'),
+            21..=23 => {
+                self.null = true;
+                self.bytes.push(b'-');
+            }
+            _ => {
+                self.context = context;
+                self.number(context, 10);
+            }
+        }
+        self.sign(b'{');
+    }
+
+    fn action(&mut self) {
+        self.open_action();
+        let properties = match self.numbers.under(6) {
+            0 => self.numbers.within(1..=3),
+            _ => 0,
+        };
+        for place in 0..properties {
+            if place > 0 {
+                self.sign(b',');
+            }
+            self.property();
+        }
+        if properties == 0 || self.numbers.one_in(2) {
+            if properties > 0 {
+                self.sign(b',');
+            }
+            self.commands();
+        }
+        self.sign(b'}');
+    }
+
+    fn commands(&mut self) {
+        self.command();
+        let most = self.numbers.pick(&[1, 2, 3, 6, 64]);
+        for _ in 1..most {
+            if self.bytes.len() < self.room {
+                self.sign(b',');
+                self.command();
+            }
+        }
+    }
+
+    pub fn property(&mut self) {
+        if self.numbers.one_in(3) {
+            return self.keyword((b"Emergency", b"EG"));
+        }
+        let priority = match self.numbers.under(20) {
+            0 => self.numbers.pick(&[16, 17, 99, 65_536, 99_999]),
+            _ => self.numbers.under(16) as u32,
+        };
+        self.keyword((b"Priority", b"PR"));
+        self.sign(b'=');
+        self.number(priority, 5);
+    }
+
+    pub fn command(&mut self) {
+        if self.numbers.one_in(2) {
+            self.letters(b"O-");
+        }
+        if self.numbers.one_in(150) {
+            self.letters(b"W-");
+        }
+        // In null only a Modify is no action error.
+        let kind = match self.null && !self.numbers.one_in(8) {
+            true => MODIFY,
+            false => self.numbers.under(COMMANDS.len()),
+        };
+        if self.numbers.one_in(80) {
+            let other = self.numbers.pick(&OTHERS);
+            self.keyword(other);
+        } else {
+            self.keyword(COMMANDS[kind]);
+        }
+        self.sign(b'=');
+        self.termination(kind);
+        match self.numbers.under(32) {
+            0 => {
+                self.sign(b'{');
+                self.items(1);
+                self.sign(b'}');
+            }
+            1 => self.media(),
+            // Items do not suit a Subtract.
+            2..=8 if kind != SUBTRACT => self.media(),
+            9..=24 if kind == MODIFY => self.media(),
+            _ => {}
+        }
+    }
+
+    // ---- terminations
+
+    fn termination(&mut self, kind: usize) {
+        let plain = self.scope.plain;
+        match self.numbers.under(32) {
+            0..=4 if !plain => {
+                let name = self.numbers.pick(&WILD);
+                self.letters(name);
+            }
+            5 if !plain => {
+                // The line's digit is 0 to 9.
+                let line = b'0' + self.numbers.under(10) as u8;
+                self.letters(&[b'L', b'/', line, b'/', b'*']);
+            }
+            6 if !plain && kind == ADD => self.letters(b"R/$"),
+            7 => self.letters(b"ROOT"),
+            8 | 9 => {
+                let name = self.numbers.pick(&UNKNOWN);
+                self.letters(name);
+            }
+            10 => {
+                let length = self.numbers.within(1..=64);
+                self.path_name(length);
+            }
+            11..=14 => {
+                let termination = self.numbers.pick(&self.scope.terminations);
+                self.name(termination);
+            }
+            _ => {
+                let termination = self.suited(kind);
+                self.name(termination);
+            }
+        }
+    }
+
+    fn name(&mut self, termination: usize) {
+        let mut name = Vec::with_capacity(8);
+        write_name(termination, &mut name);
+        self.letters(&name);
+    }
+
+    /// A termination that the command can succeed with, if there is one: Add
+    /// one in null, Modify and Subtract one of the action's context,
+    /// Move one of another context.
+    fn suited(&mut self, kind: usize) -> usize {
+        let here = self.context;
+        let start = self.numbers.under(self.scope.terminations.len());
+        let (before, after) = self.scope.terminations.split_at(start);
+        let suits = |termination: &&usize| {
+            let stands_in = self.table.get(**termination).copied().unwrap_or(0);
+            match kind {
+                ADD => stands_in == 0,
+                MODIFY | SUBTRACT => stands_in == here,
+                _ => stands_in != 0 && stands_in != here,
+            }
+        };
+        let found = after.iter().chain(before).find(suits);
+        found.copied().unwrap_or(after[0])
+    }
+
+    // ---- items
+
+    /// Whether this piece is to be at fault.
+    fn off(&mut self) -> bool {
+        self.faults > 0 && self.numbers.one_in(self.faults)
+    }
+
+    /// The keyword of an item, or another in its place.
+    fn item_word(&mut self, forms: Forms) {
+        let forms = if self.off() {
+            self.numbers.pick(&OTHERS)
+        } else {
+            forms
+        };
+        self.keyword(forms);
+        if self.off() {
+            self.bytes.push(b'/');
+            self.word(2);
+        }
+    }
+
+    /// `{..}` with Media.
+    fn media(&mut self) {
+        self.sign(b'{');
+        self.descriptor(MEDIA, |writer| {
+            let both = writer.numbers.one_in(3);
+            let first = writer.numbers.one_in(2);
+            writer.inside_media(first);
+            if both || writer.off() {
+                let second = first == writer.off();
+                writer.sign(b',');
+                writer.inside_media(second);
+            }
+        });
+        if self.off() {
+            self.sign(b',');
+            self.item_word(MEDIA);
+        }
+        self.sign(b'}');
+    }
+
+    /// LocalControl, or TerminationState.
+    fn inside_media(&mut self, local_control: bool) {
+        let (forms, property, values) = if local_control {
+            (LOCAL_CONTROL, MODE, MODES)
+        } else {
+            (TERMINATION_STATE, SERVICE_STATES, STATES)
+        };
+        self.descriptor(forms, |writer| {
+            writer.value_property(property, values);
+            if writer.off() {
+                writer.sign(b',');
+                writer.value_property(property, values);
+            }
+        });
+    }
+
+    /// A descriptor: "braces and no value".
+    fn descriptor(&mut self, forms: Forms, inside: impl FnOnce(&mut Self)) {
+        self.item_word(forms);
+        if self.off() {
+            self.sign(b'=');
+            self.plain_value(1);
+        }
+        if !self.off() {
+            self.sign(b'{');
+            inside(self);
+            self.sign(b'}');
+        }
+    }
+
+    /// A property: "a value and no braces".
+    fn value_property(&mut self, forms: Forms, values: &[Forms]) {
+        self.item_word(forms);
+        if !self.off() {
+            self.sign(b'=');
+            let good = self.numbers.pick(values);
+            if self.off() {
+                self.value();
+            } else if self.off() {
+                // The right word in quotes.
+                self.bytes.push(b'"');
+                self.keyword(good);
+                self.bytes.push(b'"');
+            } else {
+                self.keyword(good);
+            }
+        }
+        if self.off() {
+            self.sign(b'{');
+            self.item_word(MODE);
+            self.sign(b'}');
+        }
+    }
+
+    fn value(&mut self) {
+        match self.numbers.under(4) {
+            0 => {
+                let value = self.numbers.pick(&VALUES);
+                self.keyword(value);
+            }
+            1 => {
+                let length = self.numbers.within(0..=64);
+                self.quoted_value(length);
+            }
+            _ => {
+                let length = self.numbers.within(1..=64);
+                self.plain_value(length);
+            }
+        }
+    }
+
+    /// Any items, of this level and below.
+    fn items(&mut self, level: usize) {
+        let count = self.numbers.pick(&[1, 1, 2]);
+        for place in 0..count {
+            if place > 0 {
+                self.sign(b',');
+            }
+            if self.numbers.one_in(2) {
+                let word = self.numbers.pick(&OTHERS);
+                self.keyword(word);
+            } else {
+                let length = self.numbers.within(1..=8);
+                self.word(length);
+            }
+            if self.numbers.one_in(6) {
+                self.bytes.push(b'/');
+                let length = self.numbers.within(1..=8);
+                self.word(length);
+            }
+            if self.numbers.one_in(3) {
+                self.sign(b'=');
+                self.value();
+            }
+            if level < 8 && self.numbers.one_in(2) {
+                self.sign(b'{');
+                self.items(level + 1);
+                self.sign(b'}');
+            }
+        }
+    }
+}

@@ -1,0 +1,231 @@
+//! Demand 3 on the compiled library: two transactions that are apart end alike
+//! in both orders.
+
+use std::fmt;
+
+use reference::table::{Name, CONTEXTS, TERMINATIONS};
+use reference::text::{read, ContextId};
+use reference::{MESSAGE_BYTES, REPLY_BYTES};
+
+use crate::calls::Call;
+use crate::messages::{Scope, Writer};
+use crate::numbers::Numbers;
+use crate::tables::{self, Words};
+
+const HEADER: &[u8] = b"!/1 [10.0.0.1] ";
+const OWN: &[u8] = b"[10.0.0.9]";
+
+/// A sound table and the texts of two transactions.
+pub struct Pair {
+    table: Words,
+    one: Vec<u8>,
+    two: Vec<u8>,
+}
+
+impl Pair {
+    /// A pair of which most meet the conditions: contexts and terminations are
+    /// shared out between the two, and sometimes not cleanly.
+    pub fn new(numbers: &mut Numbers) -> Self {
+        let mut table = tables::sound(numbers);
+        while tables::contexts(&table).is_empty() {
+            table = tables::sound(numbers);
+        }
+        let [mut one, mut two] = shared_out(numbers, &table);
+        if numbers.one_in(8) {
+            match numbers.under(3) {
+                0 => one.contexts.extend_from_slice(&two.contexts),
+                1 => one.terminations.extend_from_slice(&two.terminations),
+                _ => two.plain = false,
+            }
+        }
+        let mut text = |scope: &Scope| {
+            let mut writer = Writer::new(numbers, &table, scope);
+            writer.transaction();
+            writer.bytes
+        };
+        let (one, two) = (text(&one), text(&two));
+        Pair { table, one, two }
+    }
+
+    /// Whether the conditions of demand 3 hold, sentence by sentence.
+    pub fn is_apart(&self) -> bool {
+        let (Some(one), Some(two)) = (named(&self.one), named(&self.two)) else {
+            return false;
+        };
+        // "Say that no termination is named by both."
+        let mut shared = one.terminations.iter();
+        if shared.any(|termination| two.terminations.contains(termination)) {
+            return false;
+        }
+        // "the numbered contexts each names, with the numbered ones its
+        // terminations stand in at the start, are apart from the other's"
+        let (one, two) = (one.reached(&self.table), two.reached(&self.table));
+        !one.iter().any(|context| two.contains(context))
+    }
+
+    /// Runs both orders, each as two messages and as one. Gives whether both
+    /// transactions change the table, or what ends unlike.
+    pub fn run(&self, call: Call) -> Result<bool, String> {
+        let (one, two) = (&self.one, &self.two);
+        let mut table = self.table;
+        let first = replied(call, &mut table, &[one])?;
+        let between = table;
+        let second = replied(call, &mut table, &[two])?;
+        let both_change = between != self.table && table != between;
+
+        let mut other = self.table;
+        let second_first = replied(call, &mut other, &[two])?;
+        let first_second = replied(call, &mut other, &[one])?;
+        same("table", &table, &other)?;
+        same("first transaction's reply", &first, &first_second)?;
+        same("second transaction's reply", &second, &second_first)?;
+
+        if HEADER.len() + one.len() + two.len() <= MESSAGE_BYTES {
+            for (texts, replies) in [
+                ([one, two], [&first, &second]),
+                ([two, one], [&second, &first]),
+            ] {
+                let mut together = self.table;
+                let reply = replied(call, &mut together, &texts)?;
+                same("table after one message", &table, &together)?;
+                same(
+                    "reply to one message",
+                    &replies.map(|reply| &reply[..]).concat(),
+                    &reply,
+                )?;
+            }
+        }
+        Ok(both_change)
+    }
+}
+
+impl fmt::Display for Pair {
+    fn fmt(&self, f: &mut fmt::Formatter) -> fmt::Result {
+        writeln!(f, "table  {}", tables::shown(&self.table))?;
+        writeln!(f, "first  {}", self.one.escape_ascii())?;
+        write!(f, "second {}", self.two.escape_ascii())
+    }
+}
+
+/// Shares contexts and terminations out: a termination goes with the context
+/// that it stands in, those in null go either way.
+fn shared_out(numbers: &mut Numbers, table: &Words) -> [Scope; 2] {
+    let sides = [numbers.word(), numbers.word()];
+    let side = |context: u32| (sides[context as usize / 64 % 2] >> (context % 64) & 1) as usize;
+    let mut scopes = [0, 1].map(|_| Scope {
+        contexts: Vec::new(),
+        terminations: Vec::new(),
+        plain: true,
+    });
+    for (termination, &context) in table[..TERMINATIONS].iter().enumerate() {
+        let side = match context {
+            0 => numbers.under(2),
+            context => side(context),
+        };
+        scopes[side].terminations.push(termination);
+    }
+    // Most of the contexts exist, a few never do.
+    let standing = tables::contexts(table);
+    for _ in 0..numbers.within(2..=12) {
+        let context = match numbers.under(16) {
+            0 => numbers.pick(&[129, 130, 1_000, 1_001, u32::MAX - 1, u32::MAX]),
+            1 | 2 => numbers.within(1..=CONTEXTS) as u32,
+            _ => numbers.pick(&standing),
+        };
+        scopes[side(context)].contexts.push(context);
+    }
+    for scope in &mut scopes {
+        if scope.contexts.is_empty() {
+            scope.contexts.push(0);
+        }
+        if scope.terminations.is_empty() {
+            // Every one stands in a context of the other.
+            scope.terminations.push(0);
+        }
+    }
+    scopes
+}
+
+/// What a transaction names.
+struct Named {
+    contexts: Vec<u32>,
+    terminations: Vec<usize>,
+}
+
+impl Named {
+    /// The numbered contexts named, "with the numbered ones its terminations
+    /// stand in"; 0 is none.
+    fn reached(self, table: &Words) -> Vec<u32> {
+        let mut reached = self.contexts;
+        reached.extend(self.terminations.iter().map(|&number| table[number]));
+        reached.retain(|&context| context != 0);
+        reached
+    }
+}
+
+/// What a well-formed transaction names, if it names "every context by number
+/// or as the null one, and every termination without `*` or `$`".
+fn named(transaction: &[u8]) -> Option<Named> {
+    let message = [HEADER, transaction].concat();
+    let transactions = read(&message).ok()?;
+    let [transaction] = &transactions[..] else {
+        return None;
+    };
+    let mut named = Named {
+        contexts: Vec::new(),
+        terminations: Vec::new(),
+    };
+    for action in &transaction.actions {
+        match action.context {
+            ContextId::Number(number) => named.contexts.push(number),
+            ContextId::Null => {}
+            ContextId::Choose | ContextId::All => return None,
+        }
+        for command in &action.commands {
+            match Name::of(command.termination) {
+                Name::Termination(number) => named.terminations.push(number),
+                Name::Root | Name::Unknown => {}
+                _ => return None,
+            }
+        }
+    }
+    (message.len() <= MESSAGE_BYTES).then_some(named)
+}
+
+/// The reply without its header, of a message with these transactions.
+fn replied(call: Call, table: &mut Words, transactions: &[&Vec<u8>]) -> Result<Vec<u8>, String> {
+    let mut message = HEADER.to_vec();
+    for transaction in transactions {
+        message.extend_from_slice(transaction);
+    }
+    let mut reply = [0; REPLY_BYTES];
+    let word = call(&message, table, OWN, &mut reply);
+    if word >> 32 != 0 {
+        return Err(format!("refusal {}", word >> 32));
+    }
+    Ok(reply[5 + OWN.len()..word as u32 as usize].to_vec())
+}
+
+fn same<T: PartialEq + Shown + ?Sized>(what: &str, one: &T, other: &T) -> Result<(), String> {
+    if one == other {
+        return Ok(());
+    }
+    Err(format!("{what}: {} and {}", one.shown(), other.shown()))
+}
+
+/// Words and bytes as a report shows them.
+trait Shown {
+    fn shown(&self) -> String;
+}
+
+impl Shown for Words {
+    fn shown(&self) -> String {
+        tables::shown(self)
+    }
+}
+
+impl Shown for Vec<u8> {
+    fn shown(&self) -> String {
+        self.escape_ascii().to_string()
+    }
+}
