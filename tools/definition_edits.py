@@ -5,7 +5,7 @@ usage: tools/definition_edits.py [NAME ..]
 
 A must-fail edit of rt changes its own crate only, and megaco by itself is proved with any definition. So each edit of
 tools/definition-edits, in the form of rt's must-fail edits, is applied to a copy of the repository: megaco must still be
-proved there, and laws must not. It stands outside the gate.
+proved there, and laws must not. The gate runs it (.ci/run).
 """
 import glob, os, re, shutil, subprocess, sys, tempfile
 
