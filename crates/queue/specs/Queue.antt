@@ -57,9 +57,10 @@ queue-alike t s m k x y p q A own o h e f g t₁ o₁ t₂ o₂ u₁ p₁ u₂ p
     let v : sound t₁ ≡ true = rw i (message-sound (messageR m) t s) in
     let w : sound u₁ ≡ true = rw j (message-sound (messageR k) t s) in
     let K : List ℕ → Ran = runMessage (messageR k) in
-    let M : List ℕ → Ran = runMessage (messageR m) in
-    (β .table ∙ leaves k t₁ own o h v e g ∙ ap (λ (z : List ℕ). K z .table) i ∙ r .table ∙ sym (δ .table ∙ leaves m u₁ own o h w e f ∙ ap (λ (z : List ℕ). M z .table) j),
-    α .reply ∙ answers m t own o h s e f ∙ ap (λ (z : List ℕ). put o 0 (headerText own then z)) (r .reply-one)
-    ∙ sym (δ .reply ∙ answers m u₁ own o h w e f ∙ ap (λ (z : List ℕ). put o 0 (headerText own then M z .text)) j),
-    β .reply ∙ answers k t₁ own o h v e g ∙ ap (λ (z : List ℕ). put o 0 (headerText own then K z .text)) i
-    ∙ ap (λ (z : List ℕ). put o 0 (headerText own then z)) (r .reply-two) ∙ sym (γ .reply ∙ answers k t own o h s e g))
+    let M : List ℕ → Ran = runMessage (messageR m) in (
+      β .table ∙ leaves k t₁ own o h v e g ∙ ap (λ (z : List ℕ). K z .table) i ∙ r .table ∙ sym (δ .table ∙ leaves m u₁ own o h w e f ∙ ap (λ (z : List ℕ). M z .table) j),
+      α .reply ∙ answers m t own o h s e f ∙ ap (λ (z : List ℕ). put o 0 (headerText own then z)) (r .reply-one)
+          ∙ sym (δ .reply ∙ answers m u₁ own o h w e f ∙ ap (λ (z : List ℕ). put o 0 (headerText own then M z .text)) j),
+      β .reply ∙ answers k t₁ own o h v e g ∙ ap (λ (z : List ℕ). put o 0 (headerText own then K z .text)) i
+          ∙ ap (λ (z : List ℕ). put o 0 (headerText own then z)) (r .reply-two) ∙ sym (γ .reply ∙ answers k t own o h s e g),
+    )
