@@ -1,5 +1,5 @@
 #!/usr/bin/env bash
-# The tests beside the proofs: unit tests, examples, differential test, demand 3 on the compiled library.
+# The tests beside the proofs: unit tests, examples, listing sessions, differential test, demand 3 on the compiled library.
 # Ends with status 0 only if all of them passed. docs/TESTING.md says what each is.
 #
 #   tests/run.sh                      the short form, under two minutes
@@ -47,6 +47,7 @@ fi
 step "build" rust build --workspace
 step "unit tests" rust test --workspace
 step "examples" bash examples/run.sh
+step "listing sessions" bash tests/sessions.sh
 step "differential test, $calls calls" rust run -p differential -- calls "$seed" $calls
 step "demand 3, $pairs pairs" rust run -p differential -- pairs "$seed" $pairs
 if [ $long = yes ]; then

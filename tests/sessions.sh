@@ -1,0 +1,12 @@
+#!/usr/bin/env bash
+# Runs the listing program on each session of tests/sessions and compares what it prints, byte for byte.
+set -eu
+root=$(cd "$(dirname "$0")/.." && pwd)
+program=$root/target/bin/listing
+[ -x "$program" ] || { echo "sessions: there is no $program; make it with 'rt check listing'"; exit 1; }
+count=0
+for input in "$root"/tests/sessions/*.in; do
+    "$program" < "$input" | cmp - "${input%.in}.out" || { echo "sessions: $input is answered otherwise"; exit 1; }
+    count=$((count + 1))
+done
+echo "sessions: $count printed as expected"
