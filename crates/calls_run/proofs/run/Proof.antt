@@ -1,0 +1,32 @@
+use borrow.Author.Needs.{needs}
+use Prim.Native.Nat.{_-_}
+use mathlib.Core.Path.{_≡_}
+use lib.ListN.{length}
+use Rattle.calls_run.proofs.run.Statement.{statement}
+use Rattle.calls_run.proofs.run.Tie as tie
+
+abbrev Inv-loop : tie.InvT-loop
+Inv-loop room₀ table₀ reply₀ k₀ room table reply k = (length room ≡ length room₀) × (length table ≡ length table₀) × (length reply ≡ length reply₀)
+
+abbrev μ-loop : tie.MeasureT-loop
+μ-loop room₀ table₀ reply₀ k₀ room table reply k = 1000000 - k
+
+pub run-spec : {M : Type 1} → statement M
+run-spec =
+    tie.close
+    (tie.spec
+    Inv-loop
+    μ-loop
+    (λ c. search needs)
+    (λ c κs. search needs)
+    (λ c. search needs)
+    (λ c. search needs)
+    (λ c. search needs)
+    (λ c. search needs)
+    (λ c. search needs)
+    (λ c. search needs)
+    (λ c. search needs)
+    (λ c. search needs)
+    (λ c. search needs)
+    (λ c. search needs)
+    (λ c. search needs))

@@ -1,0 +1,169 @@
+#!/usr/bin/env python3
+"""The calls that crates/calls_run reads, and what each must answer: writes its stdin and its stdout from recorded calls.
+
+usage, from the root: tools/call_cases.py CALLS.jsonl
+
+Takes the rows at a boundary first, then rows that show a code, a refusal, a report or a kind that few before them show, as
+tools/evaluate.py does, and adds the calls of SESSION and SINGLE, which stand in this file with the replies and the tables that
+document 01 gives them. Nothing is taken from the program: a row's reply, its table and its buffer are the recorded ones.
+
+Input, for each call: a line of 30 bytes (five numbers of five digits: the bytes of the own mId, the bytes of the message, the
+runs of equal words that are not 0, the words of the table, the bytes of the buffer), the own mId, the message, the runs
+(from, to, word: five digits each, and a space), a line end.
+Output, for each call: its number, the refusal or the reply's length and its bytes, the sum of the table and the sum of the
+whole buffer, which is filled with 170 before the call.
+"""
+import collections
+import json
+import os
+import random
+import re
+import sys
+
+OWN, HEAD = b"[10.0.0.9]", b"!/1 [10.0.0.1] "
+WORDS, BUFFER = 752, 16640
+FEW = 12          # how many rows are to show the same thing
+LONGEST = 300     # bytes of a message, boundaries aside
+ROOM = 560000     # bytes of the input
+
+
+def runs(pairs):
+    out = []
+    for i, v in sorted(pairs):
+        if out and out[-1][1] == i and out[-1][2] == v:
+            out[-1][1] = i + 1
+        else:
+            out.append([i, i + 1, v])
+    return out
+
+
+def record(row):
+    message, own, words = bytes.fromhex(row["message"]), bytes.fromhex(row["own"]), runs(row["table"])
+    head = b"%05d %05d %05d %05d %05d\n" % (len(own), len(message), len(words), row["table_len"], row["buf"])
+    return head + own + message + b"".join(b"%05d%05d%05d " % tuple(w) for w in words) + b"\n"
+
+
+def total(numbers):
+    sum_ = 1
+    for v in numbers:
+        sum_ = (sum_ * 65599 + v) % 2 ** 32
+    return sum_
+
+
+def told(k, row):
+    reply, table = bytes.fromhex(row["reply"]), [0] * row["table_len"]
+    for i, v in row["after"]:
+        table[i] = v
+    buffer = reply + b"\xaa" * (row["buf"] - len(reply))
+    said = b"refused %d" % row["refusal"] if row["refusal"] else b"taken %d %s" % (len(reply), reply)
+    return b"%d %s %d %d\n" % (k, said, total(table), total(buffer))
+
+
+# ---- the calls of document 01
+
+X64 = b"x" * 64
+SESSION = [
+    (b"T=7{C=${A=L/1/5,A=$}}", b"P=7{C=1{A=L/1/5,A=R/1}}", {4: 1, 248: 1, 624: 1}),
+    (b"T=8{C=1{A=L/1/5}}", b"P=8{C=1{A=L/1/5{ER=433{}}}}", {4: 1, 248: 1, 624: 1}),
+    (b"T=9{C=${MV=L/1/5}}", b"P=9{C=2{MV=L/1/5}}", {4: 2, 248: 1, 624: 1, 625: 1}),
+    (b"T=10{C=1{S=*,A=L/2/1}}", b"P=10{C=1{S=R/1,A=L/2/1{ER=411{}}}}", {4: 2, 625: 1}),
+    (b"T=11{C=2{O-S=L/8/31,MF=L/1/5{M{O{MO=SR}}}}}", b"P=11{C=2{S=L/8/31{ER=435{}},MF=L/1/5}}", {4: 2, 316: 3, 625: 1}),
+    (b"T=12{C=2{S=L/8/31,S=L/1/5}}", b"P=12{C=2{S=L/8/31{ER=435{}}}}", {4: 2, 316: 3, 625: 1}),
+]
+LINE = {0: 1, 624: 1}                                                    # L/1/1 in context 1
+ALL = {**{i: i + 1 for i in range(128)}, **{624 + c: 1 for c in range(128)}}    # 128 contexts of one line each
+RINGS = {**{248 + i: i // 8 + 1 for i in range(64)}, **{624 + c: 1 for c in range(8)}}    # 64 ephemerals in contexts of 8
+EIGHT = {**{i: 1 for i in range(8)}, 624: 1}                              # L/1/1 to L/1/8 in context 1
+# A message, the reply, the table before and the table after (None: as before).
+SINGLE = [
+    (b"T=1{C=5{}}", b"P=1{ER=403{}}", {}, None),
+    (b"T=1{}", b"P=1{ER=403{}}", {}, None),
+    (b"T=1{C=5{S=*", b"P=1{ER=403{}}", {}, None),
+    (b"Q=1{}", b"ER=400{}", {}, None),
+    (b"T=1{C=1{PR=16}}", b"P=1{C=1{ER=449{}}}", {}, None),
+    (b"T=1{C=5{PR=3}}", b"P=1{C=5{ER=411{}}}", {}, None),
+    (b"T=1{C=-{A=$}}", b"P=1{C=-{ER=421{}}}", {}, None),
+    (b"T=1{C=${A=R/1}}", b"P=1{C=${A=R/1{ER=430{}}}}", {}, None),
+    (b"T=1{C=-{MF=*}}", b"P=1{ER=533{}}", {}, None),
+    # a wildcard that fills the context
+    (b"T=1{C=${A=L/1/*}}", b"P=1{C=1{" + b",".join([b"A=L/1/%d" % n for n in range(1, 9)] + [b"A=L/1/%d{ER=434{}}" % n for n in range(9, 32)]) + b"}}",
+     {}, EIGHT),
+    (b"T=1{C=1{A=L/2/1}}", b"P=1{C=1{A=L/2/1{ER=434{}}}}", EIGHT, None),
+    # Move of the last member into $: context 1 ends, and its number is not chosen while the Move is judged
+    (b"T=2{C=${MV=L/1/1},C=${A=$}}", b"P=2{C=2{MV=L/1/1},C=1{A=R/1}}", LINE, {0: 2, 248: 1, 624: 1, 625: 1}),
+    (b"T=2{C=1{MV=*}}", b"P=2{C=1{MV=*{ER=431{}}}}", LINE, None),
+    # a chosen context that ends in its own action
+    (b"T=1{C=${A=L/1/1,S=L/1/1,O-A=L/1/1,O-A=$},C=${A=$}}", b"P=1{C=1{A=L/1/1,S=L/1/1,A=L/1/1{ER=411{}},A=${ER=411{}}},C=1{A=R/1}}",
+     {}, {248: 1, 624: 1}),
+    # no context and no ephemeral left
+    (b"T=1{C=${O-A=$,O-MV=L/1/1}}", b"P=1{C=${A=${ER=412{}},MV=L/1/1{ER=412{}}}}", ALL, None),
+    # a reply of 2,048 bytes, and one of 2,049
+    (b"T=1{C=5{" + b"O-A=" + (X64 + b",O-A=") * 26 + b"x" * 24 + b"}}",
+     b"P=1{C=5{" + (b"A=" + X64 + b"{ER=411{}},") * 26 + b"A=" + b"x" * 24 + b"{ER=411{}}}}", {}, None),
+    (b"T=1{C=5{" + b"O-A=" + (X64 + b",O-A=") * 26 + b"x" * 25 + b"}}", b"P=1{ER=533{}}", {}, None),
+]
+
+
+def row(message, reply, before, after):
+    return {"kind": "document 01", "message": (HEAD + message).hex(), "own": OWN.hex(), "table_len": WORDS, "buf": BUFFER, "refusal": 0,
+            "reply": (b"!/1 " + OWN + b" " + reply).hex(), "table": sorted(before.items()), "after": sorted((before if after is None else after).items())}
+
+
+def own_rows():
+    rows, before = [], {}
+    for message, reply, after in SESSION:
+        rows.append(row(message, reply, before, after))
+        before = after
+    return rows + [row(*x) for x in SINGLE]
+
+
+# ---- the choice
+
+def marks(r):
+    """What a row shows: its kind, its refusal, the lengths lent, the codes of its reply and its reports, full tables, wildcards."""
+    kind = re.sub(r"byte \d+ ", "byte ", r["kind"])
+    found = {("kind", kind), ("refusal", r["refusal"]), ("table", r["table_len"]), ("buffer", r["buf"])}
+    reply, message, words = bytes.fromhex(r["reply"]), bytes.fromhex(r["message"]), dict(map(tuple, r["table"]))
+    found |= {("code", c.decode()) for c in re.findall(rb"ER=(\d+)", reply)}
+    found |= {("report", c.decode()) for c in re.findall(rb"[{,]([A-Z]+=[A-Z$*])", reply)}
+    found |= {("failed", c) for c in re.findall(rb"([A-Z]+)=[^{},]+\{ER=(\d+)", reply)}
+    found |= {("wildcard", c.upper()) for c in re.findall(rb"=([A-Za-z]/(?:[0-9]/)?\*|\*)(?=[{},])", message)}
+    found.add(("contexts", sum(1 for i in words if i >= 624) // 32))
+    found.add(("ephemerals", sum(1 for i in words if 248 <= i < 312) // 16))
+    return found
+
+
+def choose(rows, room):
+    rows = [r for r in rows if r["table_len"] <= 1000 and r["buf"] <= 20000 and all(v < 100000 for _, v in r["table"])]
+    random.Random(1).shuffle(rows)
+    edges = [r for r in rows if r["kind"].startswith("e") and not r["kind"].startswith("e byte ")]
+    edges = [r for r in edges if not re.search(r"reply of 20(4[0-6]|5[1-9]|6)", r["kind"])]
+    rest = [r for r in rows if r["kind"][0] != "e" or r["kind"].startswith("e byte ")]
+    rest = sorted((r for r in rest if len(r["message"]) // 2 <= LONGEST), key=lambda r: len(record(r)) // 1000)
+    have, taken = collections.Counter(), []
+    for r in edges + rest:
+        few = FEW if len(record(r)) < 1000 else 4
+        if any(have[m] < few for m in marks(r)) and len(record(r)) <= room:
+            room -= len(record(r))
+            taken.append(r)
+            have.update(marks(r))
+    return taken
+
+
+def main():
+    rows = [json.loads(line) for line in open(sys.argv[1])]
+    own = own_rows()
+    taken = own + choose(rows, ROOM - sum(len(record(r)) for r in own))
+    crate = os.path.join("crates", "calls_run")
+    with open(os.path.join(crate, "stdin"), "wb") as f:
+        f.write(b"".join(record(r) for r in taken))
+    with open(os.path.join(crate, "stdout"), "wb") as f:
+        f.write(b"".join(told(k, r) for k, r in enumerate(taken, 1)))
+    shown = collections.Counter(m for r in taken for m in marks(r))
+    for what in ("code", "refusal", "report", "wildcard", "table", "buffer"):
+        print(what, " ".join("%s:%d" % (c.decode() if isinstance(c, bytes) else c, n) for (k, c), n in sorted(shown.items(), key=str) if k == what))
+    every = {m for r in rows for m in marks(r)}
+    print(len(taken), "calls; shown by no call:", sorted(map(str, every - set(shown))))
+
+
+main()
