@@ -4,8 +4,8 @@
 usage, from the root: tools/call_cases.py CALLS.jsonl
 
 Takes the rows at a boundary first, then rows that show a code, a refusal, a report or a kind that few before them show, as
-tools/evaluate.py does, and adds the calls of SESSION and SINGLE, which stand in this file with the replies and the tables that
-document 01 gives them. Nothing is taken from the program: a row's reply, its table and its buffer are the recorded ones.
+tools/evaluate.py does, and adds the calls of SESSION and SINGLE, which stand in this file: document 01 gives their replies and
+tables, or its rules decide them. Nothing is taken from the program: a row's reply, its table and its buffer are the recorded ones.
 
 Input, for each call: a line of 30 bytes (five numbers of five digits: the bytes of the own mId, the bytes of the message, the
 runs of equal words that are not 0, the words of the table, the bytes of the buffer), the own mId, the message, the runs
@@ -97,6 +97,7 @@ SINGLE = [
      {}, {248: 1, 624: 1}),
     # no context and no ephemeral left
     (b"T=1{C=${O-A=$,O-MV=L/1/1}}", b"P=1{C=${A=${ER=412{}},MV=L/1/1{ER=412{}}}}", ALL, None),
+    (b"T=1{C=${O-A=$,A=L/1/1}}", b"P=1{C=9{A=${ER=432{}},A=L/1/1}}", RINGS, {**RINGS, 0: 9, 632: 1}),
     # a reply of 2,048 bytes, and one of 2,049
     (b"T=1{C=5{" + b"O-A=" + (X64 + b",O-A=") * 26 + b"x" * 24 + b"}}",
      b"P=1{C=5{" + (b"A=" + X64 + b"{ER=411{}},") * 26 + b"A=" + b"x" * 24 + b"{ER=411{}}}}", {}, None),
@@ -138,7 +139,8 @@ def choose(rows, room):
     random.Random(1).shuffle(rows)
     edges = [r for r in rows if r["kind"].startswith("e") and not r["kind"].startswith("e byte ")]
     edges = [r for r in edges if not re.search(r"reply of 20(4[0-6]|5[1-9]|6)", r["kind"])]
-    rest = [r for r in rows if r["kind"][0] != "e" or r["kind"].startswith("e byte ")]
+    edges += [r for r in rows if r["table_len"] != WORDS]
+    rest = [r for r in rows if r["table_len"] == WORDS and (r["kind"][0] != "e" or r["kind"].startswith("e byte "))]
     rest = sorted((r for r in rest if len(r["message"]) // 2 <= LONGEST), key=lambda r: len(record(r)) // 1000)
     have, taken = collections.Counter(), []
     for r in edges + rest:
