@@ -4,8 +4,8 @@ ghost use mathlib.Core.Option.{some};
 ghost use lib.ListN.{length};
 ghost use Rattle.megaco.specs.Table.{words};
 ghost use Rattle.megaco.specs.Running.{opOf, tested, ordered, runCommand};
-ghost use Rattle.parts.specs.Found.{itemsFrom};
-ghost use Rattle.syntax.specs.Extraction.{commandOf};
+ghost use Rattle.parts.specs.Found.{itemsFrom, commandEndFrom};
+ghost use Rattle.syntax.specs.Extraction.{commandOf, commandEnd};
 ghost use Rattle.tries.specs.Contract.{Did};
 ghost use Rattle.commands.specs.Fails.{optionally, Failed};
 use megaco::Context;
@@ -13,6 +13,12 @@ use megaco::Op;
 use orders::Found;
 use parts::CommandPlaces;
 use tries::Went;
+
+// What a command leaves, and where its text ends.
+pub struct Passed {
+    pub went: Went,
+    pub end: usize,
+}
 
 // Tests 2 to 6.
 fn run_tested(
@@ -26,21 +32,26 @@ fn run_tested(
     table: &mut [u32],
     out: &mut [u8],
     p: usize,
-) -> Went
+) -> Passed
     requires { ⌜ length (now table) ≡ words ⌝ }
-    ensures { λ r. ⌜ Did (tested op (now (name .entry)) (itemsFrom (now (s .entry)) places) given at (now (table .entry))) first (now (out .entry)) p (now (table .exit)) (now (out .exit)) r ⌝ }
+    ensures { λ r. ⌜ Did (tested op (now (name .entry)) (itemsFrom (now (s .entry)) places) given at (now (table .entry))) first (now (out .entry)) p (now (table .exit)) (now (out .exit)) (r .went) × (r .end ≡ commandEndFrom (now (s .entry)) places) ⌝ }
 {
     let held = orders::held_at(table, at);
     if orders::is_lost(op, at, held) {
         let n = tries::put_received(out, p, first, op, name, 411);
-        return Went {
+        let w = Went {
             next: n,
             at: at,
             going: false,
         };
+        return Passed {
+            went: w,
+            end: parts::command_end(s, places),
+        };
     }
-    let judged = items::judge_items(s, places, aims::is_subtract(op));
-    orders::run_judged(
+    let x = items::judge_items(s, places, aims::is_subtract(op));
+    let judged = x.judged;
+    let w = orders::run_judged(
         op,
         name,
         places.braces,
@@ -51,7 +62,11 @@ fn run_tested(
         table,
         out,
         p,
-    )
+    );
+    Passed {
+        went: w,
+        end: x.end,
+    }
 }
 
 // The transaction goes on after an optional command that failed.
@@ -79,6 +94,25 @@ pub fn fail(code: u32, at: Context, first: bool, out: &mut [u8], p: usize) -> We
     }
 }
 
+// An action error of a command.
+fn fail_command(
+    s: &[u8],
+    places: CommandPlaces,
+    code: u32,
+    at: Context,
+    first: bool,
+    out: &mut [u8],
+    p: usize,
+) -> Passed
+    ensures { λ r. ⌜ Failed code at first (now (out .entry)) p (now (out .exit)) (r .went) × (r .end ≡ commandEndFrom (now (s .entry)) places) ⌝ }
+{
+    let w = fail(code, at, first, out, p);
+    Passed {
+        went: w,
+        end: parts::command_end(s, places),
+    }
+}
+
 // A command that is built: test 1's 421, then the others.
 fn run_built(
     s: &[u8],
@@ -91,15 +125,19 @@ fn run_built(
     table: &mut [u32],
     out: &mut [u8],
     p: usize,
-) -> Went
+) -> Passed
     requires { ⌜ length (now table) ≡ words ⌝ }
-    ensures { λ r. ⌜ Did (ordered (places .optional) (some op) (now (name .entry)) (itemsFrom (now (s .entry)) places) given at (now (table .entry))) first (now (out .entry)) p (now (table .exit)) (now (out .exit)) r ⌝ }
+    ensures { λ r. ⌜ Did (ordered (places .optional) (some op) (now (name .entry)) (itemsFrom (now (s .entry)) places) given at (now (table .entry))) first (now (out .entry)) p (now (table .exit)) (now (out .exit)) (r .went) × (r .end ≡ commandEndFrom (now (s .entry)) places) ⌝ }
 {
     if orders::is_barred(op, at) {
-        return fail(421, at, first, out, p);
+        return fail_command(s, places, 421, at, first, out, p);
     }
-    let w = run_tested(s, places, op, name, given, at, first, table, out, p);
-    past_optional(places.optional, w)
+    let x = run_tested(s, places, op, name, given, at, first, table, out, p);
+    let w = x.went;
+    Passed {
+        went: past_optional(places.optional, w),
+        end: x.end,
+    }
 }
 
 // A command whose parts are found.
@@ -114,14 +152,14 @@ fn run_found(
     table: &mut [u32],
     out: &mut [u8],
     p: usize,
-) -> Went
+) -> Passed
     requires { ⌜ length (now table) ≡ words ⌝ }
-    ensures { λ r. ⌜ Did (ordered (places .optional) (opOf (places .wild) (now (word .entry))) (now (name .entry)) (itemsFrom (now (s .entry)) places) given at (now (table .entry))) first (now (out .entry)) p (now (table .exit)) (now (out .exit)) r ⌝ }
+    ensures { λ r. ⌜ Did (ordered (places .optional) (opOf (places .wild) (now (word .entry))) (now (name .entry)) (itemsFrom (now (s .entry)) places) given at (now (table .entry))) first (now (out .entry)) p (now (table .exit)) (now (out .exit)) (r .went) × (r .end ≡ commandEndFrom (now (s .entry)) places) ⌝ }
 {
     let f = orders::op_of(places.wild, word);
     match f {
         Found::Built(op) => run_built(s, places, op, name, given, at, first, table, out, p),
-        Found::Unbuilt => fail(443, at, first, out, p),
+        Found::Unbuilt => fail_command(s, places, 443, at, first, out, p),
     }
 }
 
@@ -135,9 +173,9 @@ pub fn run_command(
     table: &mut [u32],
     out: &mut [u8],
     p: usize,
-) -> Went
+) -> Passed
     requires { ⌜ length (now table) ≡ words ⌝ }
-    ensures { λ r. ⌜ Did (runCommand (commandOf (now (s .entry)) i) given at (now (table .entry))) first (now (out .entry)) p (now (table .exit)) (now (out .exit)) r ⌝ }
+    ensures { λ r. ⌜ Did (runCommand (commandOf (now (s .entry)) i) given at (now (table .entry))) first (now (out .entry)) p (now (table .exit)) (now (out .exit)) (r .went) × (r .end ≡ commandEnd (now (s .entry)) i) ⌝ }
 {
     let places = parts::command_places(s, i);
     let word = places.word;

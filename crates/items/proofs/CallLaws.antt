@@ -1,13 +1,14 @@
 -- What the calls and the arms of a function tell of its result, in the form in which `search` uses it.
 use Prim.Native.Nat.{ℕ}
-use mathlib.Core.Path.{_≡_}
+use mathlib.Core.Path.{_≡_, sym, ap, _∙_}
 use mathlib.Core.Bool.{Bool, true, false}
 use mathlib.Core.List.{List}
 use mathlib.Core.Option.{some}
+use native.Mathlib.Omega.{arith}
 use borrow.Author.Tests.{ne-eqb}
 use Rattle.base.specs.Pick.{pick}
 use Rattle.base.specs.Lists.{isAt}
-use Rattle.megaco.specs.Bytes.{comma}
+use Rattle.megaco.specs.Bytes.{comma, rightBrace}
 use Rattle.megaco.specs.Tree.{plain, ItemOf}
 use Rattle.megaco.specs.Items.{modeGiven, stateGiven, propertyToken, valueGiven, setValue, propertyItems, topItems, unchanged, judgeItems}
 use Rattle.megaco.specs.declared.Parsed.the-variants.{Next, Fault}
@@ -19,11 +20,12 @@ use Rattle.megaco.specs.declared.Judged.the-variants.{Wrong, Right}
 use Rattle.megaco.specs.declared.Kind.{Kind}
 use Rattle.megaco.specs.declared.Kind.the-variants.{InControl, InState}
 use Rattle.megaco.specs.declared.Values.{Values}
-use Rattle.syntax.specs.Extraction.{pastSign, bracesEnd, itemsOf}
+use Rattle.syntax.specs.Extraction.{pastSign, itemsOf, itemsEnd}
 use Rattle.parts.specs.declared.ItemPlaces.{ItemPlaces}
 use Rattle.parts.specs.declared.CommandPlaces.{CommandPlaces}
-use Rattle.parts.specs.Found.{itemsFrom}
-use Rattle.items.specs.Judging.{calledBy, valueBy, nextOf, itemCode, judgedBy, kindOf}
+use Rattle.parts.specs.Found.{itemsFrom, commandEndFrom}
+use Rattle.items.specs.declared.JudgedItems.{JudgedItems}
+use Rattle.items.specs.Judging.{calledBy, valueBy, nextAt, itemCode, judgedBy, kindOf, Known, closedBy}
 
 -- ---- values
 
@@ -73,14 +75,36 @@ module _ (s : List ℕ) (p : ItemPlaces) (k : Kind) where
 pub inside-kind : {A : Type 0} (c : Bool) (k : Kind) (is : List (ItemOf A)) (seen : Bool) (vs : Values) (r : Judged) → k ≡ kindOf c → r ≡ propertyItems k is seen vs → r ≡ propertyItems (kindOf c) is seen vs
 inside-kind c k is seen vs r e h = rw (← e) h
 
-module _ (k : ℕ) (s : List ℕ) (p : ItemPlaces) (e : ℕ) (x : Bool) (d : e ≡ bracesEnd k s (p .value .end)) (g : x ≡ isAt s e comma) where
-  pub next-one : (u : ℕ) → x ≡ true → u ≡ pastSign comma s e → Next u ≡ nextOf k s p
-  unfolding nextOf pick
-  next-one u t h = rw (← d, ← g, t, h)
+module _ (s : List ℕ) (e : ℕ) (x : Bool) (g : x ≡ isAt s e comma) where
+  pub next-one : (u : ℕ) → x ≡ true → u ≡ pastSign comma s e → Next u ≡ nextAt s e
+  unfolding nextAt pick
+  next-one u t h = rw (← g, t, h)
 
-  pub next-none : x ≡ false → Fault ≡ nextOf k s p
-  unfolding nextOf pick
-  next-none f = rw (← d, ← g, f)
+  pub next-none : x ≡ false → Fault ≡ nextAt s e
+  unfolding nextAt pick
+  next-none f = rw (← g, f)
+
+-- ---- ends
+
+module _ (e : ℕ) (r : JudgedItems) where
+  pub known-by : r .end ≡ e → Known e r
+  known-by h = record { at = λ vs w. h }
+
+  pub known-wrong : (code : ℕ) → r .judged ≡ Wrong code → Known e r
+  known-wrong code h = record { at = λ vs w. (let z : _≡_ {A = ℕ} 0 1 = cc in absurd (omega arith)) }
+
+pub closed-is : (s : List ℕ) (x : JudgedItems) (e : ℕ) → e ≡ pastSign rightBrace s (x .end) → record { judged = x .judged; end = e } ≡ closedBy s x
+unfolding closedBy
+closed-is s x e h = rw h
+
+module _ (s : List ℕ) (x y : JudgedItems) (h : y ≡ closedBy s x) where
+  pub closed-judged : (j : Judged) → x .judged ≡ j → y .judged ≡ j
+  unfolding closedBy
+  closed-judged j e = rw h e
+
+  pub closed-known : (e : ℕ) → Known e x → Known (pastSign rightBrace s e) y
+  unfolding closedBy
+  closed-known e k = record { at = λ vs w. ap (λ (z : JudgedItems). z .end) h ∙ ap (pastSign rightBrace s) (k .at vs (sym (ap (λ (z : JudgedItems). z .judged) h) ∙ w)) }
 
 -- ---- a command's items
 
@@ -96,3 +120,15 @@ module _ (s : List ℕ) (p : CommandPlaces) (subtracts : Bool) where
   pub judge-none : p .braces ≡ false → Right unchanged ≡ judgeItems subtracts (itemsFrom s p)
   unfolding judgeItems itemsFrom pick
   judge-none b = rw b
+
+  pub judge-known : (y : JudgedItems) → p .braces ≡ true → Known (pastSign rightBrace s (itemsEnd 8 s (p .inside))) y → Known (commandEndFrom s p) y
+  unfolding commandEndFrom pick
+  judge-known y b k = rw b k
+
+  pub judge-end : p .braces ≡ false → p .end ≡ commandEndFrom s p
+  unfolding commandEndFrom pick
+  judge-end b = rw b
+
+-- where a command ends
+pub end-known : (e : ℕ) (x : JudgedItems) (vs : Values) → x .judged ≡ Right vs → Known e x → x .end ≡ e
+end-known e x vs w k = k .at vs w

@@ -18,11 +18,10 @@ use Rattle.megaco.specs.declared.Judged.{Judged}
 use Rattle.megaco.specs.declared.Judged.the-variants.{Wrong, Right}
 use Rattle.megaco.specs.declared.Kind.{Kind}
 use Rattle.megaco.specs.declared.Values.{Values}
-use Rattle.syntax.specs.Extraction.{pastSign, listOf, headEnd, itemOf, itemEnd, itemsOf}
-use Rattle.parts.specs.declared.ItemPlaces.{ItemPlaces}
-use Rattle.parts.specs.Found.{OfItem}
+use Rattle.syntax.specs.Extraction.{pastSign, listOf, listEnd, itemOf, itemEnd, itemsEnd, itemsOf}
+use Rattle.parts.proofs.EndLaws.{all-end-last, all-end-more}
 use Rattle.items.specs.declared.Descriptors.{Descriptors}
-use Rattle.items.specs.Judging.{nextOf, kindOf, stoodAfter}
+use Rattle.items.specs.Judging.{nextAt, kindOf, stoodAfter}
 use Rattle.items.proofs.OneLaws.{by-kind, mediaAll, stoodNext}
 
 -- ---- a list as its items one by one: `f` judges a list, `next` tells what stood before the item after this one
@@ -80,7 +79,7 @@ media-turn (item w x v is) xs stood vs =
 -- ---- the items from a place on, of which n were judged before
 
 unfoldable pub itemsLeft : {A : Type 0} → (ℕ → List A) → ℕ → List ℕ → ℕ → ℕ → List (ItemOf A)
-itemsLeft inner k s n i = listOf (itemOf inner s) (itemEnd k s) s (length s + 1 - n) i
+itemsLeft inner k s n i = listOf (itemOf inner s) (itemEnd (itemsEnd k s) s) s (length s + 1 - n) i
 
 module _ {A : Type 0} (inner : ℕ → List A) (k : ℕ) (s : List ℕ) (n i : ℕ) where
   left-none : length s < n → itemsLeft inner k s n i ≡ []
@@ -88,18 +87,21 @@ module _ {A : Type 0} (inner : ℕ → List A) (k : ℕ) (s : List ℕ) (n i : �
   left-none h = let z : length s + 1 - n ≡ 0 = omega arith in rw z
 
   module _ (h : n ≤ length s) where
-    left-some : itemsLeft inner k s n i ≡ itemOf inner s i ∷ pick (isAt s (itemEnd k s i) comma) (itemsLeft inner k s (n + 1) (pastSign comma s (itemEnd k s i))) []
+    abbrev ends : ℕ
+    ends = itemEnd (itemsEnd k s) s i
+
+    left-some : itemsLeft inner k s n i ≡ itemOf inner s i ∷ pick (isAt s ends comma) (itemsLeft inner k s (n + 1) (pastSign comma s ends)) []
     unfolding itemsLeft listOf
     left-some = let z : length s + 1 - n ≡ suc (length s + 1 - (n + 1)) = omega arith in rw z
 
-    module _ (p : ItemPlaces) (x : Parsed) (o : OfItem s i p) (g : x ≡ nextOf k s p) where
-      follows : x ≡ pick (isAt s (itemEnd k s i) comma) (Next (pastSign comma s (itemEnd k s i))) Fault
-      unfolding nextOf itemEnd headEnd
-      follows = g ∙ rw (o .value .end)
+    module _ (e : ℕ) (x : Parsed) (o : e ≡ ends) (g : x ≡ nextAt s e) where
+      follows : x ≡ pick (isAt s ends comma) (Next (pastSign comma s ends)) Fault
+      unfolding nextAt
+      follows = g ∙ rw o
 
       left-one : x ≡ Fault → itemsLeft inner k s n i ≡ itemOf inner s i ∷ []
       unfolding pick
-      left-one w = left-some ∙ by (isAt s (itemEnd k s i) comma) (pastSign comma s (itemEnd k s i)) follows
+      left-one w = left-some ∙ by (isAt s ends comma) (pastSign comma s ends) follows
         where
           by : (t : Bool) (z : ℕ) → x ≡ pick t (Next z) Fault → itemOf inner s i ∷ pick t (itemsLeft inner k s (n + 1) z) [] ≡ itemOf inner s i ∷ []
           by true z e = let c : _≡_ {A = ℕ} 0 1 = cc in absurd (omega arith)
@@ -107,7 +109,7 @@ module _ {A : Type 0} (inner : ℕ → List A) (k : ℕ) (s : List ℕ) (n i : �
 
       left-more : (u : ℕ) → x ≡ Next u → itemsLeft inner k s n i ≡ itemOf inner s i ∷ itemsLeft inner k s (n + 1) u
       unfolding pick
-      left-more u w = left-some ∙ by (isAt s (itemEnd k s i) comma) (pastSign comma s (itemEnd k s i)) follows
+      left-more u w = left-some ∙ by (isAt s ends comma) (pastSign comma s ends) follows
         where
           by : (t : Bool) (z : ℕ) → x ≡ pick t (Next z) Fault → itemOf inner s i ∷ pick t (itemsLeft inner k s (n + 1) z) [] ≡ itemOf inner s i ∷ itemsLeft inner k s (n + 1) u
           by true z e = let c : z ≡ u = cc in rw c
@@ -147,11 +149,37 @@ module _ {A S : Type 0} (f : List (ItemOf A) → S → Values → Judged) (next 
     unfolding judgeAll onward
     all-wrong code w = w ∙ sym (inv ∙ rw (left-some inner k s n i h, ← e, w))
 
-    module _ (us : Values) (r : j ≡ Right us) (p : ItemPlaces) (x : Parsed) (o : OfItem s i p) (g : x ≡ nextOf k s p) where
+    module _ (us : Values) (r : j ≡ Right us) (y : ℕ) (x : Parsed) (o : y ≡ itemEnd (itemsEnd k s) s i) (g : x ≡ nextAt s y) where
       pub all-last : x ≡ Fault → Right us ≡ q
       unfolding judgeAll onward
-      all-last w = sym (inv ∙ rw (left-one inner k s n i h p x o g w, ← e, r))
+      all-last w = sym (inv ∙ rw (left-one inner k s n i h y x o g w, ← e, r))
+
+      pub all-right : x ≡ Fault → j ≡ q
+      all-right w = r ∙ all-last w
 
       pub all-more : (u : ℕ) (stood′ : S) → x ≡ Next u → stood′ ≡ next (itemOf inner s i) stood → q ≡ judgeAll f next (itemsLeft inner k s (n + 1) u) stood′ us
       unfolding judgeAll onward
-      all-more u stood′ w m = inv ∙ rw (left-more inner k s n i h p x o g u w, ← e, r, ← m)
+      all-more u stood′ w m = inv ∙ rw (left-more inner k s n i h y x o g u w, ← e, r, ← m)
+
+-- ---- where it ends: q is the end of all
+
+pub items-begin : (k : ℕ) (s : List ℕ) (at : ℕ) → itemsEnd (suc k) s at ≡ listEnd (itemEnd (itemsEnd k s) s) s (length s + 1 - 0) at
+unfolding itemsEnd unlimited
+items-begin k s at = let z : length s + 1 - 0 ≡ length s + 1 = omega arith in rw z
+
+module _ (end : ℕ → ℕ) (s : List ℕ) (n i q : ℕ) (inv : q ≡ listEnd end s (length s + 1 - n) i) (h : n ≤ length s) (e : ℕ) (d : e ≡ end i) (x : Parsed) (g : x ≡ nextAt s e) where
+  pub ends-last : x ≡ Fault → e ≡ q
+  unfolding nextAt pick
+  ends-last w = by (isAt s e comma) refl g
+    where
+      by : (b : Bool) → b ≡ isAt s e comma → x ≡ pick b (Next (pastSign comma s e)) Fault → e ≡ q
+      by true t c = let z : _≡_ {A = ℕ} 0 1 = cc in absurd (omega arith)
+      by false t c = all-end-last end s n i q inv h e d false t refl
+
+  pub ends-more : (u : ℕ) → x ≡ Next u → q ≡ listEnd end s (length s + 1 - (n + 1)) u
+  unfolding nextAt pick
+  ends-more u w = by (isAt s e comma) refl g
+    where
+      by : (b : Bool) → b ≡ isAt s e comma → x ≡ pick b (Next (pastSign comma s e)) Fault → q ≡ listEnd end s (length s + 1 - (n + 1)) u
+      by true t c = let z : u ≡ pastSign comma s e = cc in all-end-more end s n i q inv h e d true t u refl z
+      by false t c = let z : _≡_ {A = ℕ} 0 1 = cc in absurd (omega arith)

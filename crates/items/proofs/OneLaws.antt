@@ -4,9 +4,11 @@ use mathlib.Core.Path.{_≡_, refl, sym, ap, _∙_}
 use mathlib.Core.Bool.{Bool, true, false, not, _&&_, _||_}
 use mathlib.Core.List.{List, [], _∷_}
 use mathlib.Core.Option.{none, some}
+use native.Mathlib.Omega.{arith}
 use lib.Dec.{eqb}
 use Rattle.base.specs.Pick.{pick}
 use Rattle.base.proofs.TestLaws.{and-left, and-right}
+use Rattle.megaco.specs.Bytes.{rightBrace}
 use Rattle.megaco.specs.Keywords.{spells}
 use Rattle.megaco.specs.Tree.{plain, quoted, ItemOf, item, Item}
 use Rattle.megaco.specs.Items.{onward, called, given?, descriptorShape, propertyShape, valueGiven, setValue, propertyItems, itemsIn, mediaItems, topItems}
@@ -18,13 +20,14 @@ use Rattle.megaco.specs.declared.Judged.the-variants.{Wrong, Right}
 use Rattle.megaco.specs.declared.Kind.{Kind}
 use Rattle.megaco.specs.declared.Kind.the-variants.{InControl, InState}
 use Rattle.megaco.specs.declared.Values.{Values}
-use Rattle.syntax.specs.Extraction.{itemOf, itemsOf}
+use Rattle.syntax.specs.Extraction.{pastSign, itemOf, itemEnd, itemsEnd, itemsOf}
 use Rattle.parts.specs.declared.ValuePlaces.{ValuePlaces}
 use Rattle.parts.specs.declared.ItemPlaces.{ItemPlaces}
 use Rattle.parts.specs.Found.{inQuotes, bytesOf, valueFrom, OfItem, itemFrom}
-use Rattle.parts.proofs.PlaceLaws.{item-is}
+use Rattle.parts.proofs.PlaceLaws.{item-is, item-braced, item-plain}
+use Rattle.items.specs.declared.JudgedItems.{JudgedItems}
 use Rattle.items.specs.declared.Descriptors.{Descriptors}
-use Rattle.items.specs.Judging.{calledBy, valueBy, itemCode, judgedBy, descriptorShapeBy, propertyShapeBy, propertyBy, calledIn, kindOf, stoodAfter, mediaBy, topBy}
+use Rattle.items.specs.Judging.{calledBy, valueBy, itemCode, judgedBy, descriptorShapeBy, propertyShapeBy, propertyBy, calledIn, kindOf, stoodAfter, mediaBy, topBy, Known}
 
 -- ---- what the parts tell
 
@@ -112,6 +115,41 @@ module _ (s : List ℕ) (at : ℕ) (p : ItemPlaces) (h : OfItem s at p) (vs : Va
   top-one seen e =
       e ∙ sym (rw (item-is (itemsOf 7 s) s at p h, called-second, given-value, given-pick)
       (alone 444 _ seen (descriptorShapeBy p) _ _ refl (λ t. rw (items-in (p .braces) (itemsOf 7 s (p .inside)) (and-right (not (p .value .given)) (p .braces) t)))))
+
+-- ---- where an item ends that nothing is wrong with
+
+-- its shape is right
+shaped : (code : ℕ) (b seen g : Bool) (y : Judged) (us : Values) → eqb code 0 ≡ false → judgedBy (itemCode code b seen g) y ≡ Right us → g ≡ true
+unfolding judgedBy itemCode pick
+shaped code false seen g y us n e = let z : Wrong code ≡ Right us = rw n at e in absurd (let w : _≡_ {A = ℕ} 0 1 = cc in omega arith)
+shaped code true true g y us n e = absurd (let w : _≡_ {A = ℕ} 0 1 = cc in omega arith)
+shaped code true false false y us n e = absurd (let w : _≡_ {A = ℕ} 0 1 = cc in omega arith)
+shaped code true false true y us n e = refl
+
+module _ (s : List ℕ) (at : ℕ) (p : ItemPlaces) (h : OfItem s at p) (vs : Values) where
+  -- a property where its value does
+  pub property-ends : (end : ℕ → ℕ) (k : Kind) (seen : Bool) (j : Judged) (us : Values) → j ≡ propertyBy k seen vs s p → j ≡ Right us → p .value .end ≡ itemEnd end s at
+  unfolding propertyBy
+  property-ends end k seen j us e r =
+      item-plain end s at p h (not-true (p .braces) (and-right (p .value .given) (not (p .braces)) (shaped 445 _ seen (propertyShapeBy p) _ us refl (sym e ∙ r))))
+    where
+      not-true : (b : Bool) → not b ≡ true → b ≡ false
+      not-true true n = absurd (let w : _≡_ {A = ℕ} 0 1 = cc in omega arith)
+      not-true false n = refl
+
+  -- a descriptor where its braces do
+  described : (end : ℕ → ℕ) (y : JudgedItems) (us : Values) → descriptorShapeBy p ≡ true → y .judged ≡ Right us → Known (pastSign rightBrace s (end (p .inside))) y → y .end ≡ itemEnd end s at
+  described end y us g r k = item-braced end s at p h (end (p .inside)) (y .end) (and-right (not (p .value .given)) (p .braces) g) refl (k .at us r)
+
+  pub media-ends : (c stood : Descriptors) (y : JudgedItems) (us : Values) → y .judged ≡ mediaBy c stood vs s p → y .judged ≡ Right us → Known (pastSign rightBrace s (itemsEnd 6 s (p .inside))) y
+      → y .end ≡ itemEnd (itemsEnd 6 s) s at
+  unfolding mediaBy
+  media-ends c stood y us e r k = described (itemsEnd 6 s) y us (shaped 444 _ _ (descriptorShapeBy p) _ us refl (sym e ∙ r)) r k
+
+  pub top-ends : (seen : Bool) (y : JudgedItems) (us : Values) → y .judged ≡ topBy seen vs s p → y .judged ≡ Right us → Known (pastSign rightBrace s (itemsEnd 7 s (p .inside))) y
+      → y .end ≡ itemEnd (itemsEnd 7 s) s at
+  unfolding topBy
+  top-ends seen y us e r k = described (itemsEnd 7 s) y us (shaped 444 _ seen (descriptorShapeBy p) _ us refl (sym e ∙ r)) r k
 
 pub stood-next : {A : Type 0} (inner : ℕ → List A) (s : List ℕ) (at : ℕ) (p : ItemPlaces) (c stood r : Descriptors) → OfItem s at p → c ≡ calledIn s p → r ≡ stoodAfter (c .control) stood
     → r ≡ stoodNext (itemOf inner s at) stood

@@ -1,5 +1,6 @@
 -- What is judged of one item, told by its parts (crate `parts`): the definition with the tests of the code.
 use Prim.Native.Nat.{ℕ, _≤_}
+use mathlib.Core.Path.{_≡_}
 use mathlib.Core.Bool.{Bool, false, not, _&&_, _||_}
 use mathlib.Core.List.{List}
 use mathlib.Core.Option.{some}
@@ -7,7 +8,7 @@ use lib.ListN.{length}
 use lib.Dec.{eqb}
 use Rattle.base.specs.Pick.{pick}
 use Rattle.base.specs.Lists.{isAt}
-use Rattle.megaco.specs.Bytes.{comma}
+use Rattle.megaco.specs.Bytes.{comma, rightBrace}
 use Rattle.megaco.specs.Keywords.{spells}
 use Rattle.megaco.specs.Tree.{plain}
 use Rattle.megaco.specs.Items.{propertyToken, valueGiven, setValue, propertyItems, mediaItems}
@@ -18,14 +19,15 @@ use Rattle.megaco.specs.declared.Token.the-variants.{MediaToken, LocalControlTo
 use Rattle.megaco.specs.declared.Given.{Given}
 use Rattle.megaco.specs.declared.Given.the-variants.{Keep}
 use Rattle.megaco.specs.declared.Judged.{Judged}
-use Rattle.megaco.specs.declared.Judged.the-variants.{Wrong}
+use Rattle.megaco.specs.declared.Judged.the-variants.{Wrong, Right}
 use Rattle.megaco.specs.declared.Kind.{Kind}
 use Rattle.megaco.specs.declared.Kind.the-variants.{InControl, InState}
 use Rattle.megaco.specs.declared.Values.{Values}
-use Rattle.syntax.specs.Extraction.{pastSign, bracesEnd, itemsOf}
+use Rattle.syntax.specs.Extraction.{pastSign, itemsOf}
 use Rattle.parts.specs.declared.ItemPlaces.{ItemPlaces}
 use Rattle.parts.specs.Found.{bytesOf}
 use Rattle.items.specs.declared.Descriptors.{Descriptors}
+use Rattle.items.specs.declared.JudgedItems.{JudgedItems}
 
 -- an item's word and its plain value lie within the message
 pub record Lies (s : List ℕ) (p : ItemPlaces) : Type 0 where
@@ -42,9 +44,17 @@ calledBy k s p = not (p .second) && spells k (bytesOf s (p .word))
 unfoldable pub valueBy : Kind → List ℕ → ItemPlaces → Given
 valueBy k s p = pick (p .value .quoted) Keep (valueGiven k (some (plain (bytesOf s (p .value .plain)))))
 
--- behind the comma that follows an item of k levels
-unfoldable pub nextOf : ℕ → List ℕ → ItemPlaces → Parsed
-nextOf k s p = let e = bracesEnd k s (p .value .end) in pick (isAt s e comma) (Next (pastSign comma s e)) Fault
+-- behind the comma that follows an item, if one does
+unfoldable pub nextAt : List ℕ → ℕ → Parsed
+nextAt s e = pick (isAt s e comma) (Next (pastSign comma s e)) Fault
+
+-- where items end is known if nothing is wrong with them
+pub record Known (e : ℕ) (r : JudgedItems) : Type 0 where
+  pub at : (vs : Values) → r .judged ≡ Right vs → r .end ≡ e
+
+-- items and the brace that closes them
+unfoldable pub closedBy : List ℕ → JudgedItems → JudgedItems
+closedBy s x = record { judged = x .judged; end = pastSign rightBrace s (x .end) }
 
 -- ---- one item at each level
 

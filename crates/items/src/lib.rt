@@ -4,9 +4,10 @@ ghost use mathlib.Core.Bool.{false};
 ghost use mathlib.Core.Option.{some};
 ghost use Rattle.megaco.specs.Tree.{plain};
 ghost use Rattle.megaco.specs.Items.{modeGiven, stateGiven, propertyToken, valueGiven, setValue, propertyItems, mediaItems, topItems, judgeItems};
-ghost use Rattle.syntax.specs.Extraction.{itemsOf};
-ghost use Rattle.parts.specs.Found.{itemsFrom};
-ghost use Rattle.items.specs.Judging.{Lies, calledBy, itemCode, calledIn, kindOf, stoodAfter, valueBy, nextOf, propertyBy, mediaBy, topBy};
+ghost use Rattle.megaco.specs.Bytes.{rightBrace};
+ghost use Rattle.syntax.specs.Extraction.{pastSign, itemsOf, itemsEnd};
+ghost use Rattle.parts.specs.Found.{itemsFrom, commandEndFrom};
+ghost use Rattle.items.specs.Judging.{Lies, calledBy, itemCode, calledIn, kindOf, stoodAfter, valueBy, nextAt, propertyBy, mediaBy, topBy, Known, closedBy};
 use megaco::Given;
 use megaco::Judged;
 use megaco::Kind;
@@ -16,6 +17,12 @@ use megaco::Values;
 use parts::CommandPlaces;
 use parts::ItemPlaces;
 use parts::ValuePlaces;
+
+// What items are judged, and where they end if nothing is wrong with them.
+pub struct JudgedItems {
+    pub judged: Judged,
+    pub end: usize,
+}
 
 // A flag for LocalControl and one for TerminationState.
 pub struct Descriptors {
@@ -133,17 +140,26 @@ fn item_code(unknown: u32, known: bool, repeated: bool, shaped: bool) -> u32
     0
 }
 
-// Where the next item begins, if one follows this one, which may hold `left` levels.
-fn next_item(s: &[u8], p: ItemPlaces, left: usize) -> Parsed
-    ensures { λ r. ⌜ r ≡ nextOf left (now (s .entry)) p ⌝ }
+// Where the next item begins, if one follows the one that ends here.
+fn next_item(s: &[u8], e: usize) -> Parsed
+    ensures { λ r. ⌜ r ≡ nextAt (now (s .entry)) e ⌝ }
 {
-    let v = p.value;
-    let end = v.end;
-    let e = parts::braces_end(s, left, end);
     if text::is_at(s, e, 0x2c) {
         return Parsed::Next(parts::past_comma(s, e));
     }
     Parsed::Fault
+}
+
+// Items and the brace that closes them.
+fn closed(s: &[u8], x: JudgedItems) -> JudgedItems
+    ensures { λ r. ⌜ r ≡ closedBy (now (s .entry)) x ⌝ }
+{
+    let j = x.judged;
+    let e = x.end;
+    JudgedItems {
+        judged: j,
+        end: parts::past_closing(s, e),
+    }
 }
 
 // ---- in LocalControl and TerminationState
@@ -170,29 +186,34 @@ fn property_item(s: &[u8], p: ItemPlaces, k: Kind, seen: bool, values: Values) -
     Judged::Wrong(code)
 }
 
-fn property_items(s: &[u8], at: usize, k: Kind, values: Values) -> Judged
-    ensures { λ r. ⌜ r ≡ propertyItems k (itemsOf 6 (now (s .entry)) at) false values ⌝ }
+fn property_items(s: &[u8], at: usize, k: Kind, values: Values) -> JudgedItems
+    ensures { λ r. ⌜ (r .judged ≡ propertyItems k (itemsOf 6 (now (s .entry)) at) false values) × Known (itemsEnd 6 (now (s .entry)) at) r ⌝ }
 {
     let mut i = at;
     let mut n = 0;
     let mut seen = false;
     let mut vs = values;
     while n <= s.len() {
+        n += 1;
         let p = parts::item_places(s, i);
         let j = property_item(s, p, k, seen, vs);
         let Judged::Right(us) = j else {
-            return j;
+            return JudgedItems { judged: j, end: 0 };
         };
-        let x = next_item(s, p, 5);
+        let v = p.value;
+        let e = v.end;
+        let x = next_item(s, e);
         let Parsed::Next(u) = x else {
-            return j;
+            return JudgedItems { judged: j, end: e };
         };
         i = u;
         vs = us;
         seen = true;
-        n += 1;
     }
-    Judged::Right(vs)
+    JudgedItems {
+        judged: Judged::Right(vs),
+        end: i,
+    }
 }
 
 // ---- in Media
@@ -235,8 +256,8 @@ fn media_item(
     called: Descriptors,
     stood: Descriptors,
     values: Values,
-) -> Judged
-    ensures { λ r. ⌜ r ≡ mediaBy called stood values (now (s .entry)) p ⌝ }
+) -> JudgedItems
+    ensures { λ r. ⌜ (r .judged ≡ mediaBy called stood values (now (s .entry)) p) × Known (pastSign rightBrace (now (s .entry)) (itemsEnd 6 (now (s .entry)) (p .inside))) r ⌝ }
 {
     let v = p.value;
     let known = called.control | called.state;
@@ -244,13 +265,17 @@ fn media_item(
     let code = item_code(444, known, repeated, !v.given & p.braces);
     if code == 0 {
         let inside = p.inside;
-        return property_items(s, inside, kind_of(called.control), values);
+        let x = property_items(s, inside, kind_of(called.control), values);
+        return closed(s, x);
     }
-    Judged::Wrong(code)
+    JudgedItems {
+        judged: Judged::Wrong(code),
+        end: 0,
+    }
 }
 
-fn media_items(s: &[u8], at: usize, values: Values) -> Judged
-    ensures { λ r. ⌜ r ≡ mediaItems (itemsOf 7 (now (s .entry)) at) false false values ⌝ }
+fn media_items(s: &[u8], at: usize, values: Values) -> JudgedItems
+    ensures { λ r. ⌜ (r .judged ≡ mediaItems (itemsOf 7 (now (s .entry)) at) false false values) × Known (itemsEnd 7 (now (s .entry)) at) r ⌝ }
 {
     let mut i = at;
     let mut n = 0;
@@ -260,68 +285,96 @@ fn media_items(s: &[u8], at: usize, values: Values) -> Judged
     };
     let mut vs = values;
     while n <= s.len() {
+        n += 1;
         let p = parts::item_places(s, i);
         let called = media_called(s, p);
-        let j = media_item(s, p, called, stood, vs);
+        let y = media_item(s, p, called, stood, vs);
+        let j = y.judged;
         let Judged::Right(us) = j else {
-            return j;
+            return JudgedItems { judged: j, end: 0 };
         };
-        let x = next_item(s, p, 6);
+        let e = y.end;
+        let x = next_item(s, e);
         let Parsed::Next(u) = x else {
-            return j;
+            return y;
         };
         i = u;
         vs = us;
         stood = stood_after(stood, called);
-        n += 1;
     }
-    Judged::Right(vs)
+    JudgedItems {
+        judged: Judged::Right(vs),
+        end: i,
+    }
 }
 
 // ---- at the top
 
-fn top_item(s: &[u8], p: ItemPlaces, seen: bool, values: Values) -> Judged
+fn top_item(s: &[u8], p: ItemPlaces, seen: bool, values: Values) -> JudgedItems
     requires { ⌜ Lies (now s) p ⌝ }
-    ensures { λ r. ⌜ r ≡ topBy seen values (now (s .entry)) p ⌝ }
+    ensures { λ r. ⌜ (r .judged ≡ topBy seen values (now (s .entry)) p) × Known (pastSign rightBrace (now (s .entry)) (itemsEnd 7 (now (s .entry)) (p .inside))) r ⌝ }
 {
     let v = p.value;
     let known = item_called(s, p, Token::MediaToken);
     let code = item_code(444, known, seen, !v.given & p.braces);
     if code == 0 {
         let inside = p.inside;
-        return media_items(s, inside, values);
+        let x = media_items(s, inside, values);
+        return closed(s, x);
     }
-    Judged::Wrong(code)
+    JudgedItems {
+        judged: Judged::Wrong(code),
+        end: 0,
+    }
 }
 
-fn top_items(s: &[u8], at: usize, values: Values) -> Judged
-    ensures { λ r. ⌜ r ≡ topItems (itemsOf 8 (now (s .entry)) at) false values ⌝ }
+fn top_items(s: &[u8], at: usize, values: Values) -> JudgedItems
+    ensures { λ r. ⌜ (r .judged ≡ topItems (itemsOf 8 (now (s .entry)) at) false values) × Known (itemsEnd 8 (now (s .entry)) at) r ⌝ }
 {
     let mut i = at;
     let mut n = 0;
     let mut seen = false;
     let mut vs = values;
     while n <= s.len() {
+        n += 1;
         let p = parts::item_places(s, i);
-        let j = top_item(s, p, seen, vs);
+        let y = top_item(s, p, seen, vs);
+        let j = y.judged;
         let Judged::Right(us) = j else {
-            return j;
+            return JudgedItems { judged: j, end: 0 };
         };
-        let x = next_item(s, p, 7);
+        let e = y.end;
+        let x = next_item(s, e);
         let Parsed::Next(u) = x else {
-            return j;
+            return y;
         };
         i = u;
         vs = us;
         seen = true;
-        n += 1;
     }
-    Judged::Right(vs)
+    JudgedItems {
+        judged: Judged::Right(vs),
+        end: i,
+    }
 }
 
-// A command's items.
-pub fn judge_items(s: &[u8], p: CommandPlaces, subtracts: bool) -> Judged
-    ensures { λ r. ⌜ r ≡ judgeItems subtracts (itemsFrom (now (s .entry)) p) ⌝ }
+// ---- a command
+
+// Where a command ends: its items tell it, unless something is wrong with them.
+fn end_of_command(s: &[u8], p: CommandPlaces, x: JudgedItems) -> usize
+    requires { ⌜ Known (commandEndFrom (now s) p) x ⌝ }
+    ensures { λ r. ⌜ r ≡ commandEndFrom (now (s .entry)) p ⌝ }
+{
+    let j = x.judged;
+    match j {
+        Judged::Right(_) => x.end,
+        Judged::Wrong(_) => parts::command_end(s, p),
+    }
+}
+
+// A command's items by themselves.
+fn judge_inside(s: &[u8], p: CommandPlaces, subtracts: bool) -> JudgedItems
+    ensures { λ r. ⌜ (r .judged ≡ judgeItems subtracts (itemsFrom (now (s .entry)) p)) × Known (commandEndFrom (now (s .entry)) p) r ⌝ }
 {
     let none = Values {
         mode: Given::Keep,
@@ -329,10 +382,29 @@ pub fn judge_items(s: &[u8], p: CommandPlaces, subtracts: bool) -> Judged
     };
     if p.braces {
         if subtracts {
-            return Judged::Wrong(447);
+            return JudgedItems {
+                judged: Judged::Wrong(447),
+                end: 0,
+            };
         }
         let inside = p.inside;
-        return top_items(s, inside, none);
+        let x = top_items(s, inside, none);
+        return closed(s, x);
     }
-    Judged::Right(none)
+    JudgedItems {
+        judged: Judged::Right(none),
+        end: p.end,
+    }
+}
+
+// A command's items, and where it ends.
+pub fn judge_items(s: &[u8], p: CommandPlaces, subtracts: bool) -> JudgedItems
+    ensures { λ r. ⌜ (r .judged ≡ judgeItems subtracts (itemsFrom (now (s .entry)) p)) × (r .end ≡ commandEndFrom (now (s .entry)) p) ⌝ }
+{
+    let x = judge_inside(s, p, subtracts);
+    let j = x.judged;
+    JudgedItems {
+        judged: j,
+        end: end_of_command(s, p, x),
+    }
 }

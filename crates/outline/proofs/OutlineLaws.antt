@@ -20,7 +20,7 @@ use Rattle.megaco.specs.declared.Property.the-variants.{Priority, Emergency}
 use Rattle.megaco.specs.declared.Token.the-variants.{CtxToken, EmergencyToken}
 use Rattle.syntax.specs.declared.Rest.{Rest}
 use Rattle.syntax.specs.Places.{priorityAt, braceAt, identifierAt, versionAt}
-use Rattle.syntax.specs.Extraction.{endOf, valueIn, nextIn, pastWhite, pastSign, wordEnd, listEnd, contextStart, contextOf, contextEnd, bodyStart, propertyOf, propertyEnd, rest, restOf, restIn, bodyEnd, actionEnd, actionsStart, actionsEnd, closingEnd, transactionEnd, headerEnd}
+use Rattle.syntax.specs.Extraction.{endOf, valueIn, nextIn, pastWhite, pastSign, wordEnd, listEnd, listAfter, commandEnd, commandsEnd, contextStart, contextOf, contextEnd, bodyStart, propertyOf, propertyEnd, rest, restOf, restIn, bodyEnd, actionEnd, actionsStart, actionsEnd, closingEnd, transactionEnd, headerEnd}
 use Rattle.outline.specs.declared.ContextPlaces.{ContextPlaces}
 use Rattle.outline.specs.declared.ActionPlaces.{ActionPlaces}
 use Rattle.outline.specs.declared.PropertyPlaces.{PropertyPlaces}
@@ -121,27 +121,19 @@ module _ (s : List ℕ) (n i : ℕ) (q : Rest) (inv : q ≡ restOf (length s + 1
 
 -- ---- ends
 
--- a list, from the place that was reached
-module _ (end : ℕ → ℕ) (s : List ℕ) (k i q : ℕ) (inv : q ≡ listEnd end s k i) where
-  pub end-none : k ≤ 0 → i ≡ q
-  unfolding listEnd
-  end-none h = let z : k ≡ 0 = omega arith in sym (inv ∙ rw z)
+module _ (end : ℕ → ℕ) (s : List ℕ) (k e : ℕ) (x : Bool) (g : x ≡ isAt s e comma) where
+  pub after-more : (p r : ℕ) → x ≡ true → p ≡ pastSign comma s e → r ≡ listEnd end s k p → r ≡ listAfter end s k e
+  unfolding listAfter pick
+  after-more p r t a b = b ∙ rw (← g, t, a)
 
-  module _ (h : 0 < k) (e : ℕ) (d : e ≡ end i) (x : Bool) (g : x ≡ isAt s e comma) where
-    end-turn : q ≡ pick x (listEnd end s (k - 1) (pastSign comma s e)) e
-    unfolding listEnd
-    end-turn = let z : k ≡ suc (k - 1) = omega arith in by k (k - 1) z inv
-      where
-        by : (a b : ℕ) → a ≡ suc b → q ≡ listEnd end s a i → q ≡ pick x (listEnd end s b (pastSign comma s e)) e
-        by a b z f = rw (g, d) (rw z at f)
+  pub after-none : x ≡ false → e ≡ listAfter end s k e
+  unfolding listAfter pick
+  after-none f = rw (← g, f)
 
-    pub end-last : x ≡ false → e ≡ q
-    unfolding pick
-    end-last f = sym (end-turn ∙ rw f)
-
-    pub end-more : (u : ℕ) → x ≡ true → u ≡ pastSign comma s e → q ≡ listEnd end s (k - 1) u
-    unfolding pick
-    end-more u t l = end-turn ∙ rw (t, ← l)
+-- a body with commands
+pub body-commands : (s : List ℕ) (b : Rest) (r : ℕ) → b .commands ≡ true → r ≡ listEnd (commandEnd s) s 64 (b .at) → r ≡ bodyEnd s b
+unfolding bodyEnd commandsEnd pick
+body-commands s b r t e = e ∙ rw t
 
 pub action-ends : (s : List ℕ) (at e r : ℕ) (a : ActionPlaces) (b : Rest) → a ≡ actionPlaces s at → b ≡ restOf (unlimited s) s (a .body) → e ≡ bodyEnd s b → r ≡ pastSign rightBrace s e → r ≡ actionEnd s at
 unfolding actionEnd restIn actionPlaces

@@ -2,7 +2,7 @@
 // stands, what is found has no meaning.
 ghost use mathlib.Core.Path.{_≡_};
 ghost use Rattle.megaco.specs.Reading.{unlimited};
-ghost use Rattle.syntax.specs.Extraction.{valueIn, nextIn, commandEnd, commandsEnd, bodyEnd, restOf, actionEnd, actionsEnd, closingEnd, transactionEnd, headerEnd};
+ghost use Rattle.syntax.specs.Extraction.{valueIn, nextIn, listEnd, listAfter, commandEnd, bodyEnd, restOf, actionEnd, closingEnd, headerEnd};
 ghost use Rattle.outline.specs.Outline.{contextPlaces, actionPlaces, propertyPlaces, transactionPlaces};
 use megaco::Class;
 use megaco::Context;
@@ -149,20 +149,19 @@ pub fn rest_of(s: &[u8], at: usize) -> Rest
 
 // ---- ends
 
-pub fn command_end(s: &[u8], at: usize) -> usize
+fn command_end(s: &[u8], at: usize) -> usize
     ensures { λ r. ⌜ r ≡ commandEnd (now (s .entry)) at ⌝ }
 {
     let p = parts::command_places(s, at);
-    let e = p.end;
-    parts::braces_end(s, 8, e)
+    parts::command_end(s, p)
 }
 
-// The end of the commands that begin here.
-pub fn commands_end(s: &[u8], at: usize) -> usize
-    ensures { λ r. ⌜ r ≡ commandsEnd (now (s .entry)) at ⌝ }
+// The end of the commands, at most so many, that begin here.
+fn commands_end(s: &[u8], most: usize, at: usize) -> usize
+    ensures { λ r. ⌜ r ≡ listEnd (commandEnd (now (s .entry))) (now (s .entry)) most at ⌝ }
 {
     let mut i = at;
-    let mut left: usize = 64;
+    let mut left = most;
     while 0 < left {
         let e = command_end(s, i);
         if text::is_at(s, e, 0x2c) {
@@ -175,18 +174,28 @@ pub fn commands_end(s: &[u8], at: usize) -> usize
     i
 }
 
+// The end of the commands of which one ends here, and at most so many follow.
+pub fn commands_after(s: &[u8], most: usize, e: usize) -> usize
+    ensures { λ r. ⌜ r ≡ listAfter (commandEnd (now (s .entry))) (now (s .entry)) most e ⌝ }
+{
+    if text::is_at(s, e, 0x2c) {
+        return commands_end(s, most, parts::past_comma(s, e));
+    }
+    e
+}
+
 // The end of what stands in an action's braces, behind its properties.
 pub fn body_end(s: &[u8], r: Rest) -> usize
     ensures { λ e. ⌜ e ≡ bodyEnd (now (s .entry)) r ⌝ }
 {
     let at = r.at;
     if r.commands {
-        return commands_end(s, at);
+        return commands_end(s, 64, at);
     }
     at
 }
 
-pub fn action_end(s: &[u8], at: usize) -> usize
+fn action_end(s: &[u8], at: usize) -> usize
     ensures { λ r. ⌜ r ≡ actionEnd (now (s .entry)) at ⌝ }
 {
     let a = action_places(s, at);
@@ -194,12 +203,12 @@ pub fn action_end(s: &[u8], at: usize) -> usize
     parts::past_closing(s, body_end(s, rest_of(s, b)))
 }
 
-// The end of the actions that begin here.
-pub fn actions_end(s: &[u8], at: usize) -> usize
-    ensures { λ r. ⌜ r ≡ actionsEnd (now (s .entry)) at ⌝ }
+// The end of the actions, at most so many, that begin here.
+fn actions_end(s: &[u8], most: usize, at: usize) -> usize
+    ensures { λ r. ⌜ r ≡ listEnd (actionEnd (now (s .entry))) (now (s .entry)) most at ⌝ }
 {
     let mut i = at;
-    let mut left: usize = 16;
+    let mut left = most;
     while 0 < left {
         let e = action_end(s, i);
         if text::is_at(s, e, 0x2c) {
@@ -210,6 +219,16 @@ pub fn actions_end(s: &[u8], at: usize) -> usize
         }
     }
     i
+}
+
+// The end of the actions of which one ends here, and at most so many follow.
+pub fn actions_after(s: &[u8], most: usize, e: usize) -> usize
+    ensures { λ r. ⌜ r ≡ listAfter (actionEnd (now (s .entry))) (now (s .entry)) most e ⌝ }
+{
+    if text::is_at(s, e, 0x2c) {
+        return actions_end(s, most, parts::past_comma(s, e));
+    }
+    e
 }
 
 // ---- transactions
@@ -231,14 +250,6 @@ pub fn closing_end(s: &[u8], at: usize) -> usize
     ensures { λ r. ⌜ r ≡ closingEnd (now (s .entry)) at ⌝ }
 {
     parts::past_white(s, parts::end_of(text::mark(s, at, 0x7d)))
-}
-
-pub fn transaction_end(s: &[u8], at: usize) -> usize
-    ensures { λ r. ⌜ r ≡ transactionEnd (now (s .entry)) at ⌝ }
-{
-    let p = transaction_places(s, at);
-    let b = p.body;
-    closing_end(s, actions_end(s, b))
 }
 
 // Where the transactions begin.

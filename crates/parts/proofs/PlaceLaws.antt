@@ -1,6 +1,6 @@
 -- The parts that are found are those of the tree told by position.
 use Prim.Native.Nat.{ℕ, _+_}
-use mathlib.Core.Path.{_≡_, ap, _∙_}
+use mathlib.Core.Path.{_≡_, sym, ap, _∙_}
 use mathlib.Core.Bool.{Bool, true, false}
 use mathlib.Core.List.{List}
 use native.Mathlib.Omega.{arith}
@@ -8,7 +8,7 @@ use lib.Dec.{ltb}
 use borrow.Author.Tests.{lt-ltb, le-ltb}
 use Rattle.base.specs.Pick.{pick}
 use Rattle.base.specs.Lists.{isAt}
-use Rattle.megaco.specs.Bytes.{equal, leftBrace, slash, quote}
+use Rattle.megaco.specs.Bytes.{equal, leftBrace, rightBrace, slash, quote}
 use Rattle.megaco.specs.Tokens.{rowAt, valueAt, terminationAt}
 use Rattle.megaco.specs.Tree.{plain, quoted}
 use Rattle.megaco.specs.Reading.{valueOf, prefixAt, prefixEnd}
@@ -18,12 +18,12 @@ use Rattle.megaco.specs.declared.Class.the-variants.{WordByte}
 use Rattle.syntax.specs.declared.Piece.{Piece}
 use Rattle.syntax.specs.Places.{orderStart}
 use Rattle.syntax.specs.Pieces.{Holds}
-use Rattle.syntax.specs.Extraction.{bracesEnd, itemEnd, commandEnd, endOf, pastWhite, pastSign, wordEnd, secondEnd, equalPlace, valueEnd, valueItemEnd, headEnd, secondOf, valueItemOf, bracesOf, itemOf, orderEnd, nameStart, nameEnd, commandHeadEnd, commandOf}
+use Rattle.syntax.specs.Extraction.{bracesEnd, itemEnd, itemsEnd, commandEnd, endOf, pastWhite, pastSign, wordEnd, secondEnd, equalPlace, valueEnd, valueItemEnd, headEnd, secondOf, valueItemOf, bracesOf, itemOf, orderEnd, nameStart, nameEnd, commandHeadEnd, commandOf}
 use Rattle.parts.specs.declared.ValuePlaces.{ValuePlaces}
 use Rattle.parts.specs.declared.ItemPlaces.{ItemPlaces}
 use Rattle.parts.specs.declared.Marks.{Marks}
 use Rattle.parts.specs.declared.CommandPlaces.{CommandPlaces}
-use Rattle.parts.specs.Found.{inQuotes, valueFrom, OfValue, OfItem, itemFrom, marksOf, OfCommand, itemsFrom, commandFrom}
+use Rattle.parts.specs.Found.{inQuotes, valueFrom, OfValue, OfItem, itemFrom, marksOf, OfCommand, itemsFrom, commandFrom, commandEndFrom}
 
 -- where a reader stopped
 pub end-next : (x : Parsed) (p : ℕ) → x ≡ Next p → p ≡ endOf x
@@ -48,14 +48,29 @@ pub command-is : (s : List ℕ) (at : ℕ) (r : CommandPlaces) → OfCommand s a
 unfolding commandOf commandFrom itemsFrom bracesOf
 command-is s at r h = rw (h .optional, h .wild, h .word .bytes, h .name .bytes, h .braces, h .inside)
 
--- the braces end the part
-pub item-ends : (k : ℕ) (s : List ℕ) (at e : ℕ) (r : ItemPlaces) → OfItem s at r → e ≡ bracesEnd k s (r .value .end) → e ≡ itemEnd k s at
-unfolding itemEnd headEnd
-item-ends k s at e r h f = f ∙ rw (h .value .end)
+-- ---- ends: with braces, or where the part ends before them
 
-pub command-ends : (s : List ℕ) (at e : ℕ) (r : CommandPlaces) → OfCommand s at r → e ≡ bracesEnd 8 s (r .end) → e ≡ commandEnd s at
-unfolding commandEnd
-command-ends s at e r h f = f ∙ rw (h .end)
+module _ (end : ℕ → ℕ) (s : List ℕ) (at : ℕ) (r : ItemPlaces) (h : OfItem s at r) where
+  pub item-braced : (x e : ℕ) → r .braces ≡ true → x ≡ end (r .inside) → e ≡ pastSign rightBrace s x → e ≡ itemEnd end s at
+  unfolding itemEnd bracesEnd pick
+  item-braced x e b f g = g ∙ sym (rw (← h .braces, b, ← h .inside, ← f))
+
+  pub item-plain : r .braces ≡ false → r .value .end ≡ itemEnd end s at
+  unfolding itemEnd bracesEnd headEnd pick
+  item-plain b = h .value .end ∙ sym (rw (← (h .braces), b))
+
+module _ (s : List ℕ) (r : CommandPlaces) where
+  pub command-braced : (x e : ℕ) → r .braces ≡ true → x ≡ itemsEnd 8 s (r .inside) → e ≡ pastSign rightBrace s x → e ≡ commandEndFrom s r
+  unfolding commandEndFrom pick
+  command-braced x e b f g = g ∙ rw (b, f)
+
+  pub command-plain : r .braces ≡ false → r .end ≡ commandEndFrom s r
+  unfolding commandEndFrom pick
+  command-plain b = rw b
+
+pub command-ends : (s : List ℕ) (at e : ℕ) (r : CommandPlaces) → OfCommand s at r → e ≡ commandEndFrom s r → e ≡ commandEnd s at
+unfolding commandEnd commandEndFrom bracesEnd
+command-ends s at e r h f = f ∙ rw (h .braces, h .inside, h .end)
 
 -- ---- a value that was found
 

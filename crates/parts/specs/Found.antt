@@ -6,13 +6,13 @@ use mathlib.Core.Option.{Option, none, some}
 use lib.ListN.{length}
 use Rattle.base.specs.Pick.{pick}
 use Rattle.base.specs.Lists.{isAt, part}
-use Rattle.megaco.specs.Bytes.{equal, leftBrace, slash}
+use Rattle.megaco.specs.Bytes.{equal, leftBrace, rightBrace, slash}
 use Rattle.megaco.specs.Tree.{Value, plain, quoted, ItemOf, item, Items, Command, command}
 use Rattle.megaco.specs.Reading.{prefixAt, prefixEnd}
 use Rattle.syntax.specs.declared.Piece.{Piece}
 use Rattle.syntax.specs.Places.{orderStart}
 use Rattle.syntax.specs.Pieces.{Holds}
-use Rattle.syntax.specs.Extraction.{pastSign, wordEnd, equalPlace, valueEnd, valueItemEnd, headEnd, valueItemOf, itemsOf, orderEnd, nameStart, nameEnd, commandHeadEnd}
+use Rattle.syntax.specs.Extraction.{pastSign, wordEnd, equalPlace, valueEnd, valueItemEnd, headEnd, valueItemOf, itemsOf, itemsEnd, orderEnd, nameStart, nameEnd, commandHeadEnd}
 use Rattle.parts.specs.declared.ValuePlaces.{ValuePlaces}
 use Rattle.parts.specs.declared.ItemPlaces.{ItemPlaces}
 use Rattle.parts.specs.declared.Marks.{Marks}
@@ -70,3 +70,6 @@ itemsFrom s r = pick (r .braces) (some (itemsOf 8 s (r .inside))) none
 
 unfoldable pub commandFrom : List ℕ → CommandPlaces → Command
 commandFrom s r = command (r .optional) (r .wild) (bytesOf s (r .word)) (bytesOf s (r .name)) (itemsFrom s r)
+
+unfoldable pub commandEndFrom : List ℕ → CommandPlaces → ℕ
+commandEndFrom s r = pick (r .braces) (pastSign rightBrace s (itemsEnd 8 s (r .inside))) (r .end)

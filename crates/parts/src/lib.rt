@@ -3,8 +3,8 @@
 ghost use mathlib.Core.Path.{_≡_};
 ghost use Prim.Native.Nat.{_<_};
 ghost use Rattle.megaco.specs.Bytes.{comma, leftBrace, rightBrace};
-ghost use Rattle.syntax.specs.Extraction.{endOf, pastWhite, pastSign, secondEnd, bracesEnd};
-ghost use Rattle.parts.specs.Found.{OfValue, OfItem, marksOf, OfCommand};
+ghost use Rattle.syntax.specs.Extraction.{endOf, pastWhite, pastSign, secondEnd, itemEnd, itemsEnd};
+ghost use Rattle.parts.specs.Found.{OfValue, OfItem, marksOf, OfCommand, commandEndFrom};
 use megaco::Class;
 use megaco::Parsed;
 use syntax::Piece;
@@ -88,13 +88,6 @@ pub fn past_closing(s: &[u8], at: usize) -> usize
     past_sign(s, at, 0x7d)
 }
 
-// The end of braces with items of at most `left` levels that may stand here.
-pub fn braces_end(s: &[u8], left: usize, at: usize) -> usize
-    ensures { λ r. ⌜ r ≡ bracesEnd left (now (s .entry)) at ⌝ }
-{
-    end_of(syntax::braced_items(s, left, at))
-}
-
 // ---- items
 
 // The end of a second word that may stand here.
@@ -153,6 +146,40 @@ pub fn item_places(s: &[u8], at: usize) -> ItemPlaces
     }
 }
 
+// The end of an item that may hold `left` levels.
+fn item_end(s: &[u8], left: usize, at: usize) -> usize
+    ensures { λ r. ⌜ r ≡ itemEnd (itemsEnd left (now (s .entry))) (now (s .entry)) at ⌝ }
+{
+    let p = item_places(s, at);
+    if p.braces {
+        let inside = p.inside;
+        return past_closing(s, items_end(s, left, inside));
+    }
+    let v = p.value;
+    v.end
+}
+
+// The end of the items of at most `left` levels that begin here.
+pub fn items_end(s: &[u8], left: usize, at: usize) -> usize
+    ensures { λ r. ⌜ r ≡ itemsEnd left (now (s .entry)) at ⌝ }
+{
+    if left == 0 {
+        return at;
+    }
+    let mut i = at;
+    let mut n = 0;
+    while n <= s.len() {
+        let e = item_end(s, left - 1, i);
+        if text::is_at(s, e, 0x2c) {
+            i = past_comma(s, e);
+            n += 1;
+        } else {
+            return e;
+        }
+    }
+    i
+}
+
 // ---- commands
 
 fn prefixes(s: &[u8], at: usize) -> Marks
@@ -190,4 +217,15 @@ pub fn command_places(s: &[u8], at: usize) -> CommandPlaces
         braces: braces,
         inside: inside,
     }
+}
+
+// The end of a command whose parts are found.
+pub fn command_end(s: &[u8], p: CommandPlaces) -> usize
+    ensures { λ r. ⌜ r ≡ commandEndFrom (now (s .entry)) p ⌝ }
+{
+    if p.braces {
+        let inside = p.inside;
+        return past_closing(s, items_end(s, 8, inside));
+    }
+    p.end
 }

@@ -62,9 +62,9 @@ action-at s i a rest e f = rw (f, e)
 -- an action whose reports were put into a buffer of their own
 pub acts-by : (x : Outcome) (first : Bool) (t′ inner : List ℕ) (w : Went) (o : List ℕ) (at : ℕ) (o′ : List ℕ) (r : ℕ)
     → Did x true (replicate 2049 0) 0 t′ inner w → Copied first (w .at) inner (w .next) o at o′ r → length o ≤ 2049
-    → Acts x first o at t′ o′ (record { next = r; going = w .going })
+    → (y : ℕ) → Acts x first o at t′ o′ (record { next = r; going = w .going; end = y })
 unfolding outcomeText
-acts-by x first t′ inner w o at o′ r d k h =
+acts-by x first t′ inner w o at o′ r d k h y =
     record {
       table = d .table;
       text =
@@ -75,16 +75,16 @@ acts-by x first t′ inner w o at o′ r d k h =
     }
 
 -- the action at a place, its parts found
-pub action-acts : (s : List ℕ) (i : ℕ) (a : ActionPlaces) (rest : Rest) (first : Bool) (t t′ z inner : List ℕ) (w : Went) (o : List ℕ) (at : ℕ) (o′ : List ℕ) (r : ℕ)
+pub action-acts : (s : List ℕ) (i : ℕ) (a : ActionPlaces) (rest : Rest) (first : Bool) (t t′ z inner : List ℕ) (w : Went) (o : List ℕ) (at : ℕ) (o′ : List ℕ) (r y : ℕ)
     → a ≡ actionPlaces s i → rest ≡ restOf (unlimited s) s (a .body) → z ≡ replicate 2049 0
     → Did (runAction (action (a .context) (propertiesIn s (a .body)) (commandsIn s rest)) t) true z 0 t′ inner w → Copied first (w .at) inner (w .next) o at o′ r → length o ≤ 2049
-    → Acts (runAction (actionOf s i) t) first o at t′ o′ (record { next = r; going = w .going })
-action-acts s i a rest first t t′ z inner w o at o′ r e f g d k h =
+    → Acts (runAction (actionOf s i) t) first o at t′ o′ (record { next = r; going = w .going; end = y })
+action-acts s i a rest first t t′ z inner w o at o′ r y e f g d k h =
     let b : Action = action (a .context) (propertiesIn s (a .body)) (commandsIn s rest) in
     let q : b ≡ actionOf s i = action-at s i a rest e f in
     let v : Did (runAction b t) true (replicate 2049 0) 0 t′ inner w = subst (λ (y : List ℕ). Did (runAction b t) true y 0 t′ inner w) g d in
-    subst (λ (b : Action). Acts (runAction b t) first o at t′ o′ (record { next = r; going = w .going })) q
-    (acts-by (runAction b t) first t′ inner w o at o′ r v k h)
+    subst (λ (b : Action). Acts (runAction b t) first o at t′ o′ (record { next = r; going = w .going; end = y })) q
+    (acts-by (runAction b t) first t′ inner w o at o′ r v k h y)
 
 -- ---- actions in order
 

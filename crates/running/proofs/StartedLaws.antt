@@ -18,7 +18,7 @@ use Rattle.megaco.specs.Reply.{Acted, standing, failed, reportsText}
 use Rattle.megaco.specs.Running.{Outcome, outcome, Start, Result, refused, done, judge, seen, numberOf, anyGiven, over15, newRecord, setProperties, startChecks, startWrites, startReports, startedBy, started, noCommands}
 use Rattle.megaco.specs.declared.Context.{Context}
 use Rattle.megaco.specs.declared.Property.{Property}
-use Rattle.syntax.specs.Extraction.{listOf, commandsOf, commandsIn}
+use Rattle.syntax.specs.Extraction.{listOf, commandsOf, commandsEnd, commandsIn, bodyEnd}
 use Rattle.syntax.specs.declared.Rest.{Rest}
 use Rattle.orders.specs.Orders.{heldAt}
 use Rattle.starts.specs.Starting.{propertiesIn, startCode, wroteStart, OfProperties}
@@ -125,6 +125,15 @@ module _ (s : List ℕ) (c : Context) (body : ℕ) (rest : Rest) (t o : List ℕ
       ap (λ (x : List Command). runCommands x (setProperties ps newRecord) c (apply (startWrites c ps (heldAt c t)) t)) l ∙ no-runs (setProperties ps newRecord) c (apply (startWrites c ps (heldAt c t)) t) in
       let v : g .held ≡ setProperties ps (heldAt c t) = h .held (small z) ∙ ap (setProperties ps) e in
       rw (action-done c ps cs t (passed z), y, r) (record { table = wrote u z q; text = rw (← v) a; place = refl; going = refl })
+
+-- where an action's body ends
+pub body-of-commands : (s : List ℕ) (r : Rest) (e : ℕ) → r .commands ≡ true → e ≡ commandsEnd s (r .at) → e ≡ bodyEnd s r
+unfolding bodyEnd
+body-of-commands s r e b h = h ∙ sym (picked (r .commands) (commandsEnd s (r .at)) (r .at) b)
+
+pub body-alone : (s : List ℕ) (r : Rest) → r .commands ≡ false → r .at ≡ bodyEnd s r
+unfolding bodyEnd
+body-alone s r b = sym (left-out (r .commands) (commandsEnd s (r .at)) (r .at) b)
 
 -- a sound table's record
 known-within : (n : ℕ) → known n ≡ true → (0 < n) × (n ≤ contexts)

@@ -8,20 +8,28 @@ ghost use mathlib.Core.List.{[], _∷_};
 ghost use Rattle.base.specs.Out.{Appended};
 ghost use Rattle.megaco.specs.Reply.{standing, reportsText};
 ghost use Rattle.megaco.specs.Tree.{action};
-ghost use Rattle.syntax.specs.Extraction.{commandsOf, commandsIn, actionOf, actionsOf};
+ghost use Rattle.syntax.specs.Extraction.{commandsOf, commandsEnd, commandsIn, bodyEnd, actionOf, actionEnd, actionsOf, actionsEnd};
 ghost use Rattle.orders.specs.Orders.{heldAt};
 ghost use Rattle.starts.specs.Starting.{propertiesIn};
 ghost use Rattle.tries.specs.Contract.{Did};
 ghost use Rattle.running.specs.Fold.{runCommands, runAction, runActions};
 ghost use Rattle.running.specs.Promises.{Copied, Acts, Wrote};
+use commands::Passed;
 use megaco::Context;
 use syntax::Rest;
 use tries::Went;
 
-// Where an action ends: the place after its text, and whether the transaction goes on.
+// An action that was run: the place after its reply, whether the transaction goes on, and where the action's own text ends.
 pub struct Moved {
     pub next: usize,
     pub going: bool,
+    pub end: usize,
+}
+
+// A part of a message that was run: the place after its reply, and where its own text ends.
+pub struct Written {
+    pub next: usize,
+    pub end: usize,
 }
 
 // The commands of an action, in order, until one stops the transaction.
@@ -33,9 +41,9 @@ fn run_commands(
     table: &mut [u32],
     out: &mut [u8],
     p: usize,
-) -> Went
+) -> Passed
     requires { ⌜ length (now table) ≡ words ⌝ }
-    ensures { λ r. ⌜ Did (runCommands (commandsOf (now (s .entry)) from) given at (now (table .entry))) true (now (out .entry)) p (now (table .exit)) (now (out .exit)) r ⌝ }
+    ensures { λ r. ⌜ Did (runCommands (commandsOf (now (s .entry)) from) given at (now (table .entry))) true (now (out .entry)) p (now (table .exit)) (now (out .exit)) (r .went) × (r .end ≡ commandsEnd (now (s .entry)) from) ⌝ }
 {
     let mut i = from;
     let mut left: usize = 64;
@@ -43,10 +51,11 @@ fn run_commands(
     let mut c = at;
     let mut f = true;
     while 0 < left {
-        let w = commands::run_command(s, i, given, c, f, table, out, q);
+        let x = commands::run_command(s, i, given, c, f, table, out, q);
+        let w = x.went;
+        let e = x.end;
         let going = w.going;
         if going {
-            let e = outline::command_end(s, i);
             if text::is_at(s, e, 0x2c) {
                 i = parts::past_comma(s, e);
                 q = w.next;
@@ -54,17 +63,21 @@ fn run_commands(
                 f = false;
                 left -= 1;
             } else {
-                return w;
+                return x;
             }
         } else {
-            return w;
+            return Passed {
+                went: w,
+                end: outline::commands_after(s, left - 1, e),
+            };
         }
     }
-    Went {
+    let w = Went {
         next: q,
         at: c,
         going: true,
-    }
+    };
+    Passed { went: w, end: i }
 }
 
 // An action from its start on, its reports being put into a buffer of their own.
@@ -75,9 +88,9 @@ fn run_inner(
     rest: Rest,
     table: &mut [u32],
     out: &mut [u8],
-) -> Went
+) -> Passed
     requires { ⌜ (length (now table) ≡ words) × (heldAt c (now table) ≤ 32) ⌝ }
-    ensures { λ r. ⌜ Did (runAction (action c (propertiesIn (now (s .entry)) body) (commandsIn (now (s .entry)) rest)) (now (table .entry))) true (now (out .entry)) 0 (now (table .exit)) (now (out .exit)) r ⌝ }
+    ensures { λ r. ⌜ Did (runAction (action c (propertiesIn (now (s .entry)) body) (commandsIn (now (s .entry)) rest)) (now (table .entry))) true (now (out .entry)) 0 (now (table .exit)) (now (out .exit)) (r .went) × (r .end ≡ bodyEnd (now (s .entry)) rest) ⌝ }
 {
     let held = orders::held_at(table, c);
     let any = actions::property_here(s, body);
@@ -91,13 +104,21 @@ fn run_inner(
             return run_commands(s, from, g.fresh, c, table, out, 0);
         }
         let n = put_alone(out, g.held);
-        return Went {
+        let w = Went {
             next: n,
             at: c,
             going: true,
         };
+        return Passed {
+            went: w,
+            end: rest.at,
+        };
     }
-    commands::fail(code, c, true, out, 0)
+    let w = commands::fail(code, c, true, out, 0);
+    Passed {
+        went: w,
+        end: outline::body_end(s, rest),
+    }
 }
 
 // The report of properties alone.
@@ -129,27 +150,30 @@ fn put_action(out: &mut [u8], p: usize, first: bool, c: Context, inner: &[u8], n
 // The action that stands at a place of the message.
 fn run_action(s: &[u8], i: usize, first: bool, table: &mut [u32], out: &mut [u8], p: usize) -> Moved
     requires { ⌜ (sound (now table) ≡ true) × (length (now out) ≤ 2049) ⌝ }
-    ensures { λ r. ⌜ Acts (runAction (actionOf (now (s .entry)) i) (now (table .entry))) first (now (out .entry)) p (now (table .exit)) (now (out .exit)) r ⌝ }
+    ensures { λ r. ⌜ Acts (runAction (actionOf (now (s .entry)) i) (now (table .entry))) first (now (out .entry)) p (now (table .exit)) (now (out .exit)) r × (r .end ≡ actionEnd (now (s .entry)) i) ⌝ }
 {
     let a = outline::action_places(s, i);
     let c = a.context;
     let body = a.body;
     let rest = outline::rest_of(s, body);
     let mut inner = [0u8; 2049];
-    let w = run_inner(s, c, body, rest, table, &mut inner);
+    let x = run_inner(s, c, body, rest, table, &mut inner);
+    let w = x.went;
     let at = w.at;
     let n = w.next;
     let q = put_action(out, p, first, at, &inner, n);
+    let e = x.end;
     Moved {
         next: q,
         going: w.going,
+        end: parts::past_closing(s, e),
     }
 }
 
 // The actions of a transaction, in order, until one stops it.
-pub fn run_actions(s: &[u8], from: usize, table: &mut [u32], out: &mut [u8], p: usize) -> usize
+pub fn run_actions(s: &[u8], from: usize, table: &mut [u32], out: &mut [u8], p: usize) -> Written
     requires { ⌜ (sound (now table) ≡ true) × (length (now out) ≤ 2049) ⌝ }
-    ensures { λ r. ⌜ Wrote (runActions (actionsOf (now (s .entry)) from) true (now (table .entry))) (now (out .entry)) p (now (table .exit)) (now (out .exit)) r ⌝ }
+    ensures { λ r. ⌜ Wrote (runActions (actionsOf (now (s .entry)) from) true (now (table .entry))) (now (out .entry)) p (now (table .exit)) (now (out .exit)) (r .next) × (r .end ≡ actionsEnd (now (s .entry)) from) ⌝ }
 {
     let mut i = from;
     let mut left: usize = 16;
@@ -158,19 +182,25 @@ pub fn run_actions(s: &[u8], from: usize, table: &mut [u32], out: &mut [u8], p: 
     while 0 < left {
         let m = run_action(s, i, f, table, out, q);
         let going = m.going;
+        let e = m.end;
         if going {
-            let e = outline::action_end(s, i);
             if text::is_at(s, e, 0x2c) {
                 i = parts::past_comma(s, e);
                 q = m.next;
                 f = false;
                 left -= 1;
             } else {
-                return m.next;
+                return Written {
+                    next: m.next,
+                    end: e,
+                };
             }
         } else {
-            return m.next;
+            return Written {
+                next: m.next,
+                end: outline::actions_after(s, left - 1, e),
+            };
         }
     }
-    q
+    Written { next: q, end: i }
 }

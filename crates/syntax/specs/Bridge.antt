@@ -22,7 +22,7 @@ use Rattle.megaco.specs.declared.Property.{Property}
 use Rattle.megaco.specs.declared.Property.the-variants.{Priority, Emergency}
 use Rattle.megaco.specs.declared.Token.the-variants.{TransToken, CtxToken, PriorityToken, EmergencyToken}
 use Rattle.syntax.specs.Places.{spacedAt, joinedAt, listAt, secondAt, valueItemAt, bracesAt, headAt, itemAt, itemsAt, orderAt, orderStart, commandHeadAt, commandAt, commandsAt, contextAt, propertyAt, bodyAt, openingAt, actionAt, actionsAt, orFault400, ifNumber, numberAfter, priorityAt, braceAt, orOutside, orWithin, transactionAt, afterBraces, identifierAt, versionAt, transactionsAt, verdict}
-use Rattle.syntax.specs.Extraction.{endOf, valueIn, nextIn, pastWhite, pastSign, wordEnd, listOf, listEnd, secondEnd, equalPlace, valueEnd, valueItemEnd, headEnd, secondOf, valueItemOf, bracesOf, bracesEnd, itemOf, itemEnd, itemsOf, orderEnd, nameStart, nameEnd, commandHeadEnd, commandOf, commandEnd, commandsOf, commandsEnd, contextStart, contextOf, contextEnd, bodyStart, propertyOf, propertyEnd, propertiesOf, rest, restOf, commandsIn, bodyEnd, bodyOf, restIn, actionOf, actionEnd, actionsOf, actionsEnd, actionsStart, transactionOf, closingEnd, transactionEnd, transactionsOf, headerEnd, messageOf}
+use Rattle.syntax.specs.Extraction.{endOf, valueIn, nextIn, pastWhite, pastSign, wordEnd, listOf, listEnd, secondEnd, equalPlace, valueEnd, valueItemEnd, headEnd, secondOf, valueItemOf, bracesOf, bracesEnd, itemOf, itemEnd, itemsEnd, itemsOf, orderEnd, nameStart, nameEnd, commandHeadEnd, commandOf, commandEnd, commandsOf, commandsEnd, contextStart, contextOf, contextEnd, bodyStart, propertyOf, propertyEnd, propertiesOf, rest, restOf, commandsIn, bodyEnd, bodyOf, restIn, actionOf, actionEnd, actionsOf, actionsEnd, actionsStart, transactionOf, closingEnd, transactionEnd, transactionsOf, headerEnd, messageOf}
 use Rattle.syntax.specs.declared.Braces.{Braces}
 use Rattle.syntax.specs.declared.Verdict.{Verdict}
 use Rattle.syntax.specs.declared.Verdict.the-variants.{WellFormed, Fault400, Fault403, WrongVersion406}
@@ -65,11 +65,6 @@ module _ {A : Type 0} where
   unfolding pick
   pick-reads true y n = y
   pick-reads false y n = n
-
--- the reader by position tells its end
-to-end : {A : Type 0} {r : Read A} {x : Parsed} {a : A} {e : ℕ} → Reads r x a e → Reads r x a (endOf x)
-unfolding endOf
-to-end {A} {r} {x} {a} {e} h = record { tree = h .tree; ends = λ p n. rw n }
 
 after-assoc : (x : Parsed) (f g : ℕ → Parsed) → after (after x f) g ≡ after x (λ p. after (f p) g)
 unfolding after
@@ -161,19 +156,18 @@ value-reads s at =
 -- braces hold what their reader reads
 braces-reads : {A : Type 0} (inner : ℕ → Read (List A)) (rd : ℕ → Parsed) (of : ℕ → List A) (end : ℕ → ℕ) (s : List ℕ)
     → ((i : ℕ) → Reads (inner i) (rd i) (of i) (end i)) → (at : ℕ)
-    → Reads (bracesR inner s at) (bracesAt rd s at) (bracesOf of s at) (endOf (bracesAt rd s at))
-unfolding bracesR bracesAt bracesOf pastSign
+    → Reads (bracesR inner s at) (bracesAt rd s at) (bracesOf of s at) (bracesEnd end s at)
+unfolding bracesR bracesAt bracesOf bracesEnd pastSign
 braces-reads inner rd of end s h at =
     let p : ℕ = endOf (signAt leftBrace s at) in
-    to-end
-    (pick-reads (isAt s at leftBrace)
+    pick-reads (isAt s at leftBrace)
     (skip-reads (signAt leftBrace s at) _ _ (bind-reads _ _ (h p) (skip-last (signAt rightBrace s (end p)) (some (of p)))))
-    (got-reads none at))
+    (got-reads none at)
 
 pub item-reads : {A : Type 0} (inner : ℕ → Read (List A)) (rd : ℕ → Parsed) (of : ℕ → List A) (end : ℕ → ℕ) (s : List ℕ)
     → ((i : ℕ) → Reads (inner i) (rd i) (of i) (end i)) → (at : ℕ)
-    → Reads (itemR inner s at) (itemAt rd s at) (itemOf of s at) (endOf (bracesAt rd s (headEnd s at)))
-unfolding itemR itemAt headAt itemOf headEnd equalPlace
+    → Reads (itemR inner s at) (itemAt rd s at) (itemOf of s at) (itemEnd end s at)
+unfolding itemR itemAt headAt itemOf itemEnd headEnd equalPlace
 item-reads inner rd of end s h at =
     let w : ℕ = wordEnd s at in
     let q : ℕ = pastWhite s (secondEnd s w) in
@@ -184,13 +178,12 @@ item-reads inner rd of end s h at =
     (bind-reads _ _ (value-reads s q)
     (map-reads (item (part s at w) (secondOf s w) (valueItemOf s q)) (braces-reads inner rd of end s h (valueItemEnd s q)))))))
 
-pub items-read : (k : ℕ) (s : List ℕ) (at : ℕ) → Reads (itemsR k s at) (itemsAt k s at) (itemsOf k s at) (endOf (itemsAt k s at))
-unfolding itemsR itemsAt itemsOf itemEnd bracesEnd
-items-read zero s at = fault-reads [] _
+pub items-read : (k : ℕ) (s : List ℕ) (at : ℕ) → Reads (itemsR k s at) (itemsAt k s at) (itemsOf k s at) (itemsEnd k s at)
+unfolding itemsR itemsAt itemsOf itemsEnd
+items-read zero s at = fault-reads [] at
 items-read (suc k) s at =
-    to-end
-    (list-reads (itemR (itemsR k s) s) (itemAt (itemsAt k s) s) (itemOf (itemsOf k s) s) (itemEnd k s) s
-    (item-reads (itemsR k s) (itemsAt k s) (itemsOf k s) (λ i. endOf (itemsAt k s i)) s (items-read k s)) (unlimited s) at)
+    list-reads (itemR (itemsR k s) s) (itemAt (itemsAt k s) s) (itemOf (itemsOf k s) s) (itemEnd (itemsEnd k s) s) s
+    (item-reads (itemsR k s) (itemsAt k s) (itemsOf k s) (itemsEnd k s) s (items-read k s)) (unlimited s) at
 
 -- ---- commands
 
@@ -204,7 +197,7 @@ unfolding orderR orderAt
 order-reads s at = bind-reads _ _ (word-reads s at) (unless-reads (isProperty (part s at (wordEnd s at))) _ _)
 
 pub command-reads : (s : List ℕ) (at : ℕ) → Reads (commandR s at) (commandAt s at) (commandOf s at) (commandEnd s at)
-unfolding commandR commandAt commandHeadAt commandOf commandEnd commandHeadEnd nameEnd nameStart orderEnd orderStart bracesEnd pastSign
+unfolding commandR commandAt commandHeadAt commandOf commandEnd commandHeadEnd nameEnd nameStart orderEnd orderStart pastSign
 command-reads s at =
     let p : ℕ = pastWhite s (wordEnd s (orderStart s at)) in
     let q : ℕ = endOf (signAt equal s p) in
@@ -214,7 +207,7 @@ command-reads s at =
     (rw after-assoc
     (skip-reads (signAt equal s p) _ _
     (bind-reads _ _ (spaced-reads s (reading-reads (terminationAt s q) (part s q)))
-    (map-reads _ (braces-reads (itemsR 8 s) (itemsAt 8 s) (itemsOf 8 s) (λ i. endOf (itemsAt 8 s i)) s (items-read 8 s) u))))))
+    (map-reads _ (braces-reads (itemsR 8 s) (itemsAt 8 s) (itemsOf 8 s) (itemsEnd 8 s) s (items-read 8 s) u))))))
 
 pub commands-read : (s : List ℕ) (at : ℕ) → Reads (listR (commandR s) s 64 at) (commandsAt s at) (commandsOf s at) (commandsEnd s at)
 unfolding commandsAt commandsOf commandsEnd

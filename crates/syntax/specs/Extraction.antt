@@ -24,7 +24,7 @@ use Rattle.megaco.specs.declared.Context.{Context}
 use Rattle.megaco.specs.declared.Context.the-variants.{Null, Numbered, Choose, All}
 use Rattle.megaco.specs.declared.Property.{Property}
 use Rattle.megaco.specs.declared.Property.the-variants.{Priority, Emergency}
-use Rattle.syntax.specs.Places.{bracesAt, itemsAt, orderStart, priorityAt, braceAt, identifierAt, versionAt}
+use Rattle.syntax.specs.Places.{orderStart, priorityAt, braceAt, identifierAt, versionAt}
 use Rattle.syntax.specs.declared.Rest.{Rest}
 
 -- ---- places
@@ -64,6 +64,10 @@ listEnd end s (suc k) at =
     let more = listEnd end s k (pastSign comma s (end at)) in
     pick (isAt s (end at) comma) more (end at)
 
+-- the end of such parts, one of which ends at e, with at most k behind it
+unfoldable pub listAfter : (ℕ → ℕ) → List ℕ → ℕ → ℕ → ℕ
+listAfter end s k e = pick (isAt s e comma) (listEnd end s k (pastSign comma s e)) e
+
 -- ---- items
 
 -- the end of a second word that may stand here
@@ -95,21 +99,25 @@ valueItemOf s at = pick (isAt s at equal) (some (valueOf s (pastSign equal s at)
 unfoldable pub bracesOf : {A : Type 0} → (ℕ → List A) → List ℕ → ℕ → Option (List A)
 bracesOf inner s at = pick (isAt s at leftBrace) (some (inner (pastSign leftBrace s at))) none
 
--- the end of braces with items of k levels that may stand here
-unfoldable pub bracesEnd : ℕ → List ℕ → ℕ → ℕ
-bracesEnd k s at = endOf (bracesAt (itemsAt k s) s at)
+-- the end of braces that may stand here; `end` tells where what they hold ends
+unfoldable pub bracesEnd : (ℕ → ℕ) → List ℕ → ℕ → ℕ
+bracesEnd end s at = pick (isAt s at leftBrace) (pastSign rightBrace s (end (pastSign leftBrace s at))) at
 
 unfoldable pub itemOf : {A : Type 0} → (ℕ → List A) → List ℕ → ℕ → ItemOf A
 itemOf inner s at =
     item (part s at (wordEnd s at)) (secondOf s (wordEnd s at)) (valueItemOf s (equalPlace s at)) (bracesOf inner s (headEnd s at))
 
--- the end of an item that holds k levels
-unfoldable pub itemEnd : ℕ → List ℕ → ℕ → ℕ
-itemEnd k s at = bracesEnd k s (headEnd s at)
+unfoldable pub itemEnd : (ℕ → ℕ) → List ℕ → ℕ → ℕ
+itemEnd end s at = bracesEnd end s (headEnd s at)
+
+-- items of k levels
+unfoldable pub itemsEnd : ℕ → List ℕ → ℕ → ℕ
+itemsEnd zero s at = at
+itemsEnd (suc k) s at = listEnd (itemEnd (itemsEnd k s) s) s (unlimited s) at
 
 unfoldable pub itemsOf : (k : ℕ) → List ℕ → ℕ → List (Item k)
 itemsOf zero s at = []
-itemsOf (suc k) s at = listOf (itemOf (itemsOf k s) s) (itemEnd k s) s (unlimited s) at
+itemsOf (suc k) s at = listOf (itemOf (itemsOf k s) s) (itemEnd (itemsEnd k s) s) s (unlimited s) at
 
 -- ---- commands
 
@@ -132,7 +140,7 @@ commandOf s at =
     (part s (nameStart s at) (nameEnd s at)) (bracesOf (itemsOf 8 s) s (commandHeadEnd s at))
 
 unfoldable pub commandEnd : List ℕ → ℕ → ℕ
-commandEnd s at = bracesEnd 8 s (commandHeadEnd s at)
+commandEnd s at = bracesEnd (itemsEnd 8 s) s (commandHeadEnd s at)
 
 unfoldable pub commandsOf : List ℕ → ℕ → List Command
 commandsOf s at = listOf (commandOf s) (commandEnd s) s 64 at

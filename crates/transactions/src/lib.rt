@@ -4,14 +4,15 @@ ghost use mathlib.Core.Bool.{true};
 ghost use Rattle.megaco.specs.Table.{sound};
 ghost use Rattle.megaco.specs.Reading.{messageR};
 ghost use Rattle.megaco.specs.Running.{runTransaction, runTransactions, runMessage};
-ghost use Rattle.syntax.specs.Extraction.{transactionOf, messageOf};
+ghost use Rattle.syntax.specs.Extraction.{transactionOf, transactionEnd, messageOf};
 ghost use Rattle.running.specs.Promises.{Wrote};
+use running::Written;
 use syntax::Verdict;
 
 // The transaction that stands at a place of the message: its table, and its `P=id{..}` of at most 2,048 bytes.
-pub fn run_transaction(s: &[u8], i: usize, table: &mut [u32], out: &mut [u8], p: usize) -> usize
+fn run_transaction(s: &[u8], i: usize, table: &mut [u32], out: &mut [u8], p: usize) -> Written
     requires { ⌜ sound (now table) ≡ true ⌝ }
-    ensures { λ r. ⌜ Wrote (runTransaction (transactionOf (now (s .entry)) i) (now (table .entry))) (now (out .entry)) p (now (table .exit)) (now (out .exit)) r ⌝ }
+    ensures { λ r. ⌜ Wrote (runTransaction (transactionOf (now (s .entry)) i) (now (table .entry))) (now (out .entry)) p (now (table .exit)) (now (out .exit)) (r .next) × (r .end ≡ transactionEnd (now (s .entry)) i) ⌝ }
 {
     let a = outline::transaction_places(s, i);
     let id = a.id;
@@ -19,8 +20,13 @@ pub fn run_transaction(s: &[u8], i: usize, table: &mut [u32], out: &mut [u8], p:
     let mut scratch = [0u8; 2049];
     let n = reply::put_reply_open(&mut scratch, 0, id);
     let m = running::run_actions(s, body, table, &mut scratch, n);
-    let e = writer::put_byte(&mut scratch, m, 125);
-    reply::put_limited(out, p, id, &scratch, e)
+    let e = writer::put_byte(&mut scratch, m.next, 125);
+    let q = reply::put_limited(out, p, id, &scratch, e);
+    let t = m.end;
+    Written {
+        next: q,
+        end: outline::closing_end(s, t),
+    }
 }
 
 // The transactions of a message that reads, in order.
@@ -32,8 +38,9 @@ fn run_all(s: &[u8], table: &mut [u32], out: &mut [u8], p: usize) -> usize
     let mut left: usize = 8;
     let mut q = p;
     while 0 < left {
-        q = run_transaction(s, i, table, out, q);
-        let e = outline::transaction_end(s, i);
+        let m = run_transaction(s, i, table, out, q);
+        q = m.next;
+        let e = m.end;
         if e < s.len() {
             i = e;
             left -= 1;

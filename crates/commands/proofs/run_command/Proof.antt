@@ -1,4 +1,5 @@
 use borrow.Author.Needs.{needs}
+use Rattle.parts.proofs.PlaceLaws.{command-ends}
 use Rattle.commands.proofs.CommandLaws.{command-runs}
 use Rattle.commands.proofs.run_command.Statement.{statement}
 use Rattle.commands.proofs.run_command.Tie as tie
@@ -17,4 +18,4 @@ run-command-spec =
     (λ c κs. search needs)
     (λ c. search needs)
     (λ c. search needs)
-    (λ c. search command-runs))
+    (λ c. (search command-runs, search command-ends)))

@@ -14,6 +14,6 @@ run-found-spec =
     (λ c κs. search needs)
     (λ c. search needs)
     (λ c. search needs)
-    (λ c. search found-built)
+    (λ c. (search found-built, search needs))
     (λ c. search needs)
-    (λ c. search found-unbuilt))
+    (λ c. (search found-unbuilt, search needs)))

@@ -1,5 +1,6 @@
 use borrow.Author.Needs.{needs}
-use Rattle.items.proofs.CallLaws.{judged-right, judged-wrong, inside-kind}
+use Rattle.items.proofs.CallLaws.{judged-right, judged-wrong, inside-kind, known-wrong, closed-judged, closed-known}
+use mathlib.Core.Path.{refl}
 use Rattle.items.specs.Judging.{mediaBy}
 use Rattle.items.proofs.media_item.Statement.{statement}
 use Rattle.items.proofs.media_item.Tie as tie
@@ -11,5 +12,6 @@ media-item-spec =
     (λ c κs. search needs)
     (λ c κs. search needs)
     (λ c κs. search needs)
-    (λ c. unfold mediaBy in search (judged-right, inside-kind))
-    (λ c. unfold mediaBy in search judged-wrong))
+    (λ c κs. search needs)
+    (λ c. (unfold mediaBy in search (judged-right, inside-kind, closed-judged), search closed-known))
+    (λ c. (unfold mediaBy in search judged-wrong, known-wrong _ _ _ refl)))

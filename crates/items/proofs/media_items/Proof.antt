@@ -3,16 +3,19 @@ use Prim.Native.Nat.{_+_, _-_}
 use mathlib.Core.Path.{_≡_}
 use mathlib.Core.Bool.{false}
 use lib.ListN.{length}
-use Rattle.syntax.specs.Extraction.{itemsOf}
+use Rattle.syntax.specs.Extraction.{listEnd, itemEnd, itemsEnd, itemsOf}
 use Rattle.megaco.specs.Items.{mediaItems}
-use Rattle.items.proofs.OneLaws.{mediaAll, stoodNext, media-one, stood-next}
-use Rattle.items.proofs.ListLaws.{judgeAll, itemsLeft, media-starts, all-none, all-wrong, all-last, all-more}
+use Rattle.items.proofs.OneLaws.{mediaAll, stoodNext, media-one, media-ends, stood-next}
+use Rattle.items.proofs.ListLaws.{judgeAll, itemsLeft, media-starts, all-none, all-wrong, all-right, all-more, items-begin, ends-last, ends-more}
+use Rattle.items.proofs.CallLaws.{known-by, known-wrong}
+use Rattle.parts.proofs.EndLaws.{all-end-none}
 use Rattle.items.proofs.media_items.Statement.{statement}
 use Rattle.items.proofs.media_items.Tie as tie
 
 abbrev Inv-loop : tie.InvT-loop
 Inv-loop s at i₀ n₀ stood₀ vs₀ i n stood vs =
-    mediaItems (itemsOf 7 s at) false false vs₀ ≡ judgeAll mediaAll stoodNext (itemsLeft (itemsOf 6 s) 6 s n i) stood vs
+    (mediaItems (itemsOf 7 s at) false false vs₀ ≡ judgeAll mediaAll stoodNext (itemsLeft (itemsOf 6 s) 6 s n i) stood vs)
+    × (itemsEnd 7 s at ≡ listEnd (itemEnd (itemsEnd 6 s) s) s (length s + 1 - n) i)
 
 abbrev μ-loop : tie.MeasureT-loop
 μ-loop s at i₀ n₀ stood₀ vs₀ i n stood vs = length s + 1 - n
@@ -23,19 +26,19 @@ media-items-spec =
     (tie.spec
     Inv-loop
     μ-loop
-    (λ c. media-starts _ _ _)
+    (λ c. (media-starts _ _ _, items-begin 6 _ _))
+    (λ c. search needs)
     (λ c κs. search needs)
     (λ c κs. search needs)
     (λ c κs. search needs)
     (λ c. search needs)
     (λ c. search needs)
-    (λ c. search (all-wrong, media-one))
+    (λ c. (search (all-wrong, media-one), search known-wrong))
     (λ c κs. search needs)
     (λ c. search needs)
     (λ c. search needs)
-    (λ c. search (all-last, media-one))
+    (λ c. (search (all-right, media-one, media-ends), known-by _ _ (search (ends-last, media-ends))))
     (λ c κs. search needs)
     (λ c. search needs)
-    (λ c. search needs)
-    (λ c. search (all-more, media-one, stood-next))
-    (λ c. search all-none))
+    (λ c. (search (all-more, media-one, media-ends, stood-next), search (ends-more, media-ends)))
+    (λ c. (search all-none, known-by _ _ (search all-end-none))))

@@ -9,6 +9,5 @@ next-item-spec =
     (tie.spec
     (λ c κs. search needs)
     (λ c κs. search needs)
-    (λ c κs. search needs)
     (λ c. search next-one)
     (λ c. search next-none))

@@ -3,16 +3,19 @@ use Prim.Native.Nat.{_+_, _-_}
 use mathlib.Core.Path.{_≡_}
 use mathlib.Core.Bool.{false}
 use lib.ListN.{length}
-use Rattle.syntax.specs.Extraction.{itemsOf}
+use Rattle.syntax.specs.Extraction.{listEnd, itemEnd, itemsEnd, itemsOf}
 use Rattle.megaco.specs.Items.{propertyItems}
-use Rattle.items.proofs.OneLaws.{property-one}
-use Rattle.items.proofs.ListLaws.{judgeAll, itemsLeft, stands, property-starts, all-none, all-wrong, all-last, all-more}
+use Rattle.items.proofs.OneLaws.{property-one, property-ends}
+use Rattle.items.proofs.ListLaws.{judgeAll, itemsLeft, stands, property-starts, all-none, all-wrong, all-last, all-more, items-begin, ends-last, ends-more}
+use Rattle.items.proofs.CallLaws.{known-by, known-wrong}
+use Rattle.parts.proofs.EndLaws.{all-end-none}
 use Rattle.items.proofs.property_items.Statement.{statement}
 use Rattle.items.proofs.property_items.Tie as tie
 
 abbrev Inv-loop : tie.InvT-loop
 Inv-loop s at k i₀ n₀ seen₀ vs₀ i n seen vs =
-    propertyItems k (itemsOf 6 s at) false vs₀ ≡ judgeAll (propertyItems k) stands (itemsLeft (itemsOf 5 s) 5 s n i) seen vs
+    (propertyItems k (itemsOf 6 s at) false vs₀ ≡ judgeAll (propertyItems k) stands (itemsLeft (itemsOf 5 s) 5 s n i) seen vs)
+    × (itemsEnd 6 s at ≡ listEnd (itemEnd (itemsEnd 5 s) s) s (length s + 1 - n) i)
 
 abbrev μ-loop : tie.MeasureT-loop
 μ-loop s at k i₀ n₀ seen₀ vs₀ i n seen vs = length s + 1 - n
@@ -23,17 +26,17 @@ property-items-spec =
     (tie.spec
     Inv-loop
     μ-loop
-    (λ c. property-starts _ _ _ _)
+    (λ c. (property-starts _ _ _ _, items-begin 5 _ _))
+    (λ c. search needs)
     (λ c κs. search needs)
     (λ c κs. search needs)
     (λ c. search needs)
     (λ c. search needs)
-    (λ c. search (all-wrong, property-one))
+    (λ c. (search (all-wrong, property-one), search known-wrong))
     (λ c κs. search needs)
     (λ c. search needs)
     (λ c. search needs)
-    (λ c. search (all-last, property-one))
+    (λ c. (search (all-last, property-one, property-ends), known-by _ _ (search (ends-last, property-ends))))
     (λ c. search needs)
-    (λ c. search needs)
-    (λ c. search (all-more, property-one))
-    (λ c. search all-none))
+    (λ c. (search (all-more, property-one, property-ends), search (ends-more, property-ends)))
+    (λ c. (search all-none, known-by _ _ (search all-end-none))))

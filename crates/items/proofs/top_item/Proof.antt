@@ -1,5 +1,6 @@
 use borrow.Author.Needs.{needs}
-use Rattle.items.proofs.CallLaws.{judged-right, judged-wrong, code-by}
+use Rattle.items.proofs.CallLaws.{judged-right, judged-wrong, code-by, known-wrong, closed-judged, closed-known}
+use mathlib.Core.Path.{refl}
 use Rattle.items.specs.Judging.{topBy}
 use Rattle.items.proofs.top_item.Statement.{statement}
 use Rattle.items.proofs.top_item.Tie as tie
@@ -11,5 +12,6 @@ top-item-spec =
     (λ c κs. search needs)
     (λ c κs. search needs)
     (λ c κs. search needs)
-    (λ c. unfold topBy in search (judged-right, code-by))
-    (λ c. unfold topBy in search (judged-wrong, code-by)))
+    (λ c κs. search needs)
+    (λ c. (unfold topBy in search (judged-right, code-by, closed-judged), search closed-known))
+    (λ c. (unfold topBy in search (judged-wrong, code-by), known-wrong _ _ _ refl)))

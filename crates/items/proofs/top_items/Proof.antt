@@ -3,16 +3,19 @@ use Prim.Native.Nat.{_+_, _-_}
 use mathlib.Core.Path.{_≡_}
 use mathlib.Core.Bool.{false}
 use lib.ListN.{length}
-use Rattle.syntax.specs.Extraction.{itemsOf}
+use Rattle.syntax.specs.Extraction.{listEnd, itemEnd, itemsEnd, itemsOf}
 use Rattle.megaco.specs.Items.{topItems}
-use Rattle.items.proofs.OneLaws.{top-one}
-use Rattle.items.proofs.ListLaws.{judgeAll, itemsLeft, stands, top-starts, all-none, all-wrong, all-last, all-more}
+use Rattle.items.proofs.OneLaws.{top-one, top-ends}
+use Rattle.items.proofs.ListLaws.{judgeAll, itemsLeft, stands, top-starts, all-none, all-wrong, all-right, all-more, items-begin, ends-last, ends-more}
+use Rattle.items.proofs.CallLaws.{known-by, known-wrong}
+use Rattle.parts.proofs.EndLaws.{all-end-none}
 use Rattle.items.proofs.top_items.Statement.{statement}
 use Rattle.items.proofs.top_items.Tie as tie
 
 abbrev Inv-loop : tie.InvT-loop
 Inv-loop s at i₀ n₀ seen₀ vs₀ i n seen vs =
-    topItems (itemsOf 8 s at) false vs₀ ≡ judgeAll topItems stands (itemsLeft (itemsOf 7 s) 7 s n i) seen vs
+    (topItems (itemsOf 8 s at) false vs₀ ≡ judgeAll topItems stands (itemsLeft (itemsOf 7 s) 7 s n i) seen vs)
+    × (itemsEnd 8 s at ≡ listEnd (itemEnd (itemsEnd 7 s) s) s (length s + 1 - n) i)
 
 abbrev μ-loop : tie.MeasureT-loop
 μ-loop s at i₀ n₀ seen₀ vs₀ i n seen vs = length s + 1 - n
@@ -23,17 +26,17 @@ top-items-spec =
     (tie.spec
     Inv-loop
     μ-loop
-    (λ c. top-starts _ _ _)
+    (λ c. (top-starts _ _ _, items-begin 7 _ _))
+    (λ c. search needs)
     (λ c κs. search needs)
     (λ c κs. search needs)
     (λ c. search needs)
     (λ c. search needs)
-    (λ c. search (all-wrong, top-one))
+    (λ c. (search (all-wrong, top-one), search known-wrong))
     (λ c κs. search needs)
     (λ c. search needs)
     (λ c. search needs)
-    (λ c. search (all-last, top-one))
+    (λ c. (search (all-right, top-one, top-ends), known-by _ _ (search (ends-last, top-ends))))
     (λ c. search needs)
-    (λ c. search needs)
-    (λ c. search (all-more, top-one))
-    (λ c. search all-none))
+    (λ c. (search (all-more, top-one, top-ends), search (ends-more, top-ends)))
+    (λ c. (search all-none, known-by _ _ (search all-end-none))))

@@ -1,15 +1,15 @@
 use mathlib.Core.Path.{_≡_, refl}
-use Rattle.syntax.specs.Extraction.{listEnd, actionEnd, actionsEnd}
-use Rattle.outline.proofs.OutlineLaws.{end-none, end-last, end-more}
+use Rattle.syntax.specs.Extraction.{listEnd, actionEnd}
+use Rattle.parts.proofs.EndLaws.{end-none, end-last, end-more}
 use borrow.Author.Needs.{needs}
 use Rattle.outline.proofs.actions_end.Statement.{statement}
 use Rattle.outline.proofs.actions_end.Tie as tie
 
 abbrev Inv-loop : tie.InvT-loop
-Inv-loop s at i₀ left₀ i left = actionsEnd s at ≡ listEnd (actionEnd s) s left i
+Inv-loop s most at i₀ left₀ i left = listEnd (actionEnd s) s most at ≡ listEnd (actionEnd s) s left i
 
 abbrev μ-loop : tie.MeasureT-loop
-μ-loop s at i₀ left₀ i left = left
+μ-loop s most at i₀ left₀ i left = left
 
 pub actions-end-spec : {M : Type 1} → statement M
 actions-end-spec =
@@ -17,7 +17,7 @@ actions-end-spec =
     (tie.spec
     Inv-loop
     μ-loop
-    (λ c. unfold actionsEnd in refl)
+    (λ c. refl)
     (λ c κs. search needs)
     (λ c κs. search needs)
     (λ c κs. search needs)

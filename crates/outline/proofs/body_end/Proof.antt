@@ -1,6 +1,7 @@
 use Rattle.syntax.specs.Extraction.{bodyEnd}
 use Rattle.base.specs.Pick.{picks}
 use borrow.Author.Needs.{needs}
+use Rattle.outline.proofs.OutlineLaws.{body-commands}
 use Rattle.outline.proofs.body_end.Statement.{statement}
 use Rattle.outline.proofs.body_end.Tie as tie
 
@@ -9,5 +10,5 @@ body-end-spec =
     tie.close
     (tie.spec
     (λ c κs. search needs)
-    (λ c. unfold bodyEnd in search picks)
+    (λ c. search body-commands)
     (λ c. unfold bodyEnd in search picks))

@@ -1,15 +1,15 @@
 use mathlib.Core.Path.{_≡_, refl}
-use Rattle.syntax.specs.Extraction.{listEnd, commandEnd, commandsEnd}
-use Rattle.outline.proofs.OutlineLaws.{end-none, end-last, end-more}
+use Rattle.syntax.specs.Extraction.{listEnd, commandEnd}
+use Rattle.parts.proofs.EndLaws.{end-none, end-last, end-more}
 use borrow.Author.Needs.{needs}
 use Rattle.outline.proofs.commands_end.Statement.{statement}
 use Rattle.outline.proofs.commands_end.Tie as tie
 
 abbrev Inv-loop : tie.InvT-loop
-Inv-loop s at i₀ left₀ i left = commandsEnd s at ≡ listEnd (commandEnd s) s left i
+Inv-loop s most at i₀ left₀ i left = listEnd (commandEnd s) s most at ≡ listEnd (commandEnd s) s left i
 
 abbrev μ-loop : tie.MeasureT-loop
-μ-loop s at i₀ left₀ i left = left
+μ-loop s most at i₀ left₀ i left = left
 
 pub commands-end-spec : {M : Type 1} → statement M
 commands-end-spec =
@@ -17,7 +17,7 @@ commands-end-spec =
     (tie.spec
     Inv-loop
     μ-loop
-    (λ c. unfold commandsEnd in refl)
+    (λ c. refl)
     (λ c κs. search needs)
     (λ c κs. search needs)
     (λ c κs. search needs)

@@ -1,4 +1,5 @@
 use borrow.Author.Needs.{needs}
+use Rattle.outline.proofs.OutlineLaws.{action-ends}
 use Rattle.running.proofs.StartedLaws.{sound-long, held-small}
 use Rattle.running.proofs.ActsLaws.{action-acts}
 use Rattle.running.proofs.run_action.Statement.{statement}
@@ -14,6 +15,7 @@ run-action-spec =
     (λ c κs. (search sound-long, search held-small))
     (λ c. search needs)
     (λ c κs. search needs)
+    (λ c κs. search needs)
     (λ c. search needs)
     (λ c. search needs)
-    (λ c. search action-acts))
+    (λ c. (search action-acts, search action-ends)))

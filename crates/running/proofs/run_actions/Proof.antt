@@ -3,7 +3,8 @@ use mathlib.Core.Path.{_≡_, refl}
 use mathlib.Core.Bool.{true}
 use lib.ListN.{length}
 use Rattle.megaco.specs.Table.{sound}
-use Rattle.syntax.specs.Extraction.{listOf, actionOf, actionEnd, actionsOf}
+use Rattle.syntax.specs.Extraction.{listOf, listEnd, actionOf, actionEnd, actionsOf, actionsEnd}
+use Rattle.parts.proofs.EndLaws.{end-none, end-last, end-more, end-after}
 use Rattle.running.specs.Fold.{runActions}
 use Rattle.running.proofs.ActsLaws.{Leads, begins, acts-sound, actions-none, actions-stop, actions-last, actions-more}
 use Rattle.running.proofs.run_actions.Statement.{statement}
@@ -11,7 +12,7 @@ use Rattle.running.proofs.run_actions.Tie as tie
 
 abbrev Inv-loop : tie.InvT-loop
 Inv-loop s from table₀ out₀ p i₀ left₀ q₀ f₀ table out i left q f =
-    (length table ≡ length table₀) × (length out ≡ length out₀) × (sound table ≡ true)
+    (length table ≡ length table₀) × (length out ≡ length out₀) × (sound table ≡ true) × (actionsEnd s from ≡ listEnd (actionEnd s) s left i)
     × Leads (runActions (actionsOf s from) true table₀) out₀ p (runActions (listOf (actionOf s) (actionEnd s) s left i) f table) out q
 
 abbrev μ-loop : tie.MeasureT-loop
@@ -23,20 +24,21 @@ run-actions-spec =
     (tie.spec
     Inv-loop
     μ-loop
-    (λ c. (refl, refl, search needs, unfold actionsOf in begins _ _ _))
+    (λ c. (refl, refl, search needs, unfold actionsEnd in refl, unfold actionsOf in begins _ _ _))
     (λ c κs. (search needs, search needs))
     (λ c κs. search needs)
     (λ c κs. search needs)
+    (λ c. search needs)
+    (λ c. search needs)
+    (λ c. (search needs, search needs, search acts-sound, search end-more, search actions-more))
+    (λ c. search needs)
+    (λ c. search needs)
+    (λ c. (search actions-last, search end-last))
+    (λ c. search needs)
     (λ c κs. search needs)
     (λ c. search needs)
     (λ c. search needs)
-    (λ c. (search needs, search needs, search acts-sound, search actions-more))
+    (λ c. (search actions-stop, search end-after))
     (λ c. search needs)
     (λ c. search needs)
-    (λ c. search actions-last)
-    (λ c. search needs)
-    (λ c. search needs)
-    (λ c. search actions-stop)
-    (λ c. search needs)
-    (λ c. search needs)
-    (λ c. search actions-none))
+    (λ c. (search actions-none, search end-none)))

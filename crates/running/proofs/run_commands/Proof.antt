@@ -2,7 +2,8 @@ use borrow.Author.Needs.{needs}
 use mathlib.Core.Path.{_≡_, refl}
 use mathlib.Core.Bool.{true}
 use lib.ListN.{length}
-use Rattle.syntax.specs.Extraction.{listOf, commandOf, commandEnd, commandsOf}
+use Rattle.syntax.specs.Extraction.{listOf, listEnd, commandOf, commandEnd, commandsOf, commandsEnd}
+use Rattle.parts.proofs.EndLaws.{end-none, end-last, end-more, end-after}
 use Rattle.tries.proofs.DidLaws.{Leads, begins}
 use Rattle.running.specs.Fold.{runCommands}
 use Rattle.running.proofs.RunLaws.{loop-none, loop-stop, loop-last, loop-more}
@@ -11,7 +12,7 @@ use Rattle.running.proofs.run_commands.Tie as tie
 
 abbrev Inv-loop : tie.InvT-loop
 Inv-loop s from given table₀ out₀ p i₀ left₀ q₀ c₀ f₀ table out i left q c f =
-    (length table ≡ length table₀) × (length out ≡ length out₀)
+    (length table ≡ length table₀) × (length out ≡ length out₀) × (commandsEnd s from ≡ listEnd (commandEnd s) s left i)
     × Leads (runCommands (commandsOf s from) given c₀ table₀) true out₀ p true (runCommands (listOf (commandOf s) (commandEnd s) s left i) given c table) f out q
 
 abbrev μ-loop : tie.MeasureT-loop
@@ -23,20 +24,21 @@ run-commands-spec =
     (tie.spec
     Inv-loop
     μ-loop
-    (λ c. (refl, refl, unfold commandsOf in begins _ _ _ _))
+    (λ c. (refl, refl, unfold commandsEnd in refl, unfold commandsOf in begins _ _ _ _))
     (λ c κs. search needs)
     (λ c κs. search needs)
     (λ c κs. search needs)
+    (λ c. search needs)
+    (λ c. search needs)
+    (λ c. (search needs, search needs, search end-more, search loop-more))
+    (λ c. search needs)
+    (λ c. search needs)
+    (λ c. (search loop-last, search end-last))
+    (λ c. search needs)
     (λ c κs. search needs)
     (λ c. search needs)
     (λ c. search needs)
-    (λ c. (search needs, search needs, search loop-more))
+    (λ c. (search loop-stop, search end-after))
     (λ c. search needs)
     (λ c. search needs)
-    (λ c. search loop-last)
-    (λ c. search needs)
-    (λ c. search needs)
-    (λ c. search loop-stop)
-    (λ c. search needs)
-    (λ c. search needs)
-    (λ c. search loop-none))
+    (λ c. (search loop-none, search end-none)))

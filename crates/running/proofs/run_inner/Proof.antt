@@ -1,5 +1,6 @@
 use borrow.Author.Needs.{needs}
-use Rattle.running.proofs.StartedLaws.{inner-fails, inner-commands, inner-alone}
+use Rattle.syntax.specs.Extraction.{bodyEnd}
+use Rattle.running.proofs.StartedLaws.{inner-fails, inner-commands, inner-alone, body-of-commands, body-alone}
 use Rattle.running.proofs.run_inner.Statement.{statement}
 use Rattle.running.proofs.run_inner.Tie as tie
 
@@ -15,12 +16,13 @@ run-inner-spec =
     (λ c κs. search needs)
     (λ c. search needs)
     (λ c. search needs)
-    (λ c. search inner-commands)
+    (λ c. (search inner-commands, search body-of-commands))
     (λ c κs. search needs)
     (λ c. search needs)
     (λ c. search needs)
-    (λ c. search inner-alone)
+    (λ c. (search inner-alone, search body-alone))
+    (λ c κs. search needs)
     (λ c κs. search needs)
     (λ c. search needs)
     (λ c. search needs)
-    (λ c. search inner-fails))
+    (λ c. (search inner-fails, search needs)))

@@ -27,7 +27,6 @@ run-all-spec =
     (λ c κs. search needs)
     (λ c. (refl, refl, search needs, search message-begins))
     (λ c κs. search needs)
-    (λ c κs. search needs)
     (λ c. search needs)
     (λ c. search needs)
     (λ c. (search needs, search needs, search wrote-sound, search message-more))

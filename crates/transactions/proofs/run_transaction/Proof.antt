@@ -1,4 +1,5 @@
 use borrow.Author.Needs.{needs}
+use Rattle.outline.proofs.OutlineLaws.{transaction-ends}
 use Rattle.transactions.proofs.MessageLaws.{transaction-runs, scratch-fits}
 use Rattle.transactions.proofs.run_transaction.Statement.{statement}
 use Rattle.transactions.proofs.run_transaction.Tie as tie
@@ -16,6 +17,7 @@ run-transaction-spec =
     (λ c κs. search needs)
     (λ c. search needs)
     (λ c κs. search needs)
+    (λ c κs. search needs)
     (λ c. search needs)
     (λ c. search needs)
-    (λ c. search transaction-runs))
+    (λ c. (search transaction-runs, search transaction-ends)))
