@@ -107,51 +107,67 @@ count-at-most c zero l = omega arith
 count-at-most c (suc i) [] = omega arith
 count-at-most c (suc i) (x ∷ l) = omega (arith, one-at-most (eqb x c), count-at-most c i l)
 
--- counter c holds how many of the first i words are c, and none of them is over 128
+-- counter c holds how many of the first i words are c, null not counted, and none of them is over 128
 pub record Counting (row counters : List ℕ) (i : ℕ) : Type 0 where
   pub long : length counters ≡ counted
-  pub counts : (c : ℕ) → c < counted → getD counters c 0 ≡ count c (take i row)
+  pub counts : (c : ℕ) → 0 < c → c < counted → getD counters c 0 ≡ count c (take i row)
   pub fits : every (λ w. leb w contexts) row ≡ every (λ w. leb w contexts) (drop i row)
 
 pub counting-start : (row : List ℕ) → Counting row (replicate counted 0) 0
 unfolding count
-counting-start row = record { long = length-replicate {A = ℕ} counted 0; counts = λ c h. getD-replicate {A = ℕ} counted c 0 0 h; fits = refl }
+counting-start row = record { long = length-replicate {A = ℕ} counted 0; counts = λ c p h. getD-replicate {A = ℕ} counted c 0 0 h; fits = refl }
 
-meet-counted : (cs ms : List ℕ) (c : ℕ) (rs : List ℕ) → ((k : ℕ) → k < counted → getD ms k 0 ≡ count k cs) → c + length rs ≤ counted
+meet-counted : (cs ms : List ℕ) (c : ℕ) (rs : List ℕ) → ((k : ℕ) → 0 < k → k < counted → getD ms k 0 ≡ count k cs) → 0 < c → c + length rs ≤ counted
     → recordsMeet ms c rs ≡ recordsAreSound cs c rs
 unfolding recordsMeet recordsAreSound
-meet-counted cs ms c [] f h = refl
-meet-counted cs ms c (r ∷ rs) f h =
-    let here : getD ms c 0 ≡ count c cs = f c (omega arith) in
-    let rest : recordsMeet ms (c + 1) rs ≡ recordsAreSound cs (c + 1) rs = meet-counted cs ms (c + 1) rs f (omega arith) in
+meet-counted cs ms c [] f p h = refl
+meet-counted cs ms c (r ∷ rs) f p h =
+    let here : getD ms c 0 ≡ count c cs = f c p (omega arith) in
+    let rest : recordsMeet ms (c + 1) rs ≡ recordsAreSound cs (c + 1) rs = meet-counted cs ms (c + 1) rs f (omega arith) (omega arith) in
     rw (here, rest)
 
 module _ (row counters : List ℕ) (i : ℕ) (k : Counting row counters i) where
-  pub counter-fits : (w : ℕ) → w ≤ contexts → i < length row → length row ≤ 65536 → Fits w32 (getD counters w 0 + 1)
-  counter-fits w h l b = record { fits = omega (arith, k .counts w (omega arith), count-at-most w i row) }
+  pub counter-fits : (w : ℕ) → 0 < w → w ≤ contexts → i < length row → length row ≤ 65536 → Fits w32 (getD counters w 0 + 1)
+  counter-fits w p h l b = record { fits = omega (arith, k .counts w p (omega arith), count-at-most w i row) }
 
-  pub counting-on : i < length row → getD row i 0 ≤ contexts
+  -- null is passed over
+  pub counting-null : i < length row → getD row i 0 ≤ 0 → Counting row counters (i + 1)
+  unfolding every pick
+  counting-null h z =
+      record {
+        long = k .long;
+        counts = λ c p l. same c p l;
+        fits = k .fits ∙ rw (drop-cons row i 0, le-leb (getD row i 0) contexts (omega arith), add-one);
+      }
+    where
+      same : (c : ℕ) → 0 < c → c < counted → getD counters c 0 ≡ count c (take (i + 1) row)
+      same c p l =
+          let e : eqb (getD row i 0) c ≡ false = ne-eqb (getD row i 0) c (λ q. omega arith) in
+          let n : count c (take (suc i) row) ≡ count c (take i row) + 0 = count-next c i row h ∙ rw e in
+          rw (add-one i, n, add-zero) (k .counts c p l)
+
+  pub counting-on : i < length row → 0 < getD row i 0 → getD row i 0 ≤ contexts
       → Counting row (set counters (getD row i 0) (getD counters (getD row i 0) 0 + 1)) (i + 1)
   unfolding every pick
-  counting-on h b =
+  counting-on h p b =
       record {
         long = length-set counters w (getD counters w 0 + 1) ∙ k .long;
-        counts = λ c l. next c l (eqb w c) refl;
+        counts = λ c o l. next c o l (eqb w c) refl;
         fits = k .fits ∙ rw (drop-cons row i 0, le-leb w contexts b, add-one);
       }
     where
       w : ℕ
       w = getD row i 0
 
-      next : (c : ℕ) → c < counted → (t : Bool) → eqb w c ≡ t → getD (set counters w (getD counters w 0 + 1)) c 0 ≡ count c (take (i + 1) row)
-      next c l true e =
+      next : (c : ℕ) → 0 < c → c < counted → (t : Bool) → eqb w c ≡ t → getD (set counters w (getD counters w 0 + 1)) c 0 ≡ count c (take (i + 1) row)
+      next c o l true e =
           let n : count c (take (suc i) row) ≡ count c (take i row) + 1 = count-next c i row h ∙ rw e in
           let s : w ≡ c = eqb-true w c e in
           let a : w < length counters = omega (arith, k .long) in
-          rw (add-one i, n, ← s) (getD-set-same counters w (getD counters w 0 + 1) 0 a ∙ ap (λ (x : ℕ). x + 1) (k .counts w (omega arith)))
-      next c l false e =
+          rw (add-one i, n, ← s) (getD-set-same counters w (getD counters w 0 + 1) 0 a ∙ ap (λ (x : ℕ). x + 1) (k .counts w p (omega arith)))
+      next c o l false e =
           let n : count c (take (suc i) row) ≡ count c (take i row) + 0 = count-next c i row h ∙ rw e in
-          rw (add-one i, n, add-zero) (getD-set-other counters w c (getD counters w 0 + 1) 0 (λ d. eqb-false w c e (sym d)) ∙ k .counts c l)
+          rw (add-one i, n, add-zero) (getD-set-other counters w c (getD counters w 0 + 1) 0 (λ d. eqb-false w c e (sym d)) ∙ k .counts c o l)
 
   pub counting-no : (q : Bool) → i < length row → contexts < getD row i 0 → false ≡ (every (λ w. leb w contexts) row && q)
   unfolding every pick
@@ -163,7 +179,7 @@ module _ (row counters : List ℕ) (i : ℕ) (k : Counting row counters i) where
   counting-end r rs h l e =
       let t : every (λ w. leb w contexts) row ≡ true = k .fits ∙ rw (drop-of-length-le row h) in
       let a : take i row ≡ row = take-all i row h in
-      let m : recordsMeet counters 1 rs ≡ recordsAreSound row 1 rs = meet-counted row counters 1 rs (λ c b. k .counts c b ∙ ap (count c) a) (omega arith) in
+      let m : recordsMeet counters 1 rs ≡ recordsAreSound row 1 rs = meet-counted row counters 1 rs (λ c p b. k .counts c p b ∙ ap (count c) a) (omega arith) (omega arith) in
       rw t (e ∙ m)
 
 -- the test of a record, as the code makes it

@@ -35,7 +35,8 @@ pub fn is_sound(table: &[u32]) -> bool
 
 // ---- contexts
 
-// Each context word at most 128, and each record as its members ask. Counter c holds how many of the words passed are c.
+// Each context word at most 128, and each record as its members ask. Counter c holds how many of the words passed are c; null is not
+// counted, for it is most often there and has no record.
 fn contexts_are_sound(row: &[u32], records: &[u32]) -> bool
     requires { ⌜ (length (now row) ≤ 65536) × (length (now records) ≤ contexts) ⌝ }
     ensures { λ r. ⌜ r ≡ (every (λ w. leb w contexts) (now (row .entry)) && recordsAreSound (now (row .entry)) 1 (now (records .entry))) ⌝ }
@@ -47,9 +48,13 @@ fn contexts_are_sound(row: &[u32], records: &[u32]) -> bool
         if CONTEXTS < w {
             return false;
         }
-        let c = w as usize;
-        counters[c] = counters[c] + 1;
-        i += 1;
+        if 0 < w {
+            let c = w as usize;
+            counters[c] = counters[c] + 1;
+            i += 1;
+        } else {
+            i += 1;
+        }
     }
     records_meet(&counters, records)
 }

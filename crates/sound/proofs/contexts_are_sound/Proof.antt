@@ -2,7 +2,7 @@ use borrow.Author.Needs.{needs}
 use Prim.Native.Nat.{_-_}
 use mathlib.Core.Path.{sym}
 use lib.ListN.{length}
-use Rattle.sound.proofs.SoundLaws.{Counting, counting-start, counting-on, counting-no, counting-end, counter-fits}
+use Rattle.sound.proofs.SoundLaws.{Counting, counting-start, counting-on, counting-null, counting-no, counting-end, counter-fits}
 use Rattle.sound.proofs.contexts_are_sound.Statement.{statement}
 use Rattle.sound.proofs.contexts_are_sound.Tie as tie
 
@@ -31,6 +31,9 @@ contexts-are-sound-spec =
     (λ c. search needs)
     (λ c. search needs)
     (λ c. search counting-on)
+    (λ c. search needs)
+    (λ c. search needs)
+    (λ c. search counting-null)
     (λ c. sym (c .before .before .loop .inv .long))
     (λ c κs. search needs)
     (λ c. search counting-end))
