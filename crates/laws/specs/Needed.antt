@@ -1,4 +1,5 @@
--- Each condition of demand 3 is needed: with one of them left out there are two transactions whose order counts.
+-- Each condition of demand 3 that sets the two transactions apart is needed: with one left out the claim is refuted, by a sound table and two
+-- transactions whose order counts. That the table is sound is left out in none of them: no counterexample is shown for it.
 use Prim.Native.Nat.{ℕ, _<_}
 use mathlib.Core.Path.{_≡_, refl, sym, _∙_}
 use mathlib.Core.Bool.{Bool, true, false, not, _&&_}

@@ -12,11 +12,9 @@ use Rattle.megaco.specs.Table.{sound}
 use Rattle.megaco.specs.Reply.{headerText}
 use Rattle.megaco.specs.Running.{Ran, runMessage}
 
--- what a call answers, and what it leaves in the two slices lent to it
+-- what a call answers, document 01's number of the refusal or 0, and the reply's length; what it leaves in the two slices lent to it
 pub record Called : Type 0 where
-  -- document 01's number of the refusal, 0 for a call that is taken
   pub refusal : ℕ
-  -- the reply's length
   pub size : ℕ
   pub table : List ℕ
   pub reply : List ℕ

@@ -8,7 +8,6 @@ use Rattle.megaco.specs.Bytes.{capitals}
 use Rattle.megaco.specs.declared.Token.{Token}
 use Rattle.megaco.specs.declared.Token.the-variants.{MegacopToken, TransToken, CtxToken, AddToken, ModifyToken, SubtractToken, MoveToken, MediaToken, LocalControlToken, TerminationStateToken, ModeToken, ServiceStatesToken, PriorityToken, EmergencyToken, InactiveToken, SendonlyToken, RecvonlyToken, SendrecvToken, LoopbackToken, InSvcToken, OutOfSvcToken, TestToken}
 
--- a keyword's long and short form
 pub data Forms : Type 0 where
   forms : (long short : List ℕ) → Forms
 

@@ -1,5 +1,4 @@
--- Reading a message: bytes to tree (document 01, 'The text', in Annex B.2's order). Each reader takes the message and a position and gives
--- the tree of the part that stands there with the place after it, white space included, or a fault.
+-- Bytes to tree (document 01, 'The text', in Annex B.2's order). A reader gives a part's tree and the place after it and its white space, or a fault.
 use Prim.Native.Nat.{ℕ, zero, suc, _+_, _-_}
 use mathlib.Core.Bool.{Bool, _&&_, _||_}
 use mathlib.Core.List.{List, [], _∷_}
@@ -26,7 +25,6 @@ use Rattle.megaco.specs.declared.Property.{Property}
 use Rattle.megaco.specs.declared.Property.the-variants.{Priority, Emergency}
 
 -- ---- what a reader gives, and how one follows another
-
 pub data Read (A : Type 0) : Type 0 where
   got : A → ℕ → Read A
   fault : Read A
@@ -74,7 +72,6 @@ unfoldable pub wordR : List ℕ → ℕ → Read (List ℕ)
 wordR s at = reading (wordAt s at) (part s at)
 
 -- ---- items
-
 -- "optional `/` word"
 unfoldable pub secondR : List ℕ → ℕ → Read (Option (List ℕ))
 secondR s at = pick (isAt s at slash) (bind (wordR s (at + 1)) (λ w p. got (some w) p)) (got none at)
@@ -100,8 +97,7 @@ itemR inner s at =
     bind (wordR s at) (λ w p.
     bind (spaced s (secondR s p)) (λ x q.
     bind (valueR s q) (λ v r.
-    bind (bracesR inner s r) (λ is e.
-    got (item w x v is) e))))
+    bind (bracesR inner s r) (λ is e. got (item w x v is) e))))
 
 -- "Items are one or more, joined by commas", of k levels
 unfoldable pub itemsR : (k : ℕ) → List ℕ → ℕ → Read (List (Item k))
@@ -109,7 +105,6 @@ itemsR zero s at = fault
 itemsR (suc k) s at = listR (itemR (itemsR k s) s) s (unlimited s) at
 
 -- ---- commands
-
 -- `O-` or `W-` stands here, in either letter case
 unfoldable pub prefixAt : ℕ → List ℕ → ℕ → Bool
 prefixAt b s at = eqb (capital (getD s at 0)) b && isAt s (at + 1) dash
@@ -131,11 +126,9 @@ commandR s at =
     bind (spaced s (orderR s (prefixEnd 0x57 s o))) (λ w p.
     skip (signAt equal s p) (λ q.
     bind (spaced s (reading (terminationAt s q) (part s q))) (λ n r.
-    bind (bracesR (itemsR 8 s) s r) (λ is e.
-    got (command (prefixAt 0x4f s at) (prefixAt 0x57 s o) w n is) e))))
+    bind (bracesR (itemsR 8 s) s r) (λ is e. got (command (prefixAt 0x4f s at) (prefixAt 0x57 s o) w n is) e))))
 
 -- ---- actions
-
 -- "number up to 4294967295, at most 10 digits, or `-`, `$`, `*`"
 unfoldable pub contextR : List ℕ → ℕ → Read Context
 contextR s at =
@@ -144,15 +137,13 @@ contextR s at =
     (pick (isAt s at star) (got All (at + 1))
     (readNumber (numberAt s at 10 4294967295) Numbered)))
 
--- the whole word that stands here
 unfoldable pub wordHere : List ℕ → ℕ → List ℕ
 wordHere s at = part s at (rowAt WordByte s at)
 
 -- "PR `=` 1 to 5 digits; EG"
 unfoldable pub propertyR : List ℕ → ℕ → Read Property
 propertyR s at =
-    pick (spells EmergencyToken (wordHere s at))
-    (spaced s (reading (wordAt s at) (λ e. Emergency)))
+    pick (spells EmergencyToken (wordHere s at)) (spaced s (reading (wordAt s at) (λ e. Emergency)))
     (skip (keyAt PriorityToken s at) (λ p. spaced s (readNumber (numberAt s p 5 99999) Priority)))
 
 -- what stands in an action's braces
@@ -162,7 +153,6 @@ pub data Body : Type 0 where
 unfoldable pub withProperty : Property → Body → Body
 withProperty p (body ps cs) = body (p ∷ ps) cs
 
--- a property, and what may follow it
 unfoldable pub propertyThen : (ℕ → Read Body) → List ℕ → ℕ → Read Body
 propertyThen rest s at =
     bind (propertyR s at) (λ x p.
@@ -189,17 +179,15 @@ actionR s at =
     skip (signAt rightBrace s e) (got (actionOf c b))))))
 
 -- ---- transactions and the message: where a fault is told
-
 -- "1 to 16 actions, comma between", from behind the opening brace through the closing one
 unfoldable pub actionsR : List ℕ → ℕ → Read (List Action)
 actionsR s at = skip (whiteAt s at) (λ p. bind (listR (actionR s) s 16 p) (λ acts q. skip (markAt rightBrace s q) (got acts)))
 
--- "Fault elsewhere: ER=400{}"
+-- "Fault elsewhere: ER=400{}": of a part, and of a number, that stands outside a transaction's braces
 unfoldable pub elsewhere : Parsed → (ℕ → Message) → Message
 elsewhere (Next p) f = f p
 elsewhere Fault f = fault400
 
--- a number that must stand outside a transaction's braces
 unfoldable pub numbered : Number → (ℕ → ℕ → Message) → Message
 numbered (Got v p) f = f v p
 numbered Bad f = fault400
@@ -210,12 +198,8 @@ inside id (got acts p) f = f acts p
 inside id fault f = fault403 id
 
 unfoldable pub followed : Transaction → Message → Message
-followed x (wellFormed xs) = wellFormed (x ∷ xs)
-followed x fault400 = fault400
-followed x (fault403 id) = fault403 id
-followed x fault406 = fault406
+followed x = elim [ wellFormed xs ↦ wellFormed (x ∷ xs) | fault400 ↦ fault400 | fault403 id ↦ fault403 id | fault406 ↦ fault406 ]
 
--- the end of the message, or more of it
 unfoldable pub endOr : (ℕ → Message) → Transaction → List ℕ → ℕ → Message
 endOr rest x s at = let more = followed x (rest at) in pick (ltb at (length s)) more (wellFormed (x ∷ []))
 
@@ -224,8 +208,7 @@ unfoldable pub bracesThen : (ℕ → Message) → ℕ → List ℕ → ℕ → M
 bracesThen rest id s at =
     elsewhere (after (whiteAt s at) (markAt leftBrace s)) (λ p.
     inside id (actionsR s p) (λ acts q.
-    elsewhere (whiteAt s q) (λ e.
-    endOr rest (transaction id acts) s e)))
+    elsewhere (whiteAt s q) (λ e. endOr rest (transaction id acts) s e)))
 
 -- at most k transactions, to the end of the message. "or identifier 0": 403 as soon as its digits end
 unfoldable pub transactionsR : ℕ → List ℕ → ℕ → Message
@@ -233,16 +216,12 @@ transactionsR zero s at = fault400
 transactionsR (suc k) s at =
     elsewhere (keyAt TransToken s at) (λ p.
     numbered (numberAt s p 10 4294967295) (λ id q.
-    let rest = bracesThen (transactionsR k s) id s q in
-    pick (eqb id 0) (fault403 0) rest))
+    let rest = bracesThen (transactionsR k s) id s q in pick (eqb id 0) (fault403 0) rest))
 
 -- "MEGACO `/`", before the version
 unfoldable pub startAt : List ℕ → Parsed
-startAt s =
-    after (whiteAt s 0) (λ p.
-    after (pick (isAt s p 0x21) (Next (p + 1)) (keywordAt MegacopToken s p)) (markAt slash s))
+startAt s = after (whiteAt s 0) (λ p. after (pick (isAt s p 0x21) (Next (p + 1)) (keywordAt MegacopToken s p)) (markAt slash s))
 
--- the mId, with white space on both sides
 unfoldable pub senderAt : List ℕ → ℕ → Parsed
 senderAt s at = after (sepAt s at) (λ p. after (mIdAt s p) (sepAt s))
 
@@ -252,5 +231,4 @@ messageR s =
     elsewhere (startAt s) (λ p.
     numbered (numberAt s p 2 99) (λ v q.
     elsewhere (senderAt s q) (λ r.
-    let rest = transactionsR 8 s r in
-    pick (eqb v 1) rest fault406)))
+    let rest = transactionsR 8 s r in pick (eqb v 1) rest fault406)))

@@ -26,10 +26,7 @@ pub record Acted : Type 0 where
   pub said : List Report
 
 unfoldable pub opText : Op → List ℕ
-opText Add = text "A"
-opText Modify = text "MF"
-opText Subtract = text "S"
-opText Move = text "MV"
+opText = elim [ Add ↦ text "A" | Modify ↦ text "MF" | Subtract ↦ text "S" | Move ↦ text "MV" ]
 
 unfoldable pub errorText : ℕ → List ℕ
 errorText code = text "ER=" then decimal code then text "{}"
@@ -52,12 +49,8 @@ reportsText first (r ∷ rs) = separator first then reportText r then reportsTex
 
 -- "`$` not turned into a number stays `$`"
 unfoldable pub contextText : Context → List ℕ
-contextText Null = text "-"
-contextText (Numbered c) = decimal c
-contextText Choose = text "$"
-contextText All = text "*"
+contextText = elim [ Null ↦ text "-" | Numbered c ↦ decimal c | Choose ↦ text "$" | All ↦ text "*" ]
 
--- `C=id{..}`
 unfoldable pub actionText : Context → List Report → List ℕ
 actionText at said = text "C=" then contextText at then text "{" then reportsText true said then text "}"
 
@@ -70,7 +63,6 @@ unfoldable pub actionsText : List Acted → List ℕ
 actionsText [] = []
 actionsText (a ∷ earlier) = earlierText earlier (actionsText earlier) then actionText (a .at) (a .said)
 
--- `P=id{..}` around a text
 unfoldable pub replyText : ℕ → List ℕ → List ℕ
 replyText id x = text "P=" then decimal id then text "{" then x then text "}"
 

@@ -1,5 +1,5 @@
 -- Running a transaction (document 01, 'Running'): a list of steps, action starts and commands. An attempt takes a small view of the table, is
--- judged by it alone, and then writes a few words.
+-- judged by it alone, and then writes a few words. `elim [ case ↦ result | .. ]` goes by cases, on one line.
 use Prim.Native.Nat.{ℕ, _+_, _*_, _-_}
 use mathlib.Core.Bool.{Bool, true, false, not, _&&_, _||_}
 use mathlib.Core.List.{List, [], _∷_, _++_}
@@ -29,9 +29,7 @@ use Rattle.megaco.specs.declared.Values.{Values}
 use Rattle.megaco.specs.declared.Seen.{Seen}
 use Rattle.megaco.specs.declared.View.{View}
 
--- ---- tests
-
--- a test: its code stands where the flag is up
+-- ---- tests: a flag, and the code to give where it is up; the first that is up decides
 pub data Check : Type 0 where
   check : Bool → ℕ → Check
 
@@ -39,13 +37,11 @@ pub data Result : Type 0 where
   refused : ℕ → Result
   done : List Write → Result
 
--- the first test whose flag is up decides
 unfoldable pub judge : List Check → List Write → Result
 judge [] ws = done ws
 judge (check b code ∷ cs) ws = let r = judge cs ws in pick b (refused code) r
 
 -- ---- what an attempt sees of the table
-
 abbrev pub unseen : Seen
 unseen = record { held = 0; members = 0 }
 
@@ -54,29 +50,19 @@ seen c t = let s : Seen = record { held = get t (cell (rec c)); members = member
 
 -- null is 0 in the table; `$` and `*` are no number yet
 unfoldable pub numberOf : Context → ℕ
-numberOf Null = 0
-numberOf (Numbered c) = c
-numberOf Choose = 0
-numberOf All = 0
+numberOf = elim [ Null ↦ 0 | Numbered c ↦ c | Choose ↦ 0 | All ↦ 0 ]
 
 -- "the lowest number absent before that attempt", asked in `$` alone
 unfoldable pub freeAt : Context → List ℕ → ℕ
-freeAt Null t = 0
-freeAt (Numbered c) t = 0
-freeAt Choose t = freeContext t
-freeAt All t = 0
+freeAt at t = elim at [ Null ↦ 0 | Numbered c ↦ 0 | Choose ↦ freeContext t | All ↦ 0 ]
 
 unfoldable pub look : Context → ℕ → List ℕ → View
 look at i t =
     record { here = get t (ctx i); word = get t (cell (prop i)); there = seen (numberOf at) t; from = seen (get t (ctx i)) t; free = freeAt at t }
 
 -- ---- one attempt: tests 5 and 6, and what it changes
-
 unfoldable pub isChoose : Context → Bool
-isChoose Null = false
-isChoose (Numbered c) = false
-isChoose Choose = true
-isChoose All = false
+isChoose = elim [ Null ↦ false | Numbered c ↦ false | Choose ↦ true | All ↦ false ]
 
 -- the number of the context that an attempt means
 unfoldable pub target : Context → View → ℕ
@@ -101,7 +87,6 @@ joining at given v ws = pick (isChoose at) (write (cell (rec (v .free))) given �
 unfoldable pub leaving : View → List Write → List Write
 leaving v ws = pick (leb (v .from .members) 1) (write (cell (rec (v .here))) 0 ∷ ws) ws
 
--- a termination put into a context, with its property word
 unfoldable pub placed : ℕ → ℕ → ℕ → List Write
 placed i c word = write (ctx i) c ∷ write (cell (prop i)) word ∷ []
 
@@ -136,15 +121,13 @@ pub record Effect : Type 0 where
 
 -- "A success, and an attempt of a wildcard, bears the full name with capital letters; other failures the bytes received"
 unfoldable pub concluded : Op → Bool → List ℕ → ℕ → Context → View → Result → Effect
-concluded op wild name i at v (refused code) =
-    record { writes = []; report = tried op (pick wild (nameText i) name) code; at = at; good = false }
+concluded op wild name i at v (refused code) = record { writes = []; report = tried op (pick wild (nameText i) name) code; at = at; good = false }
 concluded op wild name i at v (done ws) = record { writes = ws; report = tried op (nameText i) 0; at = settled at v; good = true }
 
 unfoldable pub effect : Op → Bool → List ℕ → ℕ → Values → ℕ → Context → View → Effect
 effect op wild name given vs i at v = concluded op wild name i at v (attempt op at given i vs v)
 
 -- ---- one command
-
 -- what a command leaves: the table, its reports, the action's context, and whether the transaction goes on
 pub record Outcome : Type 0 where
   pub table : List ℕ
@@ -173,10 +156,7 @@ actionError code at t = outcome t (failed code ∷ []) at false
 
 -- "for Add, those in null; for Modify and Subtract, those in the action's context; for Move, those in a non-null context other than the target"
 unfoldable pub wanted : Op → ℕ → ℕ → Bool
-wanted Add c word = eqb word 0
-wanted Modify c word = eqb word c
-wanted Subtract c word = eqb word c
-wanted Move c word = not (eqb word 0) && not (eqb word c)
+wanted op c word = elim op [ Add ↦ eqb word 0 | Modify ↦ eqb word c | Subtract ↦ eqb word c | Move ↦ not (eqb word 0) && not (eqb word c) ]
 
 -- "A wildcard matches existing terminations only", "tried in ascending number": from number i on, with the rest of the context words
 unfoldable pub matchesFrom : Op → ℕ → Range → ℕ → List ℕ → List ℕ
@@ -194,33 +174,20 @@ pub data Aim : Type 0 where
   meets : (wild : Bool) → List ℕ → Aim
 
 unfoldable pub isAdd : Op → Bool
-isAdd Add = true
-isAdd Modify = false
-isAdd Subtract = false
-isAdd Move = false
+isAdd = elim [ Add ↦ true | Modify ↦ false | Subtract ↦ false | Move ↦ false ]
 
 unfoldable pub isModify : Op → Bool
-isModify Add = false
-isModify Modify = true
-isModify Subtract = false
-isModify Move = false
+isModify = elim [ Add ↦ false | Modify ↦ true | Subtract ↦ false | Move ↦ false ]
 
 unfoldable pub isSubtract : Op → Bool
-isSubtract Add = false
-isSubtract Modify = false
-isSubtract Subtract = true
-isSubtract Move = false
+isSubtract = elim [ Add ↦ false | Modify ↦ false | Subtract ↦ true | Move ↦ false ]
 
 unfoldable pub isNull : Context → Bool
-isNull Null = true
-isNull (Numbered c) = false
-isNull Choose = false
-isNull All = false
+isNull = elim [ Null ↦ true | Numbered c ↦ false | Choose ↦ false | All ↦ false ]
 
 -- "`ROOT`: 410 unless Modify; 435 outside `-`; 447 with items"
 unfoldable pub aimRoot : Op → Context → Bool → Aim
-aimRoot op at items =
-    pick (not (isModify op)) (misses 410) (pick (not (isNull at)) (misses 435) (pick items (misses 447) gateway))
+aimRoot op at items = pick (not (isModify op)) (misses 410) (pick (not (isNull at)) (misses 435) (pick items (misses 447) gateway))
 
 -- "choose the lowest absent ephemeral, 432 if none"
 unfoldable pub aimFree : ℕ → Aim
@@ -262,10 +229,7 @@ barred op at = isNull at && not (isModify op)
 
 -- "411: the context does not exist now .., or `$` not yet a number for Modify and Subtract"; no command comes to run in `*`
 unfoldable pub lost : Op → Context → ℕ → Bool
-lost op Null held = false
-lost op (Numbered c) held = eqb held 0
-lost op Choose held = isModify op || isSubtract op
-lost op All held = true
+lost op at held = elim at [ Null ↦ false | Numbered c ↦ eqb held 0 | Choose ↦ isModify op || isSubtract op | All ↦ true ]
 
 -- test 4 after test 3
 unfoldable pub named : Op → List ℕ → ℕ → Bool → Judged → Context → List ℕ → Outcome
@@ -286,14 +250,12 @@ unlessOptional o x = outcome (x .table) (x .reports) (x .at) (x .going || o)
 unfoldable pub ordered : Bool → Option Op → List ℕ → Items → ℕ → Context → List ℕ → Outcome
 ordered o none name items given at t = actionError 443 at t
 ordered o (some op) name items given at t =
-    let r = unlessOptional o (tested op name items given at t) in
-    pick (barred op at) (actionError 421 at t) r
+    let r = unlessOptional o (tested op name items given at t) in pick (barred op at) (actionError 421 at t) r
 
 unfoldable pub runCommand : Command → ℕ → Context → List ℕ → Outcome
 runCommand (command o w word name items) given at t = ordered o (opOf w word) name items given at t
 
--- ---- an action's start
-
+-- ---- an action's start; `held` is the record of its context, 0 where there is none
 unfoldable pub over15 : List Property → Bool
 over15 [] = false
 over15 (Priority n ∷ ps) = ltb 15 n || over15 ps
@@ -344,13 +306,10 @@ startedBy c ps alone held (refused code) =
 startedBy c ps alone held (done ws) =
     record { writes = ws; acted = record { at = c; given = setProperties ps newRecord; said = startReports ps alone held }; going = true }
 
--- given the record of its context
 unfoldable pub started : Context → List Property → Bool → ℕ → Start
 started c ps alone held = startedBy c ps alone held (judge (startChecks c ps alone held) (startWrites c ps held))
 
--- ---- a transaction
-
--- an action's start, with its properties and whether they stand alone; a command
+-- ---- a transaction: its steps are action starts, with the properties and whether they stand alone, and commands
 pub data Step : Type 0 where
   start : Context → List Property → (alone : Bool) → Step
   order : Command → Step
@@ -406,7 +365,6 @@ run (s ∷ ss) x = run ss (step s x)
 abbrev pub fresh : Progress
 fresh = progress true []
 
--- the table and the text that a part of a message leaves
 pub record Ran : Type 0 where
   pub table : List ℕ
   pub text : List ℕ
@@ -414,17 +372,14 @@ pub record Ran : Type 0 where
 abbrev pub ran : List ℕ → List ℕ → Ran
 ran t x = record { table = t; text = x }
 
--- a transaction's table and its `P=id{..}`
 unfoldable pub runTransaction : Transaction → List ℕ → Ran
-runTransaction (transaction id acts) t =
-    let x = run (steps acts) (state t fresh) in ran (x .table) (transactionText id (x .progress .acts))
+runTransaction (transaction id acts) t = let x = run (steps acts) (state t fresh) in ran (x .table) (transactionText id (x .progress .acts))
 
 unfoldable pub runTransactions : List Transaction → List ℕ → Ran
 runTransactions [] t = ran t []
 runTransactions (x ∷ xs) t =
     let y = runTransaction x t in
-    let z = runTransactions xs (y .table) in
-    ran (z .table) (y .text then z .text)
+    let z = runTransactions xs (y .table) in ran (z .table) (y .text then z .text)
 
 -- "The whole message is read before anything runs. On a fault nothing runs"
 unfoldable pub runMessage : Message → List ℕ → Ran

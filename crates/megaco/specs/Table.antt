@@ -7,13 +7,10 @@ use lib.Dec.{ltb, leb, eqb}
 use Rattle.base.specs.Pick.{pick}
 use Rattle.base.specs.Lists.{every, count, lowestAbsent}
 
--- ---- sizes
-
--- the number of lines fitted; the number of terminations and of words follows from it
+-- ---- sizes: the lines fitted and the speech channels of each; the numbers of terminations and of words follow
 abbrev pub lines : ℕ
 lines = 8
 
--- speech channels of a line
 abbrev pub channels : ℕ
 channels = 31
 
@@ -38,11 +35,9 @@ abbrev pub most : ℕ
 most = 8
 
 -- ---- slots: every word has one
-
 -- a termination's properties, a context's record
 pub data Cell : Type 0 where
-  prop : ℕ → Cell
-  rec : ℕ → Cell
+  prop rec : ℕ → Cell
 
 -- the context that a termination stands in, or another word
 pub data Slot : Type 0 where
@@ -62,7 +57,6 @@ address (cell x) = terminations + offset x
 abbrev pub get : List ℕ → Slot → ℕ
 get t s = getD t (address s) 0
 
--- one word to write
 pub data Write : Type 0 where
   write : Slot → ℕ → Write
 
@@ -74,7 +68,6 @@ apply [] t = t
 apply (w ∷ ws) t = apply ws (store w t)
 
 -- ---- parts of the table
-
 unfoldable pub contextWords : List ℕ → List ℕ
 contextWords t = take terminations t
 
@@ -91,7 +84,6 @@ unfoldable pub ephemeralProperties : List ℕ → List ℕ
 ephemeralProperties t = drop lineTerminations (propertyWords t)
 
 -- ---- what the words tell
-
 -- lines have the numbers before the ephemerals
 unfoldable pub isEphemeral : ℕ → Bool
 isEphemeral i = leb lineTerminations i
@@ -104,7 +96,6 @@ exists i word = not (isEphemeral i && eqb word 0)
 unfoldable pub known : ℕ → Bool
 known c = ltb 0 c && leb c contexts
 
--- terminations that stand in a context
 unfoldable pub members : ℕ → List ℕ → ℕ
 members c t = count c (contextWords t)
 
@@ -131,7 +122,6 @@ abbrev pub emergencyOf : ℕ → ℕ
 emergencyOf record′ = (record′ - 1) / 16
 
 -- ---- soundness
-
 -- "each property one of the 15 values"
 unfoldable pub isPropertyWord : ℕ → Bool
 isPropertyWord word = leb (modeOf word) 4 && leb (stateOf word) 2

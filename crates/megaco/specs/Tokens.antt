@@ -1,5 +1,4 @@
--- Words, numbers, values, names and the message identifier (document 01, 'The text'). Each reader takes the message and a position and
--- finds the place after the part that stands there. White space is no matter of theirs.
+-- Words, numbers, values, names, the message identifier (document 01, 'The text'). Each reader finds the place after the part at a position.
 use Prim.Native.Nat.{ℕ, _+_, _*_, _-_}
 use mathlib.Core.Bool.{Bool, false, _&&_, _||_}
 use mathlib.Core.List.{List, [], _∷_}
@@ -18,7 +17,6 @@ use Rattle.megaco.specs.declared.Number.the-variants.{Got, Bad}
 use Rattle.megaco.specs.declared.Class.{Class}
 use Rattle.megaco.specs.declared.Class.the-variants.{WordByte, NameByte, SafeByte, QuotedByte, DomainByte}
 
--- one given byte
 unfoldable pub markAt : ℕ → List ℕ → ℕ → Parsed
 markAt b s at = pick (isAt s at b) (Next (at + 1)) Fault
 
@@ -45,7 +43,6 @@ upTo64 a e = pick (ltb 64 (e - a)) Fault (Next e)
 unfoldable pub wordAt : List ℕ → ℕ → Parsed
 wordAt s at = let e = rowAt WordByte s at in pick (letterAt s at) (upTo64 at e) Fault
 
--- a word that is the keyword
 unfoldable pub keywordAt : Token → List ℕ → ℕ → Parsed
 keywordAt k s at = after (wordAt s at) (λ e. pick (spells k (part s at e)) (Next e) Fault)
 
@@ -61,7 +58,6 @@ unfoldable pub terminationAt : List ℕ → ℕ → Parsed
 terminationAt s at = pick (letterAt s (pathStart s at)) (pathNameAt s at) (pick (isAt s at star || isAt s at dollar) (Next (at + 1)) Fault)
 
 -- ---- numbers
-
 -- the number that ends at n, if it has a digit
 unfoldable pub numberEnd : ℕ → ℕ → ℕ → Number
 numberEnd at n v = pick (ltb at n) (Got v n) Bad
@@ -83,7 +79,6 @@ afterNumber (Got v p) f = f p
 afterNumber Bad f = Fault
 
 -- ---- values
-
 -- "a quoted string with 0 to 64 of SafeChar, RestChar, space and tab inside"
 unfoldable pub quotedAt : List ℕ → ℕ → Parsed
 quotedAt s at = let e = rowAt QuotedByte s (at + 1) in after (upTo64 (at + 1) e) (markAt quote s)
@@ -96,7 +91,6 @@ unfoldable pub valueAt : List ℕ → ℕ → Parsed
 valueAt s at = pick (isAt s at quote) (quotedAt s at) (plainAt s at)
 
 -- ---- the message identifier: an address or a domain name with an optional port, or a path name
-
 -- "optional `:` and port 0..65535 (1 to 5 digits)"
 unfoldable pub portAt : List ℕ → ℕ → Parsed
 portAt s at = pick (isAt s at colon) (afterNumber (numberAt s (at + 1) 5 65535) Next) (Next at)
@@ -121,8 +115,7 @@ mIdAt s at = pick (isAt s at 0x5b) (after (addressAt s at) (portAt s)) (pick (is
 
 -- the gateway's own mId: the whole slice, at most 64 bytes
 unfoldable pub wholeAt : Parsed → ℕ → Bool
-wholeAt (Next p) n = eqb p n
-wholeAt Fault n = false
+wholeAt r n = elim r [ Next p ↦ eqb p n | Fault ↦ false ]
 
 unfoldable pub isMid : List ℕ → Bool
 isMid own = leb (length own) 64 && wholeAt (mIdAt own 0) (length own)

@@ -6,7 +6,6 @@ use mathlib.Core.Option.{Option}
 use Rattle.megaco.specs.declared.Context.{Context}
 use Rattle.megaco.specs.declared.Property.{Property}
 
--- a value is plain or stands between quotes
 pub data Value : Type 0 where
   plain quoted : List ℕ → Value
 
@@ -33,9 +32,7 @@ pub data Action : Type 0 where
 pub data Transaction : Type 0 where
   transaction : (id : ℕ) (actions : List Action) → Transaction
 
--- what a message reads as
 pub data Message : Type 0 where
   wellFormed : List Transaction → Message
-  fault400 : Message
+  fault400 fault406 : Message
   fault403 : (id : ℕ) → Message
-  fault406 : Message
