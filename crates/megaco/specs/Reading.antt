@@ -222,6 +222,7 @@ transactionsR (suc k) s at =
 unfoldable pub startAt : List ℕ → Parsed
 startAt s = after (whiteAt s 0) (λ p. after (pick (isAt s p 0x21) (Next (p + 1)) (keywordAt MegacopToken s p)) (markAt slash s))
 
+-- the mId, with white space on both sides
 unfoldable pub senderAt : List ℕ → ℕ → Parsed
 senderAt s at = after (sepAt s at) (λ p. after (mIdAt s p) (sepAt s))
 

@@ -365,6 +365,7 @@ run (s ∷ ss) x = run ss (step s x)
 abbrev pub fresh : Progress
 fresh = progress true []
 
+-- the table and the text that a part of a message leaves
 pub record Ran : Type 0 where
   pub table : List ℕ
   pub text : List ℕ
@@ -372,6 +373,7 @@ pub record Ran : Type 0 where
 abbrev pub ran : List ℕ → List ℕ → Ran
 ran t x = record { table = t; text = x }
 
+-- a transaction's table and its `P=id{..}`
 unfoldable pub runTransaction : Transaction → List ℕ → Ran
 runTransaction (transaction id acts) t = let x = run (steps acts) (state t fresh) in ran (x .table) (transactionText id (x .progress .acts))
 
