@@ -31,7 +31,7 @@ checks-coded Modify at v = refl
 checks-coded Subtract at v = refl
 checks-coded Move at v = refl
 
-by-refused : (k : ℕ) (ws : List Write) → (k ≡ 0 → ⊥) → byCode k ws ≡ refused k
+pub by-refused : (k : ℕ) (ws : List Write) → (k ≡ 0 → ⊥) → byCode k ws ≡ refused k
 unfolding byCode
 by-refused zero ws h = absurd (h refl)
 by-refused (suc k) ws h = refl

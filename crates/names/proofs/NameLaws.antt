@@ -13,6 +13,7 @@ use borrow.Author.Tests.{eq-eqb, ne-eqb, leb-true, le-leb, lt-leb}
 use Rattle.base.specs.Pick.{pick}
 use Rattle.base.specs.Lists.{same, has, before, behind}
 use Rattle.base.specs.Bytes.{text}
+use Rattle.base.proofs.PickLaws.{pick-ind}
 use Rattle.megaco.specs.Bytes.{slash, star, dollar, isDigit, capital, capitals}
 use Rattle.megaco.specs.Table.{lines, channels, lineTerminations, ephemerals}
 use Rattle.megaco.specs.Names.{numeral, within, lineName, ephemeralName, plainName, lineRange, wildcardName, capitalName, nameOf}
@@ -51,41 +52,7 @@ module _ (b : ℕ) (l : List ℕ) (i q : ℕ) (inv : q ≡ i + length (before b 
   unfolding before
   before-end h = let s : length (before b (drop i l)) ≡ 0 = rw (drop-of-length-le l h) in omega arith
 
-pub uneven : (n m : List ℕ) → (length n ≡ length m → ⊥) → false ≡ same (capitals n) m
-unfolding same capitals pick
-uneven [] [] d = absurd (d refl)
-uneven [] (y ∷ m) d = refl
-uneven (x ∷ n) [] d = refl
-uneven (x ∷ n) (y ∷ m) d = rw (← uneven n m (λ e. d (ap suc e))) (sym (never (eqb (capital x) y)))
-  where
-    never : (t : Bool) → pick t false false ≡ false
-    never true = refl
-    never false = refl
-
-module _ (n m : List ℕ) (i : ℕ) (q : Bool) (inv : q ≡ same (capitals (drop i n)) (drop i m)) (even : length n ≡ length m) where
-  pub same-on : (x : Bool) → i < length n → x ≡ eqb (capital (getD n i 0)) (getD m i 0) → x ≡ true → q ≡ same (capitals (drop (i + 1) n)) (drop (i + 1) m)
-  unfolding same capitals pick
-  same-on x h e t =
-      let k : i < length m = omega arith in
-      inv ∙ rw (drop-cons n i 0, drop-cons m i 0, ← e, t, add-one)
-
-  pub same-no : (x : Bool) → i < length n → x ≡ eqb (capital (getD n i 0)) (getD m i 0) → x ≡ false → false ≡ q
-  unfolding same capitals pick
-  same-no x h e t =
-      let k : i < length m = omega arith in
-      sym (inv ∙ rw (drop-cons n i 0, drop-cons m i 0, ← e, t))
-
-  pub same-end : length n ≤ i → true ≡ q
-  unfolding same capitals
-  same-end h = let k : length m ≤ i = omega arith in sym (inv ∙ rw (drop-of-length-le n h, drop-of-length-le m k))
-
 -- ---- parts of a name
-
--- what holds of either choice holds of the chosen
-pick-ind : {A : Type 0} (P : A → Type 0) (t : Bool) (a b : A) → (t ≡ true → P a) → (t ≡ false → P b) → P (pick t a b)
-unfolding pick
-pick-ind P true a b f g = f refl
-pick-ind P false a b f g = g refl
 
 take-before : (b : ℕ) (l : List ℕ) → take (length (before b l)) l ≡ before b l
 unfolding before

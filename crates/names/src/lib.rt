@@ -8,9 +8,8 @@ use table::LINES;
 ghost use mathlib.Core.Path.{_≡_};
 ghost use Prim.Native.Nat.{_-_, _≤_};
 ghost use lib.ListN.{length};
-ghost use lib.Dec.{eqb};
-ghost use Rattle.base.specs.Lists.{same, has, before, behind};
-ghost use Rattle.megaco.specs.Bytes.{slash, isDigit, capital, capitals};
+ghost use Rattle.base.specs.Lists.{has, before, behind};
+ghost use Rattle.megaco.specs.Bytes.{slash, capitals};
 ghost use Rattle.megaco.specs.Names.{numeral, within, lineName, ephemeralName, plainName, lineRange, wildcardName, nameOf, inRange};
 ghost use Rattle.names.specs.Digits.{oneDigit, twoDigits};
 
@@ -18,11 +17,11 @@ ghost use Rattle.names.specs.Digits.{oneDigit, twoDigits};
 pub fn name_of(n: &[u8]) -> Name
     ensures { λ r. ⌜ r ≡ nameOf (now (n .entry)) ⌝ }
 {
-    if is_word(n, b"ROOT") {
+    if text::is_word(n, b"ROOT") {
         return Name::Root;
     }
     if has_byte(n, b'$') {
-        if is_word(n, b"$") | is_word(n, b"R/$") {
+        if text::is_word(n, b"$") | text::is_word(n, b"R/$") {
             return Name::Chosen;
         }
         return Name::Unchosen;
@@ -51,13 +50,13 @@ pub fn in_range(r: Range, i: usize) -> bool
 fn wildcard_name(n: &[u8]) -> Name
     ensures { λ r. ⌜ r ≡ wildcardName (capitals (now (n .entry))) ⌝ }
 {
-    if is_word(n, b"*") {
+    if text::is_word(n, b"*") {
         return Name::Wildcard(Range::Everyone);
     }
-    if is_word(n, b"L/*") {
+    if text::is_word(n, b"L/*") {
         return Name::Wildcard(Range::EveryLine);
     }
-    if is_word(n, b"R/*") {
+    if text::is_word(n, b"R/*") {
         return Name::Wildcard(Range::EveryEphemeral);
     }
     line_range(n)
@@ -69,7 +68,10 @@ fn line_range(n: &[u8]) -> Name
 {
     let tail = behind_slash(n);
     let l = numeral(before_slash(tail));
-    if is_word(before_slash(n), b"L") & is_word(behind_slash(tail), b"*") & within(l, LINES) {
+    if text::is_word(before_slash(n), b"L")
+        & text::is_word(behind_slash(tail), b"*")
+        & within(l, LINES)
+    {
         return Name::Wildcard(Range::ChannelsOf(l));
     }
     Name::Unmatched
@@ -80,10 +82,10 @@ fn plain_name(n: &[u8]) -> Name
     ensures { λ r. ⌜ r ≡ plainName (capitals (now (n .entry))) ⌝ }
 {
     let tail = behind_slash(n);
-    if is_word(before_slash(n), b"L") {
+    if text::is_word(before_slash(n), b"L") {
         return line_name(numeral(before_slash(tail)), numeral(behind_slash(tail)));
     }
-    if is_word(before_slash(n), b"R") {
+    if text::is_word(before_slash(n), b"R") {
         return ephemeral_name(numeral(tail));
     }
     Name::Unknown
@@ -127,7 +129,7 @@ fn numeral(n: &[u8]) -> u32
 fn one_digit(a: u8) -> u32
     ensures { λ r. ⌜ r ≡ oneDigit a ⌝ }
 {
-    if is_digit(a) {
+    if text::is_digit(a) {
         return less(a as u32, 48);
     }
     0
@@ -136,16 +138,10 @@ fn one_digit(a: u8) -> u32
 fn two_digits(a: u8, b: u8) -> u32
     ensures { λ r. ⌜ r ≡ twoDigits a b ⌝ }
 {
-    if is_digit(a) & is_digit(b) & (a != 48) {
+    if text::is_digit(a) & text::is_digit(b) & (a != 48) {
         return 10 * less(a as u32, 48) + less(b as u32, 48);
     }
     0
-}
-
-fn is_digit(b: u8) -> bool
-    ensures { λ r. ⌜ r ≡ isDigit b ⌝ }
-{
-    (48 <= b) & (b <= 57)
 }
 
 fn within(x: u32, most: u32) -> bool
@@ -205,41 +201,4 @@ fn has_byte(n: &[u8], b: u8) -> bool
         i += 1;
     }
     false
-}
-
-// Whether a name in capital letters is this text.
-fn is_word(n: &[u8], text: &[u8]) -> bool
-    ensures { λ r. ⌜ r ≡ same (capitals (now (n .entry))) (now (text .entry)) ⌝ }
-{
-    if n.len() != text.len() {
-        return false;
-    }
-    let mut i: usize = 0;
-    while i < n.len() {
-        if same_letter(n[i], text[i]) {
-            i += 1;
-        } else {
-            return false;
-        }
-    }
-    true
-}
-
-// Whether a byte's capital is this byte.
-fn same_letter(x: u8, b: u8) -> bool
-    ensures { λ r. ⌜ r ≡ eqb (capital x) b ⌝ }
-{
-    capital(x) == b
-}
-
-// A small letter as its capital; any other byte as it is.
-fn capital(b: u8) -> u8
-    ensures { λ r. ⌜ r ≡ capital b ⌝ }
-{
-    if 97 <= b {
-        if b <= 122 {
-            return b - 32;
-        }
-    }
-    b
 }

@@ -18,70 +18,61 @@ use Rattle.megaco.specs.Table.{lineTerminations, ephemerals, terminations, cont
 use Rattle.table.proofs.TableLaws.{drop-take}
 use Rattle.sound.specs.Parts.{ephemeralIsSound, recordsMeet}
 
--- ---- a test of each word
+-- ---- a test of each word: b tells of the words passed
 
-module _ (p : ℕ → Bool) (l : List ℕ) (i : ℕ) (q : Bool) (inv : q ≡ every p (drop i l)) where
-  pub every-on : (x : Bool) → i < length l → x ≡ p (getD l i 0) → x ≡ true → q ≡ every p (drop (i + 1) l)
-  unfolding every pick
-  every-on x h e t = inv ∙ rw (drop-cons l i 0, ← e, t, add-one)
+one-more : (b x r : Bool) → (b && pick x r false) ≡ ((b && x) && r)
+unfolding pick
+one-more true true r = refl
+one-more true false r = refl
+one-more false x r = refl
 
-  pub every-no : (x : Bool) → i < length l → x ≡ p (getD l i 0) → x ≡ false → false ≡ q
-  unfolding every pick
-  every-no x h e t = sym (inv ∙ rw (drop-cons l i 0, ← e, t))
+no-more : (b : Bool) → (b && true) ≡ b
+no-more true = refl
+no-more false = refl
 
-  pub every-end : length l ≤ i → true ≡ q
+module _ (p : ℕ → Bool) (l : List ℕ) (i : ℕ) (b q : Bool) (inv : q ≡ (b && every p (drop i l))) where
+  pub every-on : (x : Bool) → i < length l → x ≡ p (getD l i 0) → q ≡ ((b && x) && every p (drop (i + 1) l))
   unfolding every
-  every-end h = sym (inv ∙ rw (drop-of-length-le l h))
+  every-on x h e = inv ∙ rw (drop-cons l i 0, ← e, add-one) (one-more b x _)
+
+  pub every-end : length l ≤ i → b ≡ q
+  unfolding every
+  every-end h = sym (inv ∙ rw (drop-of-length-le l h) (no-more b))
 
 -- ---- ephemerals: both tests of a pair of words
 
-both : (a b e z : Bool) → (a && not b) ≡ true → (pick a e false && pick b false z) ≡ (e && z)
+pair-more : (b x y e z : Bool) → (b && (pick x e false && pick y false z)) ≡ ((b && (x && not y)) && (e && z))
 unfolding pick
-both true true e z t = absurd (let n : _≡_ {A = ℕ} 0 1 = cc in omega arith)
-both true false e z t = refl
-both false b e z t = absurd (let n : _≡_ {A = ℕ} 0 1 = cc in omega arith)
+pair-more false x y e z = refl
+pair-more true false y e z = refl
+pair-more true true true e z = and-false e
+pair-more true true false e z = refl
 
-notBoth : (a b e z : Bool) → (a && not b) ≡ false → (pick a e false && pick b false z) ≡ false
-unfolding pick
-notBoth true true e z t = and-false e
-notBoth true false e z t = absurd (let n : _≡_ {A = ℕ} 0 1 = cc in omega arith)
-notBoth false b e z t = refl
-
-module _ (cs ps : List ℕ) (i : ℕ) (q : Bool) (inv : q ≡ (every isPropertyWord (drop i ps) && absentAreZero (drop i cs) (drop i ps))) (alike : length cs ≡ length ps) where
-  pub pair-on : (x : Bool) → i < length cs → x ≡ ephemeralIsSound (getD cs i 0) (getD ps i 0) → x ≡ true
-      → q ≡ (every isPropertyWord (drop (i + 1) ps) && absentAreZero (drop (i + 1) cs) (drop (i + 1) ps))
+module _ (cs ps : List ℕ) (i : ℕ) (b q : Bool) (inv : q ≡ (b && (every isPropertyWord (drop i ps) && absentAreZero (drop i cs) (drop i ps)))) (alike : length cs ≡ length ps) where
+  pub pair-on : (x : Bool) → i < length cs → x ≡ ephemeralIsSound (getD cs i 0) (getD ps i 0)
+      → q ≡ ((b && x) && (every isPropertyWord (drop (i + 1) ps) && absentAreZero (drop (i + 1) cs) (drop (i + 1) ps)))
   unfolding every absentAreZero ephemeralIsSound
-  pair-on x h e t =
+  pair-on x h e =
       let k : i < length ps = omega arith in
-      inv ∙ rw (drop-cons cs i 0, drop-cons ps i 0, add-one) (both _ _ _ _ (sym e ∙ t))
+      inv ∙ rw (drop-cons cs i 0, drop-cons ps i 0, add-one, e) (pair-more b _ _ _ _)
 
-  pub pair-no : (x : Bool) → i < length cs → x ≡ ephemeralIsSound (getD cs i 0) (getD ps i 0) → x ≡ false → false ≡ q
-  unfolding every absentAreZero ephemeralIsSound
-  pair-no x h e t =
-      let k : i < length ps = omega arith in
-      sym (inv ∙ rw (drop-cons cs i 0, drop-cons ps i 0) (notBoth _ _ _ _ (sym e ∙ t)))
-
-  pub pair-end : length cs ≤ i → true ≡ q
+  pub pair-end : length cs ≤ i → b ≡ q
   unfolding every absentAreZero
   pair-end h =
       let k : length ps ≤ i = omega arith in
-      sym (inv ∙ rw (drop-of-length-le cs h, drop-of-length-le ps k))
+      sym (inv ∙ rw (drop-of-length-le cs h, drop-of-length-le ps k) (no-more b))
 
 -- ---- records against counters
 
-module _ (ms rs : List ℕ) (i : ℕ) (q : Bool) (inv : q ≡ recordsMeet ms (i + 1) (drop i rs)) where
-  pub meet-on : (x : Bool) → i < length rs → x ≡ recordIsSound (getD rs i 0) (getD ms (i + 1) 0) → x ≡ true
-      → q ≡ recordsMeet ms (i + 1 + 1) (drop (i + 1) rs)
-  unfolding recordsMeet pick
-  meet-on x h e t = inv ∙ rw (drop-cons rs i 0, ← e, t, add-one i)
-
-  pub meet-no : (x : Bool) → i < length rs → x ≡ recordIsSound (getD rs i 0) (getD ms (i + 1) 0) → x ≡ false → false ≡ q
-  unfolding recordsMeet pick
-  meet-no x h e t = sym (inv ∙ rw (drop-cons rs i 0, ← e, t))
-
-  pub meet-end : length rs ≤ i → true ≡ q
+module _ (ms rs : List ℕ) (i : ℕ) (b q : Bool) (inv : q ≡ (b && recordsMeet ms (i + 1) (drop i rs))) where
+  pub meet-on : (x : Bool) → i < length rs → x ≡ recordIsSound (getD rs i 0) (getD ms (i + 1) 0)
+      → q ≡ ((b && x) && recordsMeet ms (i + 1 + 1) (drop (i + 1) rs))
   unfolding recordsMeet
-  meet-end h = sym (inv ∙ rw (drop-of-length-le rs h))
+  meet-on x h e = inv ∙ rw (drop-cons rs i 0, ← e, add-one i) (one-more b x _)
+
+  pub meet-end : length rs ≤ i → b ≡ q
+  unfolding recordsMeet
+  meet-end h = sym (inv ∙ rw (drop-of-length-le rs h) (no-more b))
 
 -- ---- counters
 

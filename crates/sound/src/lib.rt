@@ -1,4 +1,5 @@
-// Whether a lent table is sound: one pass over the context words, one over the properties, one over the records.
+// Whether a lent table is sound: one pass over the context words, one over the properties, one over the records. The passes do not stop at
+// the first word that is wrong: tables are sound but for rare accidents, and without a way out the compiler takes several words at a time.
 use table::CONTEXTS;
 use table::EPHEMERAL_PROPERTIES;
 use table::LINE_TERMINATIONS;
@@ -64,15 +65,13 @@ fn records_meet(counters: &[u32], records: &[u32]) -> bool
     requires { ⌜ length (now records) < length (now counters) ⌝ }
     ensures { λ r. ⌜ r ≡ recordsMeet (now (counters .entry)) 1 (now (records .entry)) ⌝ }
 {
+    let mut good = true;
     let mut i: usize = 0;
     while i < records.len() {
-        if record_is_sound(records[i], counters[i + 1]) {
-            i += 1;
-        } else {
-            return false;
-        }
+        good = good & record_is_sound(records[i], counters[i + 1]);
+        i += 1;
     }
-    true
+    good
 }
 
 fn record_is_sound(held: u32, members: u32) -> bool
@@ -92,15 +91,13 @@ fn is_property_word(word: u32) -> bool
 fn lines_are_sound(properties: &[u32]) -> bool
     ensures { λ r. ⌜ r ≡ every isPropertyWord (now (properties .entry)) ⌝ }
 {
+    let mut good = true;
     let mut i: usize = 0;
     while i < properties.len() {
-        if is_property_word(properties[i]) {
-            i += 1;
-        } else {
-            return false;
-        }
+        good = good & is_property_word(properties[i]);
+        i += 1;
     }
-    true
+    good
 }
 
 // A property word, and 0 where the context word is 0.
@@ -114,13 +111,11 @@ fn ephemerals_are_sound(row: &[u32], properties: &[u32]) -> bool
     requires { ⌜ length (now row) ≡ length (now properties) ⌝ }
     ensures { λ r. ⌜ r ≡ (every isPropertyWord (now (properties .entry)) && absentAreZero (now (row .entry)) (now (properties .entry))) ⌝ }
 {
+    let mut good = true;
     let mut i: usize = 0;
     while i < row.len() {
-        if ephemeral_is_sound(row[i], properties[i]) {
-            i += 1;
-        } else {
-            return false;
-        }
+        good = good & ephemeral_is_sound(row[i], properties[i]);
+        i += 1;
     }
-    true
+    good
 }

@@ -22,7 +22,7 @@ use Rattle.syntax.specs.Extraction.{pastSign, propertyOf, propertyEnd, properti
 use Rattle.outline.specs.declared.PropertyPlaces.{PropertyPlaces}
 use Rattle.outline.specs.Outline.{propertyPlaces}
 use Rattle.attempt.specs.Judging.{codeOf, coded, byCode}
-use Rattle.attempt.proofs.JudgeLaws.{judge-code}
+use Rattle.attempt.proofs.JudgeLaws.{judge-code, by-refused}
 use Rattle.starts.specs.declared.Given.{Given}
 use Rattle.starts.specs.Starting.{overOne, setOne, propertiesIn, OfProperties, startCode, wroteStart}
 
@@ -213,11 +213,6 @@ checks-coded Null ps alone held = refl
 checks-coded (Numbered n) ps alone held = refl
 checks-coded Choose ps alone held = refl
 checks-coded All ps alone held = refl
-
-by-refused : (k : ℕ) (ws : List Write) → (k ≡ 0 → ⊥) → byCode k ws ≡ refused k
-unfolding byCode
-by-refused zero ws h = absurd (h refl)
-by-refused (suc k) ws h = refl
 
 module _ (c : Context) (ps : List Property) (alone : Bool) (held : ℕ) where
   start-judged : (ws : List Write) → judge (startChecks c ps alone held) ws ≡ byCode (startCode c (anyGiven ps) (over15 ps) alone held) ws

@@ -13,8 +13,8 @@ fn same_letter(x: u8, y: u8) -> bool
     crate::capital(x) == y
 }
 
-// Whether a word, in any letter case, is this one.
-fn is_word(w: &[u8], form: &[u8]) -> bool
+// Whether a word, in any letter case, is this one in capital letters.
+pub fn is_word(w: &[u8], form: &[u8]) -> bool
     ensures { λ r. ⌜ r ≡ same (capitals (now (w .entry))) (now (form .entry)) ⌝ }
 {
     if w.len() != form.len() {

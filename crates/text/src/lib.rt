@@ -9,6 +9,7 @@ ghost use Rattle.text.specs.Classes.{lowOf, highOf, halfOf, OfMaps};
 
 mod keywords;
 
+pub use keywords::is_word;
 pub use keywords::spells;
 use megaco::Class;
 use megaco::Parsed;

@@ -5,15 +5,16 @@ use mathlib.Core.Bool.{_&&_}
 use lib.ListN.{length, drop}
 use Rattle.base.specs.Lists.{every}
 use Rattle.megaco.specs.Table.{isPropertyWord, absentAreZero}
-use Rattle.sound.proofs.SoundLaws.{pair-on, pair-no, pair-end}
+use Rattle.sound.proofs.SoundLaws.{pair-on, pair-end}
 use Rattle.sound.proofs.ephemerals_are_sound.Statement.{statement}
 use Rattle.sound.proofs.ephemerals_are_sound.Tie as tie
 
 abbrev Inv-loop : tie.InvT-loop
-Inv-loop row properties i₀ i = (every isPropertyWord properties && absentAreZero row properties) ≡ (every isPropertyWord (drop i properties) && absentAreZero (drop i row) (drop i properties))
+Inv-loop row properties good₀ i₀ good i =
+    (every isPropertyWord properties && absentAreZero row properties) ≡ (good && (every isPropertyWord (drop i properties) && absentAreZero (drop i row) (drop i properties)))
 
 abbrev μ-loop : tie.MeasureT-loop
-μ-loop row properties i₀ i = length row - i
+μ-loop row properties good₀ i₀ good i = length row - i
 
 pub ephemerals-are-sound-spec : {M : Type 1} → statement M
 ephemerals-are-sound-spec =
@@ -30,5 +31,4 @@ ephemerals-are-sound-spec =
     (λ c. search needs)
     (λ c. search needs)
     (λ c. search pair-on)
-    (λ c. search pair-no)
     (λ c. search pair-end))

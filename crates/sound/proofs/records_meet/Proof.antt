@@ -1,17 +1,18 @@
 use borrow.Author.Needs.{needs}
+use mathlib.Core.Bool.{_&&_}
 use Prim.Native.Nat.{_+_, _-_}
 use mathlib.Core.Path.{_≡_, refl}
 use lib.ListN.{length, drop}
 use Rattle.sound.specs.Parts.{recordsMeet}
-use Rattle.sound.proofs.SoundLaws.{meet-on, meet-no, meet-end}
+use Rattle.sound.proofs.SoundLaws.{meet-on, meet-end}
 use Rattle.sound.proofs.records_meet.Statement.{statement}
 use Rattle.sound.proofs.records_meet.Tie as tie
 
 abbrev Inv-loop : tie.InvT-loop
-Inv-loop counters records i₀ i = recordsMeet counters 1 records ≡ recordsMeet counters (i + 1) (drop i records)
+Inv-loop counters records good₀ i₀ good i = recordsMeet counters 1 records ≡ (good && recordsMeet counters (i + 1) (drop i records))
 
 abbrev μ-loop : tie.MeasureT-loop
-μ-loop counters records i₀ i = length records - i
+μ-loop counters records good₀ i₀ good i = length records - i
 
 pub records-meet-spec : {M : Type 1} → statement M
 records-meet-spec =
@@ -29,5 +30,4 @@ records-meet-spec =
     (λ c. search needs)
     (λ c. search needs)
     (λ c. search meet-on)
-    (λ c. search meet-no)
     (λ c. search meet-end))
