@@ -7,12 +7,10 @@ use mathlib.Core.Bool.{Bool, true, false, _||_}
 use lib.ListN.{take, drop}
 use Rattle.base.specs.Pick.{pick}
 use Rattle.base.specs.Lists.{part}
-use Rattle.base.specs.Out.{Appended}
 use Rattle.megaco.specs.Items.{judgeItems, given?}
 use Rattle.megaco.specs.Tree.{Items, Command, command}
 use Rattle.megaco.specs.Reply.{tried, reportsText}
 use Rattle.megaco.specs.Running.{Outcome, outcome, seen, numberOf, opOf, lost, barred, isSubtract, missed, actionError, named, tested, unlessOptional, ordered, runCommand}
-use Rattle.megaco.specs.declared.Context.{Context}
 use Rattle.megaco.specs.declared.Op.{Op}
 use Rattle.megaco.specs.declared.Judged.{Judged}
 use Rattle.megaco.specs.declared.Judged.the-variants.{Wrong, Right}
@@ -21,9 +19,9 @@ use Rattle.syntax.specs.Extraction.{commandOf}
 use Rattle.parts.specs.Found.{itemsFrom, commandFrom, OfCommand}
 use Rattle.parts.proofs.PlaceLaws.{command-is}
 use Rattle.parts.specs.declared.CommandPlaces.{CommandPlaces}
-use Rattle.tries.specs.Contract.{Did}
+use Rattle.tries.specs.Contract.{Did, Missed}
+use Rattle.tries.specs.declared.Turn.{Turn}
 use Rattle.tries.specs.declared.Went.{Went}
-use Rattle.tries.proofs.DidLaws.{went}
 use Rattle.orders.specs.Orders.{foundOf, heldAt, FairJudged}
 use Rattle.orders.specs.declared.Found.{Found}
 use Rattle.orders.specs.declared.Found.the-variants.{Built, Unbuilt}
@@ -38,48 +36,53 @@ items-given s r = by (r .braces)
     by true = unfold pick given? in refl
     by false = unfold pick given? in refl
 
-module _ (s : List ℕ) (r : CommandPlaces) (op : Op) (name : List ℕ) (given : ℕ) (at : Context) (first : Bool) (t o : List ℕ) (p : ℕ) (t′ o′ : List ℕ) where
-  pub tested-lost : (held n : ℕ) (x : Bool) → held ≡ heldAt at t → x ≡ lost op at held → x ≡ true → Appended o p (reportsText first (tried op name 411 ∷ [])) o′ n
-      → Did (tested op name (itemsFrom s r) given at t) first o p t o′ (went n at false)
-  unfolding tested heldAt missed pick
-  tested-lost held n x e f g a =
-      let h : lost op at (seen (numberOf at) t .held) ≡ true = ap (lost op at) (sym e) ∙ sym f ∙ g in
-      rw h (record { table = refl; text = a; place = refl; going = refl })
+module _ (s : List ℕ) (r : CommandPlaces) (op : Op) (name : List ℕ) (turn : Turn) (t o t′ o′ : List ℕ) where
+  abbrev tests : Outcome
+  tests = tested op name (itemsFrom s r) (turn .given) (turn .at) t
 
-  pub tested-on : (held : ℕ) (x b : Bool) (j : Judged) (w : Went) → held ≡ heldAt at t → x ≡ lost op at held → x ≡ false → b ≡ isSubtract op → j ≡ judgeItems b (itemsFrom s r)
-      → Did (named op name given (r .braces) j at t) first o p t′ o′ w → Did (tested op name (itemsFrom s r) given at t) first o p t′ o′ w
+  abbrev orders : Bool → Option Op → Outcome
+  orders o? x = ordered o? x name (itemsFrom s r) (turn .given) (turn .at) t
+
+  pub tested-lost : (held : ℕ) (x : Bool) (w : Went) → held ≡ heldAt (turn .at) t → x ≡ lost op (turn .at) held → x ≡ true → Missed op name 411 turn o o′ w
+      → Did tests (turn .first) o (turn .next) t o′ w
+  unfolding tested heldAt missed pick
+  tested-lost held x w e f g m =
+      let h : lost op (turn .at) (seen (numberOf (turn .at)) t .held) ≡ true = ap (lost op (turn .at)) (sym e) ∙ sym f ∙ g in
+      rw h (record { table = refl; text = m .text; place = m .place; going = m .going })
+
+  pub tested-on : (held : ℕ) (x b : Bool) (j : Judged) (w : Went) → held ≡ heldAt (turn .at) t → x ≡ lost op (turn .at) held → x ≡ false → b ≡ isSubtract op → j ≡ judgeItems b (itemsFrom s r)
+      → Did (named op name (turn .given) (r .braces) j (turn .at) t) (turn .first) o (turn .next) t′ o′ w → Did tests (turn .first) o (turn .next) t′ o′ w
   unfolding tested heldAt pick
   tested-on held x b j w e f g h k d =
-      let z : lost op at (seen (numberOf at) t .held) ≡ false = ap (lost op at) (sym e) ∙ sym f ∙ g in
+      let z : lost op (turn .at) (seen (numberOf (turn .at)) t .held) ≡ false = ap (lost op (turn .at)) (sym e) ∙ sym f ∙ g in
       rw z (rw (items-given s r, ← h, ← k) d)
 
-  pub built-barred : (o? x : Bool) (w : Went) → x ≡ barred op at → x ≡ true → Failed 421 at first o p o′ w
-      → Did (ordered o? (some op) name (itemsFrom s r) given at t) first o p t o′ w
+  pub built-barred : (o? x : Bool) (w : Went) → x ≡ barred op (turn .at) → x ≡ true → Failed 421 turn o o′ w → Did (orders o? (some op)) (turn .first) o (turn .next) t o′ w
   unfolding ordered actionError pick
   built-barred o? x w e f a = rw (sym e ∙ f) (record { table = refl; text = a .text; place = a .place; going = a .going })
 
-  pub built-on : (o? x : Bool) (w v : Went) → x ≡ barred op at → x ≡ false → Did (tested op name (itemsFrom s r) given at t) first o p t′ o′ w → v ≡ optionally o? w
-      → Did (ordered o? (some op) name (itemsFrom s r) given at t) first o p t′ o′ v
+  pub built-on : (o? x : Bool) (w v : Went) → x ≡ barred op (turn .at) → x ≡ false → Did tests (turn .first) o (turn .next) t′ o′ w → v ≡ optionally o? w
+      → Did (orders o? (some op)) (turn .first) o (turn .next) t′ o′ v
   unfolding ordered unlessOptional optionally pick
   built-on o? x w v e f d q = rw (sym e ∙ f, q) (record { table = d .table; text = d .text; place = d .place; going = ap (λ (g : Bool). g || o?) (d .going) })
 
-  pub found-built : (f : Found) (x : Option Op) (w : Went) → foundOf f ≡ x → f ≡ Built op → Did (ordered (r .optional) (some op) name (itemsFrom s r) given at t) first o p t′ o′ w
-      → Did (ordered (r .optional) x name (itemsFrom s r) given at t) first o p t′ o′ w
+  pub found-built : (f : Found) (x : Option Op) (w : Went) → foundOf f ≡ x → f ≡ Built op → Did (orders (r .optional) (some op)) (turn .first) o (turn .next) t′ o′ w
+      → Did (orders (r .optional) x) (turn .first) o (turn .next) t′ o′ w
   unfolding foundOf
   found-built f x w e g d = rw (sym e ∙ ap foundOf g) d
 
-pub found-unbuilt : (s : List ℕ) (r : CommandPlaces) (name : List ℕ) (given : ℕ) (at : Context) (first : Bool) (t o : List ℕ) (p : ℕ) (o′ : List ℕ) (f : Found) (x : Option Op) (w : Went)
-    → foundOf f ≡ x → f ≡ Unbuilt → Failed 443 at first o p o′ w → Did (ordered (r .optional) x name (itemsFrom s r) given at t) first o p t o′ w
+pub found-unbuilt : (s : List ℕ) (r : CommandPlaces) (name : List ℕ) (turn : Turn) (t o o′ : List ℕ) (f : Found) (x : Option Op) (w : Went) → foundOf f ≡ x → f ≡ Unbuilt → Failed 443 turn o o′ w
+    → Did (ordered (r .optional) x name (itemsFrom s r) (turn .given) (turn .at) t) (turn .first) o (turn .next) t o′ w
 unfolding foundOf ordered actionError
-found-unbuilt s r name given at first t o p o′ f x w e g a = rw (sym e ∙ ap foundOf g) (record { table = refl; text = a .text; place = a .place; going = a .going })
+found-unbuilt s r name turn t o o′ f x w e g a = rw (sym e ∙ ap foundOf g) (record { table = refl; text = a .text; place = a .place; going = a .going })
 
-pub command-runs : (s : List ℕ) (i : ℕ) (r : CommandPlaces) (given : ℕ) (at : Context) (first : Bool) (t o : List ℕ) (p : ℕ) (t′ o′ : List ℕ) (w : Went) → OfCommand s i r
+pub command-runs : (s : List ℕ) (i : ℕ) (r : CommandPlaces) (turn : Turn) (t o t′ o′ : List ℕ) (w : Went) → OfCommand s i r
     → Did
-    (ordered (r .optional) (opOf (r .wild) (take (r .word .to - r .word .from) (drop (r .word .from) s))) (take (r .name .to - r .name .from) (drop (r .name .from) s)) (itemsFrom s r) given at t)
-    first o p t′ o′ w
-    → Did (runCommand (commandOf s i) given at t) first o p t′ o′ w
+    (ordered (r .optional) (opOf (r .wild) (take (r .word .to - r .word .from) (drop (r .word .from) s))) (take (r .name .to - r .name .from) (drop (r .name .from) s)) (itemsFrom s r) (turn .given) (turn .at) t)
+    (turn .first) o (turn .next) t′ o′ w
+    → Did (runCommand (commandOf s i) (turn .given) (turn .at) t) (turn .first) o (turn .next) t′ o′ w
 unfolding runCommand commandFrom part
-command-runs s i r given at first t o p t′ o′ w f d = rw (command-is s i r f) d
+command-runs s i r turn t o t′ o′ w f d = rw (command-is s i r f) d
 
 -- what items give is a mode and a state
 pub items-judged : (b : Bool) (is : Items) (j : Judged) → j ≡ judgeItems b is → FairJudged j

@@ -5,7 +5,7 @@ use mathlib.Core.List.{List, [], _∷_}
 use mathlib.Core.Bool.{Bool, false, _||_}
 use Rattle.base.specs.Out.{Appended}
 use Rattle.megaco.specs.Reply.{failed, reportsText}
-use Rattle.megaco.specs.declared.Context.{Context}
+use Rattle.tries.specs.declared.Turn.{Turn}
 use Rattle.tries.specs.declared.Went.{Went}
 
 -- the transaction goes on after an optional command
@@ -13,7 +13,7 @@ unfoldable pub optionally : Bool → Went → Went
 optionally o w = record { next = w .next; at = w .at; going = w .going || o }
 
 -- an action error is reported, and the transaction stops
-pub record Failed (code : ℕ) (at : Context) (first : Bool) (o : List ℕ) (p : ℕ) (o′ : List ℕ) (r : Went) : Type 0 where
-  pub text : Appended o p (reportsText first (failed code ∷ [])) o′ (r .next)
-  pub place : r .at ≡ at
+pub record Failed (code : ℕ) (turn : Turn) (o o′ : List ℕ) (r : Went) : Type 0 where
+  pub text : Appended o (turn .next) (reportsText (turn .first) (failed code ∷ [])) o′ (r .next)
+  pub place : r .at ≡ turn .at
   pub going : r .going ≡ false

@@ -8,10 +8,10 @@ ghost use Rattle.parts.specs.Found.{itemsFrom, commandEndFrom};
 ghost use Rattle.syntax.specs.Extraction.{commandOf, commandEnd};
 ghost use Rattle.tries.specs.Contract.{Did};
 ghost use Rattle.commands.specs.Fails.{optionally, Failed};
-use megaco::Context;
 use megaco::Op;
 use orders::Found;
 use parts::CommandPlaces;
+use tries::Turn;
 use tries::Went;
 
 // What a command leaves, and where its text ends.
@@ -26,24 +26,17 @@ fn run_tested(
     places: CommandPlaces,
     op: Op,
     name: &[u8],
-    given: u32,
-    at: Context,
-    first: bool,
+    turn: Turn,
     table: &mut [u32],
     out: &mut [u8],
-    p: usize,
 ) -> Passed
     requires { ⌜ length (now table) ≡ words ⌝ }
-    ensures { λ r. ⌜ Did (tested op (now (name .entry)) (itemsFrom (now (s .entry)) places) given at (now (table .entry))) first (now (out .entry)) p (now (table .exit)) (now (out .exit)) (r .went) × (r .end ≡ commandEndFrom (now (s .entry)) places) ⌝ }
+    ensures { λ r. ⌜ Did (tested op (now (name .entry)) (itemsFrom (now (s .entry)) places) (turn .given) (turn .at) (now (table .entry))) (turn .first) (now (out .entry)) (turn .next) (now (table .exit)) (now (out .exit)) (r .went) × (r .end ≡ commandEndFrom (now (s .entry)) places) ⌝ }
 {
+    let at = turn.at;
     let held = orders::held_at(table, at);
     if orders::is_lost(op, at, held) {
-        let n = tries::put_received(out, p, first, op, name, 411);
-        let w = Went {
-            next: n,
-            at: at,
-            going: false,
-        };
+        let w = tries::miss(op, name, 411, turn, out);
         return Passed {
             went: w,
             end: parts::command_end(s, places),
@@ -51,18 +44,7 @@ fn run_tested(
     }
     let x = items::judge_items(s, places, aims::is_subtract(op));
     let judged = x.judged;
-    let w = orders::run_judged(
-        op,
-        name,
-        places.braces,
-        given,
-        judged,
-        at,
-        first,
-        table,
-        out,
-        p,
-    );
+    let w = orders::run_judged(op, name, places.braces, judged, turn, table, out);
     Passed {
         went: w,
         end: x.end,
@@ -82,31 +64,24 @@ fn past_optional(optional: bool, w: Went) -> Went
 }
 
 // An action error.
-pub fn fail(code: u32, at: Context, first: bool, out: &mut [u8], p: usize) -> Went
-    ensures { λ r. ⌜ Failed code at first (now (out .entry)) p (now (out .exit)) r ⌝ }
+pub fn fail(code: u32, turn: Turn, out: &mut [u8]) -> Went
+    ensures { λ r. ⌜ Failed code turn (now (out .entry)) (now (out .exit)) r ⌝ }
 {
-    let q = report::put_separator(out, p, first);
+    let q = report::put_separator(out, turn.next, turn.first);
     let n = report::put_failed(out, q, code);
+    let c = turn.at;
     Went {
         next: n,
-        at: at,
+        at: c,
         going: false,
     }
 }
 
 // An action error of a command.
-fn fail_command(
-    s: &[u8],
-    places: CommandPlaces,
-    code: u32,
-    at: Context,
-    first: bool,
-    out: &mut [u8],
-    p: usize,
-) -> Passed
-    ensures { λ r. ⌜ Failed code at first (now (out .entry)) p (now (out .exit)) (r .went) × (r .end ≡ commandEndFrom (now (s .entry)) places) ⌝ }
+fn fail_command(s: &[u8], places: CommandPlaces, code: u32, turn: Turn, out: &mut [u8]) -> Passed
+    ensures { λ r. ⌜ Failed code turn (now (out .entry)) (now (out .exit)) (r .went) × (r .end ≡ commandEndFrom (now (s .entry)) places) ⌝ }
 {
-    let w = fail(code, at, first, out, p);
+    let w = fail(code, turn, out);
     Passed {
         went: w,
         end: parts::command_end(s, places),
@@ -119,20 +94,18 @@ fn run_built(
     places: CommandPlaces,
     op: Op,
     name: &[u8],
-    given: u32,
-    at: Context,
-    first: bool,
+    turn: Turn,
     table: &mut [u32],
     out: &mut [u8],
-    p: usize,
 ) -> Passed
     requires { ⌜ length (now table) ≡ words ⌝ }
-    ensures { λ r. ⌜ Did (ordered (places .optional) (some op) (now (name .entry)) (itemsFrom (now (s .entry)) places) given at (now (table .entry))) first (now (out .entry)) p (now (table .exit)) (now (out .exit)) (r .went) × (r .end ≡ commandEndFrom (now (s .entry)) places) ⌝ }
+    ensures { λ r. ⌜ Did (ordered (places .optional) (some op) (now (name .entry)) (itemsFrom (now (s .entry)) places) (turn .given) (turn .at) (now (table .entry))) (turn .first) (now (out .entry)) (turn .next) (now (table .exit)) (now (out .exit)) (r .went) × (r .end ≡ commandEndFrom (now (s .entry)) places) ⌝ }
 {
+    let at = turn.at;
     if orders::is_barred(op, at) {
-        return fail_command(s, places, 421, at, first, out, p);
+        return fail_command(s, places, 421, turn, out);
     }
-    let x = run_tested(s, places, op, name, given, at, first, table, out, p);
+    let x = run_tested(s, places, op, name, turn, table, out);
     let w = x.went;
     Passed {
         went: past_optional(places.optional, w),
@@ -146,36 +119,24 @@ fn run_found(
     places: CommandPlaces,
     word: &[u8],
     name: &[u8],
-    given: u32,
-    at: Context,
-    first: bool,
+    turn: Turn,
     table: &mut [u32],
     out: &mut [u8],
-    p: usize,
 ) -> Passed
     requires { ⌜ length (now table) ≡ words ⌝ }
-    ensures { λ r. ⌜ Did (ordered (places .optional) (opOf (places .wild) (now (word .entry))) (now (name .entry)) (itemsFrom (now (s .entry)) places) given at (now (table .entry))) first (now (out .entry)) p (now (table .exit)) (now (out .exit)) (r .went) × (r .end ≡ commandEndFrom (now (s .entry)) places) ⌝ }
+    ensures { λ r. ⌜ Did (ordered (places .optional) (opOf (places .wild) (now (word .entry))) (now (name .entry)) (itemsFrom (now (s .entry)) places) (turn .given) (turn .at) (now (table .entry))) (turn .first) (now (out .entry)) (turn .next) (now (table .exit)) (now (out .exit)) (r .went) × (r .end ≡ commandEndFrom (now (s .entry)) places) ⌝ }
 {
     let f = orders::op_of(places.wild, word);
     match f {
-        Found::Built(op) => run_built(s, places, op, name, given, at, first, table, out, p),
-        Found::Unbuilt => fail_command(s, places, 443, at, first, out, p),
+        Found::Built(op) => run_built(s, places, op, name, turn, table, out),
+        Found::Unbuilt => fail_command(s, places, 443, turn, out),
     }
 }
 
 // The command that stands at a place of the message.
-pub fn run_command(
-    s: &[u8],
-    i: usize,
-    given: u32,
-    at: Context,
-    first: bool,
-    table: &mut [u32],
-    out: &mut [u8],
-    p: usize,
-) -> Passed
+pub fn run_command(s: &[u8], i: usize, turn: Turn, table: &mut [u32], out: &mut [u8]) -> Passed
     requires { ⌜ length (now table) ≡ words ⌝ }
-    ensures { λ r. ⌜ Did (runCommand (commandOf (now (s .entry)) i) given at (now (table .entry))) first (now (out .entry)) p (now (table .exit)) (now (out .exit)) (r .went) × (r .end ≡ commandEnd (now (s .entry)) i) ⌝ }
+    ensures { λ r. ⌜ Did (runCommand (commandOf (now (s .entry)) i) (turn .given) (turn .at) (now (table .entry))) (turn .first) (now (out .entry)) (turn .next) (now (table .exit)) (now (out .exit)) (r .went) × (r .end ≡ commandEnd (now (s .entry)) i) ⌝ }
 {
     let places = parts::command_places(s, i);
     let word = places.word;
@@ -184,16 +145,5 @@ pub fn run_command(
     let b = word.to;
     let c = name.from;
     let d = name.to;
-    run_found(
-        s,
-        places,
-        &s[a..b],
-        &s[c..d],
-        given,
-        at,
-        first,
-        table,
-        out,
-        p,
-    )
+    run_found(s, places, &s[a..b], &s[c..d], turn, table, out)
 }

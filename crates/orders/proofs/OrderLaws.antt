@@ -7,7 +7,6 @@ use mathlib.Core.Bool.{Bool, true, false, _&&_, _||_}
 use lib.ListN.{length}
 use lib.Dec.{ltb, leb}
 use Rattle.base.specs.Pick.{pick}
-use Rattle.base.specs.Out.{Appended}
 use Rattle.megaco.specs.Table.{known, rec, cell, get, contexts}
 use Rattle.megaco.specs.Names.{nameOf}
 use Rattle.megaco.specs.Items.{judgeItems, given?}
@@ -27,9 +26,9 @@ use Rattle.attempt.specs.Judging.{Fair}
 use Rattle.aims.specs.Targets.{targetOf, aimOf}
 use Rattle.aims.proofs.AimLaws.{target-is}
 use Rattle.aims.specs.declared.Target.{Target}
-use Rattle.tries.specs.Contract.{Did}
+use Rattle.tries.specs.Contract.{Did, Missed}
+use Rattle.tries.specs.declared.Turn.{Turn}
 use Rattle.tries.specs.declared.Went.{Went}
-use Rattle.tries.proofs.DidLaws.{went}
 use Rattle.orders.specs.Orders.{foundOf, heldAt, FairJudged}
 use Rattle.orders.specs.declared.Found.{Found}
 use Rattle.orders.specs.declared.Found.the-variants.{Built, Unbuilt}
@@ -76,14 +75,14 @@ module _ (op : Op) (name : List ℕ) (items : Bool) (given : ℕ) (at : Context)
       subst (λ (a : Rattle.megaco.specs.Running.Aim). Did (aimed op name given vs a at t) first o p t′ o′ w)
       (ap (λ (y : Target). aimOf y op at t) f ∙ target-is op at t items n ∙ ap (λ (m : Name). aim op at items m t) e) d
 
-  pub judged-wrong : (j : Judged) (code n : ℕ) → j ≡ Wrong code → Appended o p (reportsText first (tried op name code ∷ [])) o′ n
-      → Did (named op name given items j at t) first o p t o′ (went n at false)
-  unfolding named missed
-  judged-wrong j code n e a = rw e (record { table = refl; text = a; place = refl; going = refl })
-
   pub judged-right : (j : Judged) (vs : Values) (w : Went) → j ≡ Right vs → Did (named op name given items (Right vs) at t) first o p t′ o′ w
       → Did (named op name given items j at t) first o p t′ o′ w
   judged-right j vs w e d = rw e d
+
+pub judged-wrong : (op : Op) (name : List ℕ) (items : Bool) (turn : Turn) (t o o′ : List ℕ) (j : Judged) (code : ℕ) (w : Went) → j ≡ Wrong code → Missed op name code turn o o′ w
+    → Did (named op name (turn .given) items j (turn .at) t) (turn .first) o (turn .next) t o′ w
+unfolding named missed
+judged-wrong op name items turn t o o′ j code w e m = rw e (record { table = refl; text = m .text; place = m .place; going = m .going })
 
 pub fair-right : (j : Judged) (vs : Values) → j ≡ Right vs → FairJudged j → Fair vs
 fair-right j vs e f = rw e at f

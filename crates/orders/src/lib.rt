@@ -12,6 +12,7 @@ use megaco::Judged;
 use megaco::Op;
 use megaco::Token;
 use megaco::Values;
+use tries::Turn;
 use tries::Went;
 
 // What a command's word and its `W-` tell: one of the commands that are built, or another.
@@ -77,20 +78,18 @@ fn run_named(
     op: Op,
     name: &[u8],
     items: bool,
-    given: u32,
     values: Values,
-    at: Context,
-    first: bool,
+    turn: Turn,
     table: &mut [u32],
     out: &mut [u8],
-    p: usize,
 ) -> Went
     requires { ⌜ (length (now table) ≡ words) × Fair values ⌝ }
-    ensures { λ r. ⌜ Did (named op (now (name .entry)) given items (Right values) at (now (table .entry))) first (now (out .entry)) p (now (table .exit)) (now (out .exit)) r ⌝ }
+    ensures { λ r. ⌜ Did (named op (now (name .entry)) (turn .given) items (Right values) (turn .at) (now (table .entry))) (turn .first) (now (out .entry)) (turn .next) (now (table .exit)) (now (out .exit)) r ⌝ }
 {
     let n = names::name_of(name);
+    let at = turn.at;
     let x = aims::target_of(op, at, items, n, table);
-    tries::run_target(op, name, given, values, x, at, first, table, out, p)
+    tries::run_target(op, name, values, x, turn, table, out)
 }
 
 // Test 4 after test 3.
@@ -98,37 +97,16 @@ pub fn run_judged(
     op: Op,
     name: &[u8],
     items: bool,
-    given: u32,
     judged: Judged,
-    at: Context,
-    first: bool,
+    turn: Turn,
     table: &mut [u32],
     out: &mut [u8],
-    p: usize,
 ) -> Went
     requires { ⌜ (length (now table) ≡ words) × FairJudged judged ⌝ }
-    ensures { λ r. ⌜ Did (named op (now (name .entry)) given items judged at (now (table .entry))) first (now (out .entry)) p (now (table .exit)) (now (out .exit)) r ⌝ }
+    ensures { λ r. ⌜ Did (named op (now (name .entry)) (turn .given) items judged (turn .at) (now (table .entry))) (turn .first) (now (out .entry)) (turn .next) (now (table .exit)) (now (out .exit)) r ⌝ }
 {
     match judged {
-        Judged::Wrong(code) => {
-            let n = tries::put_received(out, p, first, op, name, code);
-            Went {
-                next: n,
-                at: at,
-                going: false,
-            }
-        }
-        Judged::Right(values) => run_named(
-            op,
-            name,
-            items,
-            given,
-            values,
-            at,
-            first,
-            table,
-            out,
-            p,
-        ),
+        Judged::Wrong(code) => tries::miss(op, name, code, turn, out),
+        Judged::Right(values) => run_named(op, name, items, values, turn, table, out),
     }
 }

@@ -111,55 +111,55 @@ none-left : (given : ℕ) (at : Context) (t : List ℕ) → runCommands [] given
 unfolding runCommands
 none-left given at t = refl
 
-module _ (x : Outcome) (o : List ℕ) (p₀ : ℕ) (s : List ℕ) (given k i : ℕ) (at : Context) (t : List ℕ) (f : Bool) (o₁ : List ℕ) (p : ℕ)
-    (l : Leads x true o p₀ true (runCommands (listOf (commandOf s) (commandEnd s) s k i) given at t) f o₁ p) where
+module _ (x : Outcome) (first : Bool) (o : List ℕ) (p₀ : ℕ) (s : List ℕ) (given k i : ℕ) (at : Context) (t : List ℕ) (f : Bool) (o₁ : List ℕ) (p : ℕ)
+    (l : Leads x first o p₀ true (runCommands (listOf (commandOf s) (commandEnd s) s k i) given at t) f o₁ p) where
   -- none is left
-  pub loop-none : k ≤ 0 → Did x true o p₀ t o₁ (went p at true)
+  pub loop-none : k ≤ 0 → Did x first o p₀ t o₁ (went p at true)
   loop-none h =
       let e : k ≡ 0 = omega arith in
-      let m : Leads x true o p₀ true (outcome t [] at true) f o₁ p =
-      subst (λ (z : Outcome). Leads x true o p₀ true z f o₁ p) (ap (λ (j : ℕ). runCommands (listOf (commandOf s) (commandEnd s) s j i) given at t) e ∙ nothing-left s i given at t) l in
+      let m : Leads x first o p₀ true (outcome t [] at true) f o₁ p =
+      subst (λ (z : Outcome). Leads x first o p₀ true z f o₁ p) (ap (λ (j : ℕ). runCommands (listOf (commandOf s) (commandEnd s) s j i) given at t) e ∙ nothing-left s i given at t) l in
       m .to t o₁ p at true (done-none t o₁ f p at)
 
   module _ (t₂ o₂ : List ℕ) (w : Went) (h : 0 < k) (d : Did (runCommand (commandOf s i) given at t) f o₁ p t₂ o₂ w) where
     abbrev rest : List Command
     rest = pick (isAt s (commandEnd s i) comma) (listOf (commandOf s) (commandEnd s) s (k - 1) (pastSign comma s (commandEnd s i))) []
 
-    opened : Leads x true o p₀ true (runCommands (commandOf s i ∷ rest) given at t) f o₁ p
-    opened = subst (λ (z : List Command). Leads x true o p₀ true (runCommands z given at t) f o₁ p) (commands-open s k i h) l
+    opened : Leads x first o p₀ true (runCommands (commandOf s i ∷ rest) given at t) f o₁ p
+    opened = subst (λ (z : List Command). Leads x first o p₀ true (runCommands z given at t) f o₁ p) (commands-open s k i h) l
 
     -- the command stops the transaction
-    pub loop-stop : w .going ≡ false → Did x true o p₀ t₂ o₂ w
+    pub loop-stop : w .going ≡ false → Did x first o p₀ t₂ o₂ w
     loop-stop g =
-        let m : Leads x true o p₀ true (runCommand (commandOf s i) given at t) f o₁ p =
-        subst (λ (z : Outcome). Leads x true o p₀ true z f o₁ p) (commands-stop (commandOf s i) rest given at t (sym (d .going) ∙ g)) opened in
+        let m : Leads x first o p₀ true (runCommand (commandOf s i) given at t) f o₁ p =
+        subst (λ (z : Outcome). Leads x first o p₀ true z f o₁ p) (commands-stop (commandOf s i) rest given at t (sym (d .going) ∙ g)) opened in
         m .to t₂ o₂ (w .next) (w .at) (w .going) d
 
-    going-on : w .going ≡ true → Leads x true o p₀ true (runCommands rest given (w .at) t₂) false o₂ (w .next)
+    going-on : w .going ≡ true → Leads x first o p₀ true (runCommands rest given (w .at) t₂) false o₂ (w .next)
     going-on g =
         let c : Command = commandOf s i in
         let y : Outcome = runCommand c given at t in
-        let m : Leads x true o p₀ true (joined y (runCommands rest given (y .at) (y .table))) f o₁ p =
-        subst (λ (z : Outcome). Leads x true o p₀ true z f o₁ p) (commands-join c rest given at t (sym (d .going) ∙ g)) opened in
-        let n : Leads x true o p₀ true (joined y (runCommands rest given (w .at) t₂)) f o₁ p =
-        subst (λ (z : Outcome). Leads x true o p₀ true (joined y z) f o₁ p) (sym (λ j. runCommands rest given (d .place j) (d .table j))) m in
-        subst (λ (b : Bool). Leads x true o p₀ b (runCommands rest given (w .at) t₂) false o₂ (w .next)) (rw g)
-        (leads-on x true o p₀ true y (runCommands rest given (w .at) t₂) f o₁ o₂ t₂ p w (command-tells c given at t) n d)
+        let m : Leads x first o p₀ true (joined y (runCommands rest given (y .at) (y .table))) f o₁ p =
+        subst (λ (z : Outcome). Leads x first o p₀ true z f o₁ p) (commands-join c rest given at t (sym (d .going) ∙ g)) opened in
+        let n : Leads x first o p₀ true (joined y (runCommands rest given (w .at) t₂)) f o₁ p =
+        subst (λ (z : Outcome). Leads x first o p₀ true (joined y z) f o₁ p) (sym (λ j. runCommands rest given (d .place j) (d .table j))) m in
+        subst (λ (b : Bool). Leads x first o p₀ b (runCommands rest given (w .at) t₂) false o₂ (w .next)) (rw g)
+        (leads-on x first o p₀ true y (runCommands rest given (w .at) t₂) f o₁ o₂ t₂ p w (command-tells c given at t) n d)
 
     -- it is the last
-    pub loop-last : (e : ℕ) (b : Bool) → w .going ≡ true → e ≡ commandEnd s i → b ≡ isAt s e comma → b ≡ false → Did x true o p₀ t₂ o₂ w
+    pub loop-last : (e : ℕ) (b : Bool) → w .going ≡ true → e ≡ commandEnd s i → b ≡ isAt s e comma → b ≡ false → Did x first o p₀ t₂ o₂ w
     loop-last e b g q u v =
         let z : isAt s (commandEnd s i) comma ≡ false = ap (λ (j : ℕ). isAt s j comma) (sym q) ∙ sym u ∙ v in
         let r : rest ≡ [] = left-out (isAt s (commandEnd s i) comma) _ _ z in
-        let m : Leads x true o p₀ true (outcome t₂ [] (w .at) true) false o₂ (w .next) =
-        subst (λ (y : Outcome). Leads x true o p₀ true y false o₂ (w .next)) (ap (λ (y : List Command). runCommands y given (w .at) t₂) r ∙ none-left given (w .at) t₂) (going-on g) in
-        subst (λ (y : Bool). Did x true o p₀ t₂ o₂ (went (w .next) (w .at) y)) (sym g) (m .to t₂ o₂ (w .next) (w .at) true (done-none t₂ o₂ false (w .next) (w .at)))
+        let m : Leads x first o p₀ true (outcome t₂ [] (w .at) true) false o₂ (w .next) =
+        subst (λ (y : Outcome). Leads x first o p₀ true y false o₂ (w .next)) (ap (λ (y : List Command). runCommands y given (w .at) t₂) r ∙ none-left given (w .at) t₂) (going-on g) in
+        subst (λ (y : Bool). Did x first o p₀ t₂ o₂ (went (w .next) (w .at) y)) (sym g) (m .to t₂ o₂ (w .next) (w .at) true (done-none t₂ o₂ false (w .next) (w .at)))
 
     -- another follows
     pub loop-more : (e n : ℕ) (b : Bool) → w .going ≡ true → e ≡ commandEnd s i → b ≡ isAt s e comma → b ≡ true → n ≡ pastSign comma s e
-        → Leads x true o p₀ true (runCommands (listOf (commandOf s) (commandEnd s) s (k - 1) n) given (w .at) t₂) false o₂ (w .next)
+        → Leads x first o p₀ true (runCommands (listOf (commandOf s) (commandEnd s) s (k - 1) n) given (w .at) t₂) false o₂ (w .next)
     loop-more e n b g q u v r =
         let z : isAt s (commandEnd s i) comma ≡ true = ap (λ (j : ℕ). isAt s j comma) (sym q) ∙ sym u ∙ v in
         let y : rest ≡ listOf (commandOf s) (commandEnd s) s (k - 1) n =
         picked (isAt s (commandEnd s i) comma) _ _ z ∙ ap (λ (j : ℕ). listOf (commandOf s) (commandEnd s) s (k - 1) j) (sym (r ∙ ap (pastSign comma s) q)) in
-        subst (λ (a : List Command). Leads x true o p₀ true (runCommands a given (w .at) t₂) false o₂ (w .next)) y (going-on g)
+        subst (λ (a : List Command). Leads x first o p₀ true (runCommands a given (w .at) t₂) false o₂ (w .next)) y (going-on g)

@@ -27,6 +27,7 @@ use Rattle.starts.proofs.StartLaws.{start-writes-is, start-done, start-refused,
 use Rattle.commands.specs.Fails.{Failed}
 use Rattle.laws.specs.Sound.{Whole, sound-whole}
 use Rattle.tries.specs.Contract.{Did}
+use Rattle.tries.specs.declared.Turn.{Turn}
 use Rattle.tries.specs.declared.Went.{Went}
 use Rattle.tries.proofs.DidLaws.{went}
 use Rattle.running.specs.Fold.{runCommands, afterStart, runAction}
@@ -85,8 +86,12 @@ module _ (s : List ℕ) (c : Context) (body : ℕ) (rest : Rest) (t o : List ℕ
   code-is : code ≡ startCode c (anyGiven ps) (over15 ps) (noCommands cs) (heldAt c t)
   code-is = k ∙ (λ i. startCode c (any-is i) (h .over i) (sym (alone-is s rest) i) (e i))
 
+  -- the turn in which an action starts
+  abbrev starts : Turn
+  starts = record { given = g .fresh; at = c; first = true; next = 0 }
+
   -- an action error
-  pub inner-fails : (o′ : List ℕ) (w : Went) → (code ≡ 0 → ⊥) → Failed code c true o 0 o′ w → Did (runAction (action c ps cs) t) true o 0 t o′ w
+  pub inner-fails : (o′ : List ℕ) (w : Went) → (code ≡ 0 → ⊥) → Failed code starts o o′ w → Did (runAction (action c ps cs) t) true o 0 t o′ w
   inner-fails o′ w n a =
       rw (action-refused c ps cs t code (start-refused c ps (noCommands cs) (heldAt c t) (startWrites c ps (heldAt c t)) (λ z. n (code-is ∙ z)) ∙ ap refused (sym code-is)))
       (record { table = refl; text = a .text; place = a .place; going = a .going })

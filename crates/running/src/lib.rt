@@ -17,6 +17,7 @@ ghost use Rattle.running.specs.Promises.{Copied, Acts, Wrote};
 use commands::Passed;
 use megaco::Context;
 use syntax::Rest;
+use tries::Turn;
 use tries::Went;
 
 // An action that was run: the place after its reply, whether the transaction goes on, and where the action's own text ends.
@@ -33,34 +34,29 @@ pub struct Written {
 }
 
 // The commands of an action, in order, until one stops the transaction.
-fn run_commands(
-    s: &[u8],
-    from: usize,
-    given: u32,
-    at: Context,
-    table: &mut [u32],
-    out: &mut [u8],
-    p: usize,
-) -> Passed
+fn run_commands(s: &[u8], from: usize, turn: Turn, table: &mut [u32], out: &mut [u8]) -> Passed
     requires { ⌜ length (now table) ≡ words ⌝ }
-    ensures { λ r. ⌜ Did (runCommands (commandsOf (now (s .entry)) from) given at (now (table .entry))) true (now (out .entry)) p (now (table .exit)) (now (out .exit)) (r .went) × (r .end ≡ commandsEnd (now (s .entry)) from) ⌝ }
+    ensures { λ r. ⌜ Did (runCommands (commandsOf (now (s .entry)) from) (turn .given) (turn .at) (now (table .entry))) (turn .first) (now (out .entry)) (turn .next) (now (table .exit)) (now (out .exit)) (r .went) × (r .end ≡ commandsEnd (now (s .entry)) from) ⌝ }
 {
     let mut i = from;
     let mut left: usize = 64;
-    let mut q = p;
-    let mut c = at;
-    let mut f = true;
+    let mut here = turn;
     while 0 < left {
-        let x = commands::run_command(s, i, given, c, f, table, out, q);
+        let x = commands::run_command(s, i, here, table, out);
         let w = x.went;
         let e = x.end;
         let going = w.going;
         if going {
             if text::is_at(s, e, 0x2c) {
                 i = parts::past_comma(s, e);
-                q = w.next;
-                c = w.at;
-                f = false;
+                let g = here.given;
+                let c = w.at;
+                here = Turn {
+                    given: g,
+                    at: c,
+                    first: false,
+                    next: w.next,
+                };
                 left -= 1;
             } else {
                 return x;
@@ -72,8 +68,9 @@ fn run_commands(
             };
         }
     }
+    let c = here.at;
     let w = Went {
-        next: q,
+        next: here.next,
         at: c,
         going: true,
     };
@@ -97,11 +94,17 @@ fn run_inner(
     let g = starts::read_properties(s, body, held);
     let follow = rest.commands;
     let code = starts::start_code(c, any, g.over, !follow, held);
+    let turn = Turn {
+        given: g.fresh,
+        at: c,
+        first: true,
+        next: 0,
+    };
     if code == 0 {
         starts::start_write(table, c, any, g.held);
         if follow {
             let from = rest.at;
-            return run_commands(s, from, g.fresh, c, table, out, 0);
+            return run_commands(s, from, turn, table, out);
         }
         let n = put_alone(out, g.held);
         let w = Went {
@@ -114,7 +117,7 @@ fn run_inner(
             end: rest.at,
         };
     }
-    let w = commands::fail(code, c, true, out, 0);
+    let w = commands::fail(code, turn, out);
     Passed {
         went: w,
         end: outline::body_end(s, rest),

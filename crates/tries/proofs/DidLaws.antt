@@ -31,7 +31,8 @@ use Rattle.megaco.specs.declared.View.{View}
 use Rattle.megaco.specs.declared.Context.{Context}
 use Rattle.megaco.specs.declared.Op.{Op}
 use Rattle.megaco.specs.declared.Values.{Values}
-use Rattle.tries.specs.Contract.{Did, joined, shown}
+use Rattle.tries.specs.Contract.{Did, joined, shown, Missed}
+use Rattle.tries.specs.declared.Turn.{Turn}
 use Rattle.tries.specs.declared.Went.{Went}
 
 abbrev pub went : ℕ → Context → Bool → Went
@@ -203,41 +204,45 @@ pub noted-tries : (op : Op) (name : List ℕ) (given : ℕ) (vs : Values) (at : 
     → e ≡ min n (length l) → ms ≡ take (e - 0) (drop 0 l) → Did (tries op true name given vs ms at t) first o p t′ o′ w → Did (tries op true name given vs (take n l) at t) first o p t′ o′ w
 noted-tries op name given vs at first t o p t′ o′ l ms n e w q f d = subst (λ (x : List ℕ). Did (tries op true name given vs x at t) first o p t′ o′ w) (f ∙ lent-first l n e q) d
 
-module _ (op : Op) (name : List ℕ) (given : ℕ) (vs : Values) (at : Context) (first : Bool) (t : List ℕ) (o : List ℕ) (p : ℕ) (t′ o′ : List ℕ) where
-  pub target-misses : (x : Target) (code n : ℕ) → x ≡ Misses code → Appended o p (reportsText first (tried op name code ∷ [])) o′ n
-      → Did (aimed op name given vs (aimOf x op at t) at t) first o p t o′ (went n at false)
-  unfolding aimOf aimed missed
-  target-misses x code n e a = rw e (record { table = refl; text = a; place = refl; going = refl })
+module _ (op : Op) (name : List ℕ) (vs : Values) (turn : Turn) (t o t′ o′ : List ℕ) where
+  abbrev comes-to : Target → Outcome
+  comes-to x = aimed op name (turn .given) vs (aimOf x op (turn .at) t) (turn .at) t
 
-  pub target-gateway : (x : Target) (n : ℕ) → x ≡ Gateway → Appended o p (reportsText first (tried op (text "ROOT") 0 ∷ [])) o′ n
-      → Did (aimed op name given vs (aimOf x op at t) at t) first o p t o′ (went n at true)
+  pub target-misses : (x : Target) (code : ℕ) (w : Went) → x ≡ Misses code → Missed op name code turn o o′ w → Did (comes-to x) (turn .first) o (turn .next) t o′ w
+  unfolding aimOf aimed missed
+  target-misses x code w e m = rw e (record { table = refl; text = m .text; place = m .place; going = m .going })
+
+  pub target-gateway : (x : Target) (n : ℕ) → x ≡ Gateway → Appended o (turn .next) (reportsText (turn .first) (tried op (text "ROOT") 0 ∷ [])) o′ n
+      → Did (comes-to x) (turn .first) o (turn .next) t o′ (went n (turn .at) true)
   unfolding aimOf aimed
   target-gateway x n e a = rw e (record { table = refl; text = a; place = refl; going = refl })
 
-  pub target-one : (x : Target) (i : ℕ) (w : Went) → x ≡ One i → Did (tries op false name given vs (i ∷ []) at t) first o p t′ o′ w
-      → Did (aimed op name given vs (aimOf x op at t) at t) first o p t′ o′ w
+  pub target-one : (x : Target) (i : ℕ) (w : Went) → x ≡ One i → Did (tries op false name (turn .given) vs (i ∷ []) (turn .at) t) (turn .first) o (turn .next) t′ o′ w
+      → Did (comes-to x) (turn .first) o (turn .next) t′ o′ w
   unfolding aimOf aimed
   target-one x i w e d = rw e d
 
-  pub target-many : (x : Target) (r : Range) (w : Went) → x ≡ Many r → Did (aimed op name given vs (aimOf (Many r) op at t) at t) first o p t′ o′ w
-      → Did (aimed op name given vs (aimOf x op at t) at t) first o p t′ o′ w
+  pub target-many : (x : Target) (r : Range) (w : Went) → x ≡ Many r → Did (comes-to (Many r)) (turn .first) o (turn .next) t′ o′ w → Did (comes-to x) (turn .first) o (turn .next) t′ o′ w
   target-many x r w e d = rw e d
 
   -- nobody is matched
-  pub many-none : (r : Range) (z u : List ℕ) (k n : ℕ) → Matched (matches op at r t) z u k → k ≡ 0 → Appended o p (reportsText first (tried op name 431 ∷ [])) o′ n
-      → Did (aimed op name given vs (aimOf (Many r) op at t) at t) first o p t o′ (went n at false)
+  pub many-none : (r : Range) (z u : List ℕ) (k : ℕ) (w : Went) → Matched (matches op (turn .at) r t) z u k → k ≡ 0 → Missed op name 431 turn o o′ w
+      → Did (comes-to (Many r)) (turn .first) o (turn .next) t o′ w
   unfolding aimOf aimed missed aimMatches
-  many-none r z u k n m e a = rw (no-elements (matches op at r t) (sym (m .many) ∙ e)) (record { table = refl; text = a; place = refl; going = refl })
+  many-none r z u k w m e a =
+      rw (no-elements (matches op (turn .at) r t) (sym (m .many) ∙ e)) (record { table = refl; text = a .text; place = a .place; going = a .going })
 
   -- those that were noted are tried
-  pub many-some : (r : Range) (z u : List ℕ) (k : ℕ) (w : Went) → Matched (matches op at r t) z u k → (k ≡ 0 → ⊥) → length z ≡ terminations
-      → Did (tries op true name given vs (take k u) at t) first o p t′ o′ w → Did (aimed op name given vs (aimOf (Many r) op at t) at t) first o p t′ o′ w
+  pub many-some : (r : Range) (z u : List ℕ) (k : ℕ) (w : Went) → Matched (matches op (turn .at) r t) z u k → (k ≡ 0 → ⊥) → length z ≡ terminations
+      → Did (tries op true name (turn .given) vs (take k u) (turn .at) t) (turn .first) o (turn .next) t′ o′ w → Did (comes-to (Many r)) (turn .first) o (turn .next) t′ o′ w
   unfolding aimOf
   many-some r z u k w m n h d =
-      let f : k ≤ terminations = matches-few op at r t z u k m in
-      let q : take k u ≡ matches op at r t = noted z u (matches op at r t) k m (rw h f) in
-      by (matches op at r t) (λ z. n (m .many ∙ ap length z)) (subst (λ (l : List ℕ). Did (tries op true name given vs l at t) first o p t′ o′ w) q d)
+      let ms : List ℕ = matches op (turn .at) r t in
+      let f : k ≤ terminations = matches-few op (turn .at) r t z u k m in
+      let q : take k u ≡ ms = noted z u ms k m (rw h f) in
+      by ms (λ z. n (m .many ∙ ap length z)) (subst (λ (l : List ℕ). Did (tries op true name (turn .given) vs l (turn .at) t) (turn .first) o (turn .next) t′ o′ w) q d)
     where
-      by : (l : List ℕ) → (l ≡ [] → ⊥) → Did (tries op true name given vs l at t) first o p t′ o′ w → Did (aimed op name given vs (aimMatches l) at t) first o p t′ o′ w
+      by : (l : List ℕ) → (l ≡ [] → ⊥) → Did (tries op true name (turn .given) vs l (turn .at) t) (turn .first) o (turn .next) t′ o′ w
+          → Did (aimed op name (turn .given) vs (aimMatches l) (turn .at) t) (turn .first) o (turn .next) t′ o′ w
       by [] f d = absurd (f refl)
       by (i ∷ is) f d = unfold aimMatches aimed in d

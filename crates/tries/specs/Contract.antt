@@ -1,13 +1,15 @@
 -- What the functions of a run promise: the table and the reports that the definition gives, the reports' text appended in a buffer.
 use Prim.Native.Nat.{ℕ}
 use mathlib.Core.Path.{_≡_}
-use mathlib.Core.List.{List, _++_}
-use mathlib.Core.Bool.{Bool, _&&_}
+use mathlib.Core.List.{List, [], _∷_, _++_}
+use mathlib.Core.Bool.{Bool, false, _&&_}
 use Rattle.base.specs.Pick.{pick}
 use Rattle.base.specs.Out.{Appended}
-use Rattle.megaco.specs.Reply.{reportsText}
+use Rattle.megaco.specs.Reply.{tried, reportsText}
 use Rattle.megaco.specs.Names.{nameText}
 use Rattle.megaco.specs.Running.{Outcome, outcome}
+use Rattle.megaco.specs.declared.Op.{Op}
+use Rattle.tries.specs.declared.Turn.{Turn}
 use Rattle.tries.specs.declared.Went.{Went}
 
 -- from the buffer o at `at`, a run leaves the table t′ and the buffer o′; `first` tells that no comma is due before its first report
@@ -24,3 +26,9 @@ joined x y = outcome (y .table) (x .reports ++ y .reports) (y .at) (x .going && 
 -- the name that a failed attempt bears
 unfoldable pub shown : Bool → ℕ → List ℕ → List ℕ
 shown wild i name = pick wild (nameText i) name
+
+-- a command that fails before any attempt is reported under the bytes received
+pub record Missed (op : Op) (name : List ℕ) (code : ℕ) (turn : Turn) (o o′ : List ℕ) (r : Went) : Type 0 where
+  pub text : Appended o (turn .next) (reportsText (turn .first) (tried op name code ∷ [])) o′ (r .next)
+  pub place : r .at ≡ turn .at
+  pub going : r .going ≡ false

@@ -12,12 +12,21 @@ ghost use Rattle.megaco.specs.Running.{tries, aimed};
 ghost use Rattle.attempt.specs.Judging.{Fair};
 ghost use Rattle.aims.specs.Targets.{aimOf};
 ghost use Rattle.aims.specs.declared.Target.the-variants.{Many};
-ghost use Rattle.tries.specs.Contract.{Did, shown};
+ghost use Rattle.tries.specs.Contract.{Did, shown, Missed};
 use aims::Target;
 use megaco::Context;
 use megaco::Op;
 use megaco::Range;
 use megaco::Values;
+
+// Where a transaction stands: the record that its action gives to a context that comes to be, the action's context, whether no report was
+// put in the action yet, and the place for the next.
+pub struct Turn {
+    pub given: u32,
+    pub at: Context,
+    pub first: bool,
+    pub next: usize,
+}
 
 // Where a part of a run ends: the place after its text, the action's context, and whether the transaction goes on.
 pub struct Went {
@@ -29,64 +38,74 @@ pub struct Went {
 // ---- reports
 
 // A report under the bytes received.
-pub fn put_received(out: &mut [u8], p: usize, first: bool, op: Op, name: &[u8], code: u32) -> usize
-    ensures { λ r. ⌜ Appended (now (out .entry)) p (reportsText first (tried op (now (name .entry)) code ∷ [])) (now (out .exit)) r ⌝ }
+fn put_received(out: &mut [u8], turn: Turn, op: Op, name: &[u8], code: u32) -> usize
+    ensures { λ r. ⌜ Appended (now (out .entry)) (turn .next) (reportsText (turn .first) (tried op (now (name .entry)) code ∷ [])) (now (out .exit)) r ⌝ }
 {
-    let q = report::put_separator(out, p, first);
+    let q = report::put_separator(out, turn.next, turn.first);
     report::put_tried(out, q, op, name, code)
 }
 
 // A report under a termination's full name.
-fn put_full(out: &mut [u8], p: usize, first: bool, op: Op, i: usize, code: u32) -> usize
-    ensures { λ r. ⌜ Appended (now (out .entry)) p (reportsText first (tried op (nameText i) code ∷ [])) (now (out .exit)) r ⌝ }
+fn put_full(out: &mut [u8], turn: Turn, op: Op, i: usize, code: u32) -> usize
+    ensures { λ r. ⌜ Appended (now (out .entry)) (turn .next) (reportsText (turn .first) (tried op (nameText i) code ∷ [])) (now (out .exit)) r ⌝ }
 {
-    let q = report::put_separator(out, p, first);
+    let q = report::put_separator(out, turn.next, turn.first);
     report::put_named(out, q, op, i, code)
 }
 
 // The report of an attempt that failed: a wildcard's bears the full name, another the bytes received.
 fn put_refused(
     out: &mut [u8],
-    p: usize,
-    first: bool,
+    turn: Turn,
     op: Op,
     wild: bool,
     name: &[u8],
     i: usize,
     code: u32,
 ) -> usize
-    ensures { λ r. ⌜ Appended (now (out .entry)) p (reportsText first (tried op (shown wild i (now (name .entry))) code ∷ [])) (now (out .exit)) r ⌝ }
+    ensures { λ r. ⌜ Appended (now (out .entry)) (turn .next) (reportsText (turn .first) (tried op (shown wild i (now (name .entry))) code ∷ [])) (now (out .exit)) r ⌝ }
 {
     if wild {
-        return put_full(out, p, first, op, i, code);
+        return put_full(out, turn, op, i, code);
     }
-    put_received(out, p, first, op, name, code)
+    put_received(out, turn, op, name, code)
+}
+
+// A command that fails before any attempt.
+pub fn miss(op: Op, name: &[u8], code: u32, turn: Turn, out: &mut [u8]) -> Went
+    ensures { λ r. ⌜ Missed op (now (name .entry)) code turn (now (out .entry)) (now (out .exit)) r ⌝ }
+{
+    let n = put_received(out, turn, op, name, code);
+    let c = turn.at;
+    Went {
+        next: n,
+        at: c,
+        going: false,
+    }
 }
 
 // ---- attempts
 
 // One attempt.
-pub fn try_one(
+fn try_one(
     op: Op,
     wild: bool,
     name: &[u8],
-    given: u32,
     values: Values,
     i: usize,
-    at: Context,
-    first: bool,
+    turn: Turn,
     table: &mut [u32],
     out: &mut [u8],
-    p: usize,
 ) -> Went
     requires { ⌜ (length (now table) ≡ words) × Fair values ⌝ }
-    ensures { λ r. ⌜ Did (tries op wild (now (name .entry)) given values (i ∷ []) at (now (table .entry))) first (now (out .entry)) p (now (table .exit)) (now (out .exit)) r ⌝ }
+    ensures { λ r. ⌜ Did (tries op wild (now (name .entry)) (turn .given) values (i ∷ []) (turn .at) (now (table .entry))) (turn .first) (now (out .entry)) (turn .next) (now (table .exit)) (now (out .exit)) r ⌝ }
 {
+    let at = turn.at;
     let view = view::look(table, at, i);
     let code = attempt::judge_attempt(op, at, view);
     if code == 0 {
-        attempt::change(table, op, at, given, i, values, view);
-        let n = put_full(out, p, first, op, i, 0);
+        attempt::change(table, op, at, turn.given, i, values, view);
+        let n = put_full(out, turn, op, i, 0);
         let c = attempt::settled(at, view);
         return Went {
             next: n,
@@ -94,7 +113,7 @@ pub fn try_one(
             going: true,
         };
     }
-    let n = put_refused(out, p, first, op, wild, name, i, code);
+    let n = put_refused(out, turn, op, wild, name, i, code);
     Went {
         next: n,
         at: at,
@@ -112,45 +131,34 @@ fn number(i: u32) -> usize
 fn try_each(
     op: Op,
     name: &[u8],
-    given: u32,
     values: Values,
     matched: &[u32],
-    at: Context,
-    first: bool,
+    turn: Turn,
     table: &mut [u32],
     out: &mut [u8],
-    p: usize,
 ) -> Went
     requires { ⌜ (length (now table) ≡ words) × Fair values ⌝ }
-    ensures { λ r. ⌜ Did (tries op true (now (name .entry)) given values (now (matched .entry)) at (now (table .entry))) first (now (out .entry)) p (now (table .exit)) (now (out .exit)) r ⌝ }
+    ensures { λ r. ⌜ Did (tries op true (now (name .entry)) (turn .given) values (now (matched .entry)) (turn .at) (now (table .entry))) (turn .first) (now (out .entry)) (turn .next) (now (table .exit)) (now (out .exit)) r ⌝ }
 {
     let mut k: usize = 0;
-    let mut q = p;
-    let mut c = at;
+    let mut here = turn;
     let mut good = true;
-    let mut f = first;
     while k < matched.len() {
-        let w = try_one(
-            op,
-            true,
-            name,
-            given,
-            values,
-            number(matched[k]),
-            c,
-            f,
-            table,
-            out,
-            q,
-        );
-        q = w.next;
-        c = w.at;
+        let w = try_one(op, true, name, values, number(matched[k]), here, table, out);
+        let g = here.given;
+        let c = w.at;
+        here = Turn {
+            given: g,
+            at: c,
+            first: false,
+            next: w.next,
+        };
         good = good & w.going;
-        f = false;
         k += 1;
     }
+    let c = here.at;
     Went {
-        next: q,
+        next: here.next,
         at: c,
         going: good,
     }
@@ -166,109 +174,67 @@ pub fn low(a: usize, b: usize) -> usize
 fn try_noted(
     op: Op,
     name: &[u8],
-    given: u32,
     values: Values,
     row: &[u32],
     n: usize,
-    at: Context,
-    first: bool,
+    turn: Turn,
     table: &mut [u32],
     out: &mut [u8],
-    p: usize,
 ) -> Went
     requires { ⌜ (length (now table) ≡ words) × Fair values ⌝ }
-    ensures { λ r. ⌜ Did (tries op true (now (name .entry)) given values (take n (now (row .entry))) at (now (table .entry))) first (now (out .entry)) p (now (table .exit)) (now (out .exit)) r ⌝ }
+    ensures { λ r. ⌜ Did (tries op true (now (name .entry)) (turn .given) values (take n (now (row .entry))) (turn .at) (now (table .entry))) (turn .first) (now (out .entry)) (turn .next) (now (table .exit)) (now (out .exit)) r ⌝ }
 {
     let e = low(n, row.len());
-    try_each(
-        op,
-        name,
-        given,
-        values,
-        &row[0..e],
-        at,
-        first,
-        table,
-        out,
-        p,
-    )
+    try_each(op, name, values, &row[0..e], turn, table, out)
 }
 
 // The attempts of a wildcard: its matches are noted before the first of them.
 fn try_many(
     op: Op,
     name: &[u8],
-    given: u32,
     values: Values,
     r: Range,
-    at: Context,
-    first: bool,
+    turn: Turn,
     table: &mut [u32],
     out: &mut [u8],
-    p: usize,
 ) -> Went
     requires { ⌜ (length (now table) ≡ words) × Fair values ⌝ }
-    ensures { λ w. ⌜ Did (aimed op (now (name .entry)) given values (aimOf (Many r) op at (now (table .entry))) at (now (table .entry))) first (now (out .entry)) p (now (table .exit)) (now (out .exit)) w ⌝ }
+    ensures { λ w. ⌜ Did (aimed op (now (name .entry)) (turn .given) values (aimOf (Many r) op (turn .at) (now (table .entry))) (turn .at) (now (table .entry))) (turn .first) (now (out .entry)) (turn .next) (now (table .exit)) (now (out .exit)) w ⌝ }
 {
     let mut matched = [0u32; 312];
+    let at = turn.at;
     let n = view::note_matches(table, op, at, r, &mut matched);
     if n == 0 {
-        let q = put_received(out, p, first, op, name, 431);
-        return Went {
-            next: q,
-            at: at,
-            going: false,
-        };
+        return miss(op, name, 431, turn, out);
     }
-    try_noted(
-        op,
-        name,
-        given,
-        values,
-        &matched,
-        n,
-        at,
-        first,
-        table,
-        out,
-        p,
-    )
+    try_noted(op, name, values, &matched, n, turn, table, out)
 }
 
 // Tests 5 and 6, for each that the name means.
 pub fn run_target(
     op: Op,
     name: &[u8],
-    given: u32,
     values: Values,
     target: Target,
-    at: Context,
-    first: bool,
+    turn: Turn,
     table: &mut [u32],
     out: &mut [u8],
-    p: usize,
 ) -> Went
     requires { ⌜ (length (now table) ≡ words) × Fair values ⌝ }
-    ensures { λ w. ⌜ Did (aimed op (now (name .entry)) given values (aimOf target op at (now (table .entry))) at (now (table .entry))) first (now (out .entry)) p (now (table .exit)) (now (out .exit)) w ⌝ }
+    ensures { λ w. ⌜ Did (aimed op (now (name .entry)) (turn .given) values (aimOf target op (turn .at) (now (table .entry))) (turn .at) (now (table .entry))) (turn .first) (now (out .entry)) (turn .next) (now (table .exit)) (now (out .exit)) w ⌝ }
 {
     match target {
-        Target::Misses(code) => {
-            let q = put_received(out, p, first, op, name, code);
-            Went {
-                next: q,
-                at: at,
-                going: false,
-            }
-        }
+        Target::Misses(code) => miss(op, name, code, turn, out),
         Target::Gateway => {
-            let q = put_received(out, p, first, op, b"ROOT", 0);
+            let q = put_received(out, turn, op, b"ROOT", 0);
+            let c = turn.at;
             Went {
                 next: q,
-                at: at,
+                at: c,
                 going: true,
             }
         }
-        Target::One(i) => try_one(op, false, name, given, values, i, at, first, table, out, p),
-        Target::Many(r) => try_many(op, name, given, values, r, at, first, table, out, p),
+        Target::One(i) => try_one(op, false, name, values, i, turn, table, out),
+        Target::Many(r) => try_many(op, name, values, r, turn, table, out),
     }
 }

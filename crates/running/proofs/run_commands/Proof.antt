@@ -11,12 +11,13 @@ use Rattle.running.proofs.run_commands.Statement.{statement}
 use Rattle.running.proofs.run_commands.Tie as tie
 
 abbrev Inv-loop : tie.InvT-loop
-Inv-loop s from given table₀ out₀ p i₀ left₀ q₀ c₀ f₀ table out i left q c f =
+Inv-loop s from table₀ out₀ i₀ left₀ here₀ table out i left here =
     (length table ≡ length table₀) × (length out ≡ length out₀) × (commandsEnd s from ≡ listEnd (commandEnd s) s left i)
-    × Leads (runCommands (commandsOf s from) given c₀ table₀) true out₀ p true (runCommands (listOf (commandOf s) (commandEnd s) s left i) given c table) f out q
+    × Leads (runCommands (commandsOf s from) (here₀ .given) (here₀ .at) table₀) (here₀ .first) out₀ (here₀ .next) true
+    (runCommands (listOf (commandOf s) (commandEnd s) s left i) (here .given) (here .at) table) (here .first) out (here .next)
 
 abbrev μ-loop : tie.MeasureT-loop
-μ-loop s from given table₀ out₀ p i₀ left₀ q₀ c₀ f₀ table out i left q c f = left
+μ-loop s from table₀ out₀ i₀ left₀ here₀ table out i left here = left
 
 pub run-commands-spec : {M : Type 1} → statement M
 run-commands-spec =

@@ -1,5 +1,4 @@
 use borrow.Author.Needs.{needs}
-use Rattle.syntax.specs.Extraction.{bodyEnd}
 use Rattle.running.proofs.StartedLaws.{inner-fails, inner-commands, inner-alone, body-of-commands, body-alone}
 use Rattle.running.proofs.run_inner.Statement.{statement}
 use Rattle.running.proofs.run_inner.Tie as tie

@@ -9,12 +9,13 @@ use Rattle.tries.proofs.try_each.Statement.{statement}
 use Rattle.tries.proofs.try_each.Tie as tie
 
 abbrev Inv-loop : tie.InvT-loop
-Inv-loop op name given values matched first table₀ out₀ p k₀ q₀ c₀ good₀ f₀ table out k q c good f =
+Inv-loop op name values matched table₀ out₀ k₀ here₀ good₀ table out k here good =
     (length table ≡ length table₀) × (length out ≡ length out₀)
-    × Leads (tries op true name given values matched c₀ table₀) first out₀ p good (tries op true name given values (drop k matched) c table) f out q
+    × Leads (tries op true name (here₀ .given) values matched (here₀ .at) table₀) (here₀ .first) out₀ (here₀ .next) good
+    (tries op true name (here .given) values (drop k matched) (here .at) table) (here .first) out (here .next)
 
 abbrev μ-loop : tie.MeasureT-loop
-μ-loop op name given values matched first table₀ out₀ p k₀ q₀ c₀ good₀ f₀ table out k q c good f = length matched - k
+μ-loop op name values matched table₀ out₀ k₀ here₀ good₀ table out k here good = length matched - k
 
 pub try-each-spec : {M : Type 1} → statement M
 try-each-spec =
