@@ -1,6 +1,6 @@
 -- The code's promise in the words of the grammar. `message::verdict` promises `r ≡ verdict s` for every slice of bytes s; so what is said here
 -- of `verdict s` is said of what runs: it answers 'well-formed' exactly when the grammar of Annex B, in document 01's profile, admits the
--- message with version 1, and each fault exactly where the grammar calls for it.
+-- message with version 1, and 403 and 406 exactly where the grammar calls for them; 400 is what is left (`fault-400` in crate `grammar`).
 use Prim.Native.Nat.{ℕ}
 use mathlib.Core.Path.{_≡_, refl, sym, ap, _∙_}
 use mathlib.Core.Logic.{_↔_}

@@ -1,4 +1,4 @@
--- Reading is the grammar's only derivation: a message is well-formed, with its tree, exactly when the grammar admits it with version 1; no text
+-- Reading finds exactly what the grammar derives, with its one tree: a message is well-formed, with its tree, exactly when the grammar admits it with version 1; no text
 -- has two trees; and each fault is told exactly where the grammar calls for it.
 use Prim.Native.Nat.{ℕ}
 use mathlib.Core.Path.{_≡_, refl, _∙_}

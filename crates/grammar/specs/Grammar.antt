@@ -177,7 +177,7 @@ pub data Prefix (letter : ℕ) : List ℕ → Bool → Type 0 where
   withPrefix : {b : ℕ} → capital b ≡ letter → Prefix letter (b ∷ dash ∷ []) true
 
 -- ["O-"] ["W-"] commandRequest, ammRequest = (AddToken / MoveToken / ModifyToken ) EQUAL TerminationID [LBRKT ammParameter *(COMMA ammParameter) RBRKT]:
--- any word, but "PR; EG; these words are never commands"
+-- any word, but "PR .. EG; these words are never commands"
 pub data commandRequest : List ℕ → Command → Type 0 where
   ammRequest : {a b c d e f : List ℕ} {optional wild : Bool} {is : Items} → Prefix 0x4f a optional → Prefix 0x57 b wild
       → NAME c → ¬ Keyword PriorityToken c → ¬ Keyword EmergencyToken c → EQUAL d → TerminationID e → Braces (ammParameters 8) f is

@@ -1,1 +1,2 @@
-// The grammar of a message and the theorems that reading is its only derivation; see specs/ and proofs/. No code stands here.
+// The grammar of a message, and the theorems that reading finds exactly what it derives, with its one tree; see specs/ and proofs/. No code
+// stands here.

@@ -112,7 +112,7 @@ prefixAt b s at = eqb (capital (getD s at 0)) b && isAt s (at + 1) dash
 unfoldable pub prefixEnd : ℕ → List ℕ → ℕ → ℕ
 prefixEnd b s at = pick (prefixAt b s at) (at + 2) at
 
--- "PR; EG; these words are never commands"
+-- "PR .. EG; these words are never commands"
 unfoldable pub isProperty : List ℕ → Bool
 isProperty w = spells PriorityToken w || spells EmergencyToken w
 
@@ -226,7 +226,7 @@ startAt s = after (whiteAt s 0) (λ p. after (pick (isAt s p 0x21) (Next (p + 1)
 unfoldable pub senderAt : List ℕ → ℕ → Parsed
 senderAt s at = after (sepAt s at) (λ p. after (mIdAt s p) (sepAt s))
 
--- "MEGACO `/` version (1 or 2 digits), mId, then 1 to 8 transactions". "A header that reads well with a version other than 1: ER=406{}"
+-- "MEGACO `/` version (1 or 2 digits), mId, then 1 to 8 transactions". "A header .. that reads well with a version other than 1: ER=406{}"
 unfoldable pub messageR : List ℕ → Message
 messageR s =
     elsewhere (startAt s) (λ p.

@@ -68,7 +68,7 @@ isChoose = elim [ Null ↦ false | Numbered c ↦ false | Choose ↦ true | All 
 unfoldable pub target : Context → View → ℕ
 target at v = pick (isChoose at) (v .free) (numberOf at)
 
--- "412: a context must be made and 128 exist. 434: the target holds 8"
+-- "412: a context must be made and 128 exist, judged before a Move leaves. 434: the target holds 8"
 unfoldable pub roomChecks : Context → View → List Check
 roomChecks at v = check (isChoose at && eqb (v .free) 0) 412 ∷ check (leb most (v .there .members)) 434 ∷ []
 

@@ -1,4 +1,4 @@
-// Running the actions of a transaction, and the transactions of a message that reads.
+// Running the actions of a transaction: each one's start, its commands in order, and its `C=id{..}`.
 ghost use mathlib.Core.Path.{_≡_};
 ghost use mathlib.Core.Bool.{true, false};
 ghost use Prim.Native.Nat.{_≤_, min};

@@ -1,5 +1,6 @@
-// Whether a lent table is sound: one pass over the context words, one over the properties, one over the records. The passes do not stop at
-// the first word that is wrong: tables are sound but for rare accidents, and without a way out the compiler takes several words at a time.
+// Whether a lent table is sound: a pass over the context words, one over the records, one over the lines' properties, one over the ephemerals'.
+// All but the first go on past a word that is wrong: tables are sound but for rare accidents, and without a way out the compiler takes several
+// words at a time.
 use table::CONTEXTS;
 use table::EPHEMERAL_PROPERTIES;
 use table::LINE_TERMINATIONS;

@@ -1,5 +1,6 @@
--- The tree of a well-formed message, told by position: every place is the end of a reader, and nothing can fail. Where a part does not
--- read, what is told of it has no meaning; Bridge proves that it is the tree where the message reads.
+-- The tree of a well-formed message and the ends of its parts, told by position. A token ends where its reader stops, a larger part where its
+-- own parts end, and nothing can fail. Where a part does not read, what is told has no meaning; Bridge proves that it is the tree where the
+-- message reads.
 use Prim.Native.Nat.{ℕ, zero, suc, _+_}
 use mathlib.Core.Bool.{Bool, true, false}
 use mathlib.Core.List.{List, [], _∷_}

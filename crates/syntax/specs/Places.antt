@@ -178,7 +178,7 @@ protocolAt s at = pick (isAt s at 0x21) (Next (at + 1)) (keywordAt MegacopToken 
 unfoldable pub versionAt : List ℕ → Number
 versionAt s = numberAfter (startAt s) (λ p. numberAt s p 2 99)
 
--- "A header that reads well with a version other than 1: ER=406{}, whatever follows"
+-- "A header .. that reads well with a version other than 1: ER=406{}, whatever follows"
 unfoldable pub verdict : List ℕ → Verdict
 verdict s =
     ifNumber (versionAt s) (λ v p.

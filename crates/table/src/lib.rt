@@ -4,7 +4,7 @@ ghost use lib.ListN.{length, getD, set};
 ghost use Rattle.base.specs.Lists.{count, lowestAbsent};
 ghost use Rattle.megaco.specs.Table.{words, prop, rec, ctx, cell, address, get, write, store, isEphemeral, exists, members, freeContext, freeEphemeral};
 
-// The lines fitted; all other sizes follow from it.
+// The lines fitted; with the channels, ephemerals and contexts below, it gives the numbers of terminations and of words.
 pub const LINES: u32 = 8;
 
 // Speech channels of a line.

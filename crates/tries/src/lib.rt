@@ -1,4 +1,4 @@
-// The attempts of a command: whom its name means, and each attempt looked at, judged, done and reported.
+// The attempts of a command, on those that its name means: each looked at, judged, done and reported.
 ghost use mathlib.Core.Path.{_≡_};
 ghost use mathlib.Core.Bool.{true, false};
 ghost use mathlib.Core.List.{[], _∷_};
@@ -18,6 +18,7 @@ use megaco::Context;
 use megaco::Op;
 use megaco::Range;
 use megaco::Values;
+use table::TERMINATIONS;
 
 // Where a transaction stands: the record that its action gives to a context that comes to be, the action's context, whether no report was
 // put in the action yet, and the place for the next.
@@ -201,7 +202,7 @@ fn try_many(
     requires { ⌜ (length (now table) ≡ words) × Fair values ⌝ }
     ensures { λ w. ⌜ Did (aimed op (now (name .entry)) (turn .given) values (aimOf (Many r) op (turn .at) (now (table .entry))) (turn .at) (now (table .entry))) (turn .first) (now (out .entry)) (turn .next) (now (table .exit)) (now (out .exit)) w ⌝ }
 {
-    let mut matched = [0u32; 312];
+    let mut matched = [0u32; TERMINATIONS];
     let at = turn.at;
     let n = view::note_matches(table, op, at, r, &mut matched);
     if n == 0 {
