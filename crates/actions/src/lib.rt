@@ -26,7 +26,7 @@ pub fn key(s: &[u8], at: usize, k: Token) -> Parsed
 }
 
 // The place after a number.
-pub fn number_place(n: Number) -> Parsed
+fn number_place(n: Number) -> Parsed
     ensures { λ r. ⌜ r ≡ afterNumber n Next ⌝ }
 {
     match n {

@@ -6,8 +6,7 @@ use mathlib.Core.Path.{_≡_, refl, sym, ap, _∙_}
 use mathlib.Core.Logic.{_↔_}
 use mathlib.Core.List.{List}
 use native.Mathlib.Omega.{arith}
-use Rattle.megaco.specs.Tree.{Transaction, Message, wellFormed, fault400, fault403, fault406}
-use Rattle.megaco.specs.Reading.{messageR}
+use Rattle.megaco.specs.Tree.{Transaction, wellFormed, fault403, fault406}
 use Rattle.syntax.specs.Places.{verdict}
 use Rattle.syntax.specs.Extraction.{messageOf}
 use Rattle.syntax.specs.Bridge.{told, message-told}

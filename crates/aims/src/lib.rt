@@ -17,7 +17,7 @@ pub enum Target {
     Many(Range),
 }
 
-pub fn is_add(op: Op) -> bool
+fn is_add(op: Op) -> bool
     ensures { λ r. ⌜ r ≡ isAdd op ⌝ }
 {
     match op {

@@ -13,7 +13,7 @@ ghost use Rattle.attempt.specs.Judging.{codeOf, valueOr, Fair};
 
 // ---- judging
 
-pub fn is_choose(at: Context) -> bool
+fn is_choose(at: Context) -> bool
     ensures { λ r. ⌜ r ≡ isChoose at ⌝ }
 {
     match at {
@@ -75,7 +75,7 @@ pub fn judge_attempt(op: Op, at: Context, view: View) -> u32
 }
 
 // The number of the context that an attempt means.
-pub fn target(at: Context, view: View) -> u32
+fn target(at: Context, view: View) -> u32
     ensures { λ r. ⌜ r ≡ target at view ⌝ }
 {
     if is_choose(at) {
@@ -108,7 +108,7 @@ fn value_or(g: Given, x: u32) -> u32
 }
 
 // A property word with the values given set in it.
-pub fn update(values: Values, word: u32) -> u32
+fn update(values: Values, word: u32) -> u32
     requires { ⌜ Fair values ⌝ }
     ensures { λ r. ⌜ r ≡ update values word ⌝ }
 {
@@ -118,14 +118,14 @@ pub fn update(values: Values, word: u32) -> u32
 }
 
 // The property word that Add starts from.
-pub fn added(i: usize, word: u32) -> u32
+fn added(i: usize, word: u32) -> u32
     ensures { λ r. ⌜ r ≡ added i word ⌝ }
 {
     if table::is_ephemeral(i) { 0 } else { word }
 }
 
 // The property word that Subtract leaves.
-pub fn subtracted(i: usize, word: u32) -> u32
+fn subtracted(i: usize, word: u32) -> u32
     ensures { λ r. ⌜ r ≡ subtracted i word ⌝ }
 {
     if table::is_ephemeral(i) {

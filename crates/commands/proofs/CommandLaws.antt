@@ -1,16 +1,15 @@
 -- A command's tests in order.
 use Prim.Native.Nat.{ℕ, _-_}
-use mathlib.Core.Path.{_≡_, refl, sym, ap, _∙_, subst}
-use mathlib.Core.List.{List, [], _∷_}
+use mathlib.Core.Path.{_≡_, refl, sym, ap, _∙_}
+use mathlib.Core.List.{List}
 use mathlib.Core.Option.{Option, none, some}
 use mathlib.Core.Bool.{Bool, true, false, _||_}
 use lib.ListN.{take, drop}
 use Rattle.base.specs.Pick.{pick}
 use Rattle.base.specs.Lists.{part}
 use Rattle.megaco.specs.Items.{judgeItems, given?}
-use Rattle.megaco.specs.Tree.{Items, Command, command}
-use Rattle.megaco.specs.Reply.{tried, reportsText}
-use Rattle.megaco.specs.Running.{Outcome, outcome, seen, numberOf, opOf, lost, barred, isSubtract, missed, actionError, named, tested, unlessOptional, ordered, runCommand}
+use Rattle.megaco.specs.Tree.{Items}
+use Rattle.megaco.specs.Running.{Outcome, seen, numberOf, opOf, lost, barred, isSubtract, missed, actionError, named, tested, unlessOptional, ordered, runCommand}
 use Rattle.megaco.specs.declared.Op.{Op}
 use Rattle.megaco.specs.declared.Judged.{Judged}
 use Rattle.megaco.specs.declared.Judged.the-variants.{Wrong, Right}

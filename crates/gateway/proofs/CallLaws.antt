@@ -1,14 +1,14 @@
 -- The call, turned down or taken.
-use Prim.Native.Nat.{ℕ, _+_, _*_, _<_, _≤_, min, max}
-use mathlib.Core.Path.{_≡_, refl, sym, ap, _∙_, subst}
-use mathlib.Core.Bool.{Bool, true, false, not, _||_}
+use Prim.Native.Nat.{ℕ, _+_, _*_, _<_, _≤_}
+use mathlib.Core.Path.{_≡_, refl, sym, _∙_}
+use mathlib.Core.Bool.{Bool, true, false, _||_}
 use mathlib.Core.List.{List}
 use lib.ListN.{length}
 use lib.Dec.{ltb, leb, eqb}
 use borrow.Author.Tests.{lt-ltb, le-ltb, leb-true}
 use native.Mathlib.Omega.{arith}
 use Rattle.base.specs.Pick.{pick}
-use Rattle.base.specs.Bytes.{put, _then_}
+use Rattle.base.specs.Bytes.{_then_}
 use Rattle.base.specs.Out.{Appended}
 use Rattle.base.proofs.OutLaws.{_▸_}
 use Rattle.base.proofs.TestLaws.{and-both}
@@ -16,8 +16,8 @@ use Rattle.megaco.specs.Tokens.{isMid, wholeAt, mIdAt}
 use Rattle.megaco.specs.Reading.{messageR}
 use Rattle.megaco.specs.Table.{sound}
 use Rattle.megaco.specs.Reply.{headerText}
-use Rattle.megaco.specs.Running.{Ran, runMessage}
-use Rattle.megaco.specs.Call.{Called, turnedDown, written, replied, taken, call}
+use Rattle.megaco.specs.Running.{runMessage}
+use Rattle.megaco.specs.Call.{Called, written, replied, taken, call}
 use Rattle.laws.specs.Bounds.{reply-fits}
 use Rattle.running.specs.Promises.{Wrote}
 use Rattle.gateway.specs.Answers.{refusalOf, sizeOf, Answered, Packed}

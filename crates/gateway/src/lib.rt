@@ -1,5 +1,4 @@
 // The call: one message, a lent table, the gateway's own mId and a lent reply buffer.
-ghost use mathlib.Core.Path.{_≡_};
 ghost use Rattle.megaco.specs.Call.{call};
 ghost use Rattle.gateway.specs.Answers.{Answered, Packed};
 

@@ -1,18 +1,14 @@
 -- What the tests of a command come to.
-use Prim.Native.Nat.{ℕ, _<_, _≤_}
-use mathlib.Core.Path.{_≡_, refl, sym, ap, _∙_, subst}
-use mathlib.Core.List.{List, [], _∷_}
+use Prim.Native.Nat.{ℕ}
+use mathlib.Core.Path.{_≡_, refl, ap, _∙_, subst}
+use mathlib.Core.List.{List}
 use mathlib.Core.Option.{Option, none, some}
-use mathlib.Core.Bool.{Bool, true, false, _&&_, _||_}
-use lib.ListN.{length}
+use mathlib.Core.Bool.{Bool, true, false, _&&_}
 use lib.Dec.{ltb, leb}
 use Rattle.base.specs.Pick.{pick}
 use Rattle.megaco.specs.Table.{known, rec, cell, get, contexts}
 use Rattle.megaco.specs.Names.{nameOf}
-use Rattle.megaco.specs.Items.{judgeItems, given?}
-use Rattle.megaco.specs.Tree.{Items, Command, command}
-use Rattle.megaco.specs.Reply.{tried, failed, reportsText}
-use Rattle.megaco.specs.Running.{Outcome, outcome, seen, numberOf, opOf, lost, barred, isSubtract, missed, actionError, aim, aimed, named, tested, unlessOptional, ordered, runCommand}
+use Rattle.megaco.specs.Running.{seen, numberOf, opOf, missed, aim, aimed, named}
 use Rattle.megaco.specs.Keywords.{spells}
 use Rattle.megaco.specs.declared.Token.the-variants.{AddToken, ModifyToken, SubtractToken, MoveToken}
 use Rattle.megaco.specs.declared.Context.{Context}
@@ -30,8 +26,7 @@ use Rattle.tries.specs.Contract.{Did, Missed}
 use Rattle.tries.specs.declared.Turn.{Turn}
 use Rattle.tries.specs.declared.Went.{Went}
 use Rattle.orders.specs.Orders.{foundOf, heldAt, FairJudged}
-use Rattle.orders.specs.declared.Found.{Found}
-use Rattle.orders.specs.declared.Found.the-variants.{Built, Unbuilt}
+use Rattle.orders.specs.declared.Found.the-variants.{Unbuilt}
 
 -- ---- words
 

@@ -160,7 +160,7 @@ fn item_end(s: &[u8], left: usize, at: usize) -> usize
 }
 
 // The end of the items of at most `left` levels that begin here.
-pub fn items_end(s: &[u8], left: usize, at: usize) -> usize
+fn items_end(s: &[u8], left: usize, at: usize) -> usize
     ensures { λ r. ⌜ r ≡ itemsEnd left (now (s .entry)) at ⌝ }
 {
     if left == 0 {

@@ -7,7 +7,7 @@ ghost use Rattle.reply.specs.Texts.{replyOpen, actionOpen, Limited};
 use megaco::Context;
 
 // An action's context.
-pub fn put_context(out: &mut [u8], at: usize, c: Context) -> usize
+fn put_context(out: &mut [u8], at: usize, c: Context) -> usize
     ensures { λ r. ⌜ Appended (now (out .entry)) at (contextText c) (now (out .exit)) r ⌝ }
 {
     match c {

@@ -23,7 +23,7 @@ pub fn put_error(out: &mut [u8], at: usize, code: u32) -> usize
 }
 
 // `{ER=code{}}` after a failed attempt, nothing after a success.
-pub fn put_code(out: &mut [u8], at: usize, code: u32) -> usize
+fn put_code(out: &mut [u8], at: usize, code: u32) -> usize
     ensures { λ r. ⌜ Appended (now (out .entry)) at (codeText code) (now (out .exit)) r ⌝ }
 {
     if code == 0 {
@@ -35,7 +35,7 @@ pub fn put_code(out: &mut [u8], at: usize, code: u32) -> usize
 }
 
 // A command's short keyword.
-pub fn put_op(out: &mut [u8], at: usize, op: Op) -> usize
+fn put_op(out: &mut [u8], at: usize, op: Op) -> usize
     ensures { λ r. ⌜ Appended (now (out .entry)) at (opText op) (now (out .exit)) r ⌝ }
 {
     match op {

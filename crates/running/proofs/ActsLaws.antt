@@ -12,12 +12,11 @@ use Rattle.base.specs.Lists.{isAt}
 use Rattle.base.specs.Bytes.{text, _then_}
 use Rattle.base.specs.Out.{Appended}
 use Rattle.base.proofs.OutLaws.{_▸_, none, copied, same-length-by}
-use Rattle.base.proofs.TextLaws.{then-assoc, then-none}
 use Rattle.megaco.specs.Bytes.{comma}
 use Rattle.megaco.specs.Table.{sound}
 use Rattle.megaco.specs.Reading.{unlimited}
 use Rattle.megaco.specs.Tree.{Action, action, Transaction, transaction}
-use Rattle.megaco.specs.Reply.{Report, reportsText, separator, actionText, replyText, limited}
+use Rattle.megaco.specs.Reply.{reportsText, separator, actionText, replyText}
 use Rattle.megaco.specs.Running.{Outcome, Ran, ran, runTransaction, runTransactions}
 use Rattle.megaco.specs.declared.Context.{Context}
 use Rattle.syntax.specs.Extraction.{pastSign, listOf, commandsIn, restOf, restIn, actionOf, actionEnd, transactionOf, transactionEnd, transactionsOf}

@@ -6,10 +6,10 @@ use mathlib.Core.List.{List, [], _∷_, _++_, append-assoc, append-nil}
 use Rattle.base.specs.Pick.{pick}
 use Rattle.base.specs.Bytes.{text, _then_}
 use Rattle.base.proofs.TextLaws.{then-assoc, then-none}
-use Rattle.megaco.specs.Tree.{Command, Action, action, Transaction, transaction}
+use Rattle.megaco.specs.Tree.{Command, Action, action, transaction}
 use Rattle.megaco.specs.Table.{apply}
 use Rattle.megaco.specs.Reply.{Report, Acted, separator, actionText, earlierText, actionsText, replyText, limited, transactionText}
-use Rattle.megaco.specs.Running.{Outcome, outcome, Start, seen, numberOf, runCommand, started, noCommands, Step, start, order, orders, steps, Progress, progress, State, state, begin, advance, proceed, step, run, fresh, Ran, ran, runTransaction}
+use Rattle.megaco.specs.Running.{Outcome, outcome, Start, seen, numberOf, runCommand, started, noCommands, Step, orders, steps, progress, State, state, begin, advance, proceed, step, run, fresh, Ran, ran, runTransaction}
 use Rattle.megaco.specs.declared.Context.{Context}
 use Rattle.running.specs.Fold.{runCommands, afterStart, runAction, outcomeText, runActions}
 

@@ -1,10 +1,9 @@
 -- The loop over an action's commands.
-use Prim.Native.Nat.{ℕ, zero, suc, _+_, _-_, _<_, _≤_}
+use Prim.Native.Nat.{ℕ, _-_, _<_, _≤_}
 use mathlib.Core.Path.{_≡_, refl, sym, ap, _∙_, subst}
 use mathlib.Core.List.{List, [], _∷_, _++_}
 use mathlib.Core.Option.{Option, none, some}
-use mathlib.Core.Bool.{Bool, true, false, not, _&&_}
-use lib.Dec.{eqb}
+use mathlib.Core.Bool.{Bool, true, false}
 use native.Mathlib.Omega.{arith}
 use Rattle.base.specs.Pick.{pick}
 use Rattle.base.specs.Lists.{isAt}
@@ -12,10 +11,8 @@ use Rattle.base.proofs.PickLaws.{pick-ind}
 use Rattle.megaco.specs.Bytes.{comma}
 use Rattle.megaco.specs.Items.{judgeItems, given?}
 use Rattle.megaco.specs.Names.{nameOf}
-use Rattle.megaco.specs.Table.{ctx, get, exists, freeEphemeral}
 use Rattle.megaco.specs.Tree.{Items, Command, command}
-use Rattle.megaco.specs.Reply.{Report}
-use Rattle.megaco.specs.Running.{Outcome, outcome, Aim, misses, gateway, meets, tries, missed, actionError, aimRoot, aimFree, aimMatches, matches, aim, aimed, named, tested, unlessOptional, ordered, opOf, lost, barred, seen, numberOf, isAdd, isModify, isNull, isSubtract, runCommand}
+use Rattle.megaco.specs.Running.{Outcome, outcome, Aim, misses, gateway, meets, tries, missed, actionError, aimRoot, aimFree, aimMatches, matches, aim, aimed, named, tested, unlessOptional, ordered, opOf, isSubtract, runCommand}
 use Rattle.megaco.specs.declared.Context.{Context}
 use Rattle.megaco.specs.declared.Op.{Op}
 use Rattle.megaco.specs.declared.Values.{Values}
@@ -23,10 +20,10 @@ use Rattle.megaco.specs.declared.Judged.{Judged}
 use Rattle.megaco.specs.declared.Judged.the-variants.{Wrong, Right}
 use Rattle.megaco.specs.declared.Name.{Name}
 use Rattle.megaco.specs.declared.Name.the-variants.{Termination, Root, Chosen, Unchosen, Wildcard, Unmatched, Unknown}
-use Rattle.syntax.specs.Extraction.{pastSign, listOf, commandOf, commandEnd, commandsOf}
+use Rattle.syntax.specs.Extraction.{pastSign, listOf, commandOf, commandEnd}
 use Rattle.tries.specs.Contract.{Did, joined}
 use Rattle.tries.specs.declared.Went.{Went}
-use Rattle.tries.proofs.DidLaws.{went, Some, some as there, Leads, begins, leads-on, done-none}
+use Rattle.tries.proofs.DidLaws.{went, Some, some as there, Leads, leads-on, done-none}
 use Rattle.running.specs.Fold.{runCommands}
 use Rattle.running.proofs.Lists.{list-open, picked, left-out}
 

@@ -2,20 +2,19 @@
 use Prim.Native.Nat.{ℕ, _<_, _≤_}
 use mathlib.Core.Path.{_≡_, refl, sym, ap, _∙_, subst}
 use mathlib.Core.List.{List, [], _∷_, _++_}
-use mathlib.Core.Bool.{Bool, true, false, not, _&&_}
+use mathlib.Core.Bool.{Bool, true, false, not}
 use lib.ListN.{length}
 use lib.Dec.{ltb, leb}
 use borrow.Author.Tests.{ltb-true, leb-true}
 use native.Mathlib.Omega.{arith}
 use Rattle.base.specs.Pick.{pick}
 use Rattle.base.specs.Out.{Appended}
-use Rattle.base.proofs.PickLaws.{pick-ind}
 use Rattle.base.proofs.TestLaws.{and-both}
 use Rattle.megaco.specs.Table.{words, contexts, sound, known, cell, rec, get, Write, apply}
 use Rattle.megaco.specs.Reading.{isProperty, wordHere}
 use Rattle.megaco.specs.Tree.{Command, action}
-use Rattle.megaco.specs.Reply.{Acted, standing, failed, reportsText}
-use Rattle.megaco.specs.Running.{Outcome, outcome, Start, Result, refused, done, judge, seen, numberOf, anyGiven, over15, newRecord, setProperties, startChecks, startWrites, startReports, startedBy, started, noCommands}
+use Rattle.megaco.specs.Reply.{standing, failed, reportsText}
+use Rattle.megaco.specs.Running.{Outcome, outcome, refused, done, judge, seen, numberOf, anyGiven, over15, newRecord, setProperties, startChecks, startWrites, startReports, startedBy, started, noCommands}
 use Rattle.megaco.specs.declared.Context.{Context}
 use Rattle.megaco.specs.declared.Property.{Property}
 use Rattle.syntax.specs.Extraction.{listOf, commandsOf, commandsEnd, commandsIn, bodyEnd}
@@ -25,7 +24,7 @@ use Rattle.starts.specs.Starting.{propertiesIn, startCode, wroteStart, OfProper
 use Rattle.starts.specs.declared.Given.{Given}
 use Rattle.starts.proofs.StartLaws.{start-writes-is, start-done, start-refused, start-over, any-given}
 use Rattle.commands.specs.Fails.{Failed}
-use Rattle.laws.specs.Sound.{Whole, sound-whole}
+use Rattle.laws.specs.Sound.{sound-whole}
 use Rattle.tries.specs.Contract.{Did}
 use Rattle.tries.specs.declared.Turn.{Turn}
 use Rattle.tries.specs.declared.Went.{Went}

@@ -7,7 +7,7 @@ use Rattle.base.specs.Pick.{pick}
 use Rattle.base.specs.Bytes.{_then_}
 use Rattle.megaco.specs.Tree.{Command, Action, action}
 use Rattle.megaco.specs.Table.{apply}
-use Rattle.megaco.specs.Reply.{Acted, separator, actionText}
+use Rattle.megaco.specs.Reply.{separator, actionText}
 use Rattle.megaco.specs.Running.{Outcome, outcome, Start, seen, numberOf, runCommand, started, noCommands, Ran, ran}
 use Rattle.megaco.specs.declared.Context.{Context}
 

@@ -1,7 +1,7 @@
 // Running the actions of a transaction: each one's start, its commands in order, and its `C=id{..}`.
 ghost use mathlib.Core.Path.{_≡_};
 ghost use mathlib.Core.Bool.{true, false};
-ghost use Prim.Native.Nat.{_≤_, min};
+ghost use Prim.Native.Nat.{_≤_};
 ghost use lib.ListN.{length, take};
 ghost use Rattle.megaco.specs.Table.{words, sound};
 ghost use mathlib.Core.List.{[], _∷_};

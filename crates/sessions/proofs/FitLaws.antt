@@ -14,7 +14,7 @@ use Rattle.base.proofs.PickLaws.{pick-ind}
 use Rattle.base.proofs.TestLaws.{pick-both, and-right}
 use Rattle.base.proofs.TextLaws.{length-then, length-below}
 use Rattle.laws.specs.Sound.{record-sound}
-use Rattle.megaco.specs.Table.{channels, terminations, contexts, words, lineTerminations, isEphemeral, contextWords, propertyWords, recordWords, ephemeralContexts, ephemeralProperties, isPropertyWord, absentAreZero, priorityOf, emergencyOf, most, recordIsSound, recordsAreSound, sound}
+use Rattle.megaco.specs.Table.{channels, terminations, contexts, words, lineTerminations, isEphemeral, contextWords, propertyWords, recordWords, ephemeralContexts, ephemeralProperties, isPropertyWord, absentAreZero, priorityOf, emergencyOf, recordIsSound, recordsAreSound, sound}
 use Rattle.megaco.specs.Names.{nameText}
 use Rattle.sessions.specs.Lines.{lineEnd}
 use Rattle.sessions.specs.Listing.{each, memberText, membersText, propertiesText, contextLine, present, countLine, partsText, reportText}

@@ -14,7 +14,7 @@ use Rattle.base.proofs.OutLaws.{none, take-put, same-length-by}
 use Rattle.base.proofs.TextLaws.{none-then}
 use Rattle.laws.specs.Sound.{fresh-sound}
 use Rattle.megaco.specs.Table.{sound}
-use Rattle.sessions.specs.Lines.{lineEnd, linesOf, Unended, nothing, byte, lineFrom, lineEndAt}
+use Rattle.sessions.specs.Lines.{lineEnd, linesOf, Unended, nothing, lineFrom, lineEndAt}
 use Rattle.sessions.specs.Listing.{reportText}
 use Rattle.sessions.specs.Session.{answered, answerText, sessionText, restText, lineRoom, answerRoom, Answers, Holds, Turned, Finished, freshTable, printedText, joined, Run, turn, read, end}
 use Rattle.sessions.proofs.AnswerLaws.{long-alike, answer-fits, answered-sound}

@@ -2,9 +2,7 @@
 ghost use mathlib.Core.Path.{_≡_};
 ghost use mathlib.Core.Bool.{true, false};
 ghost use Prim.Native.Nat.{_≤_};
-ghost use lib.ListN.{length};
 ghost use Rattle.megaco.specs.Table.{apply, priorityOf, emergencyOf};
-ghost use Rattle.megaco.specs.Running.{newRecord, anyGiven, over15, setProperties, startChecks, startWrites};
 ghost use Rattle.starts.specs.Starting.{overOne, setOne, startCode, wroteStart, OfProperties};
 use megaco::Context;
 use megaco::Property;

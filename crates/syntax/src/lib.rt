@@ -101,7 +101,7 @@ fn head(s: &[u8], at: usize) -> Parsed
 }
 
 // One item: its head, and the items in its braces, where `left` more levels may be opened.
-pub fn item(s: &[u8], left: usize, at: usize) -> Parsed
+fn item(s: &[u8], left: usize, at: usize) -> Parsed
     ensures { λ r. ⌜ r ≡ itemAt (itemsAt left (now (s .entry))) (now (s .entry)) at ⌝ }
 {
     let h = head(s, at);
@@ -112,7 +112,7 @@ pub fn item(s: &[u8], left: usize, at: usize) -> Parsed
 }
 
 // Items joined by commas, in each of which `left` more levels may be opened.
-pub fn items(s: &[u8], left: usize, at: usize) -> Parsed
+fn items(s: &[u8], left: usize, at: usize) -> Parsed
     ensures { λ r. ⌜ r ≡ itemsAt (suc left) (now (s .entry)) at ⌝ }
 {
     let mut i = at;
@@ -134,7 +134,7 @@ pub fn items(s: &[u8], left: usize, at: usize) -> Parsed
 }
 
 // Items of at most `left` levels in braces, if they stand here.
-pub fn braced_items(s: &[u8], left: usize, at: usize) -> Parsed
+fn braced_items(s: &[u8], left: usize, at: usize) -> Parsed
     ensures { λ r. ⌜ r ≡ bracesAt (itemsAt left (now (s .entry))) (now (s .entry)) at ⌝ }
 {
     if text::is_at(s, at, 0x7b) {
@@ -169,7 +169,7 @@ pub fn prefix_end(s: &[u8], at: usize, b: u8) -> usize
 }
 
 // Where a command's word begins.
-pub fn order_start(s: &[u8], at: usize) -> usize
+fn order_start(s: &[u8], at: usize) -> usize
     ensures { λ r. ⌜ r ≡ orderStart (now (s .entry)) at ⌝ }
 {
     let o = prefix_end(s, at, 0x4f);
@@ -177,7 +177,7 @@ pub fn order_start(s: &[u8], at: usize) -> usize
 }
 
 // Whether a word is a property's.
-pub fn is_property(w: &[u8]) -> bool
+fn is_property(w: &[u8]) -> bool
     ensures { λ r. ⌜ r ≡ isProperty (now (w .entry)) ⌝ }
 {
     text::spells(Token::PriorityToken, w) | text::spells(Token::EmergencyToken, w)

@@ -34,7 +34,7 @@ pub const WORDS: usize = RECORDS + CONTEXTS as usize;
 // ---- one word
 
 // The word at a place; past the end stands 0.
-pub fn word_at(table: &[u32], k: usize) -> u32
+fn word_at(table: &[u32], k: usize) -> u32
     ensures { λ r. ⌜ r ≡ getD (now (table .entry)) k 0 ⌝ }
 {
     if k < table.len() { table[k] } else { 0 }

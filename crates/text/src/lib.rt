@@ -2,7 +2,7 @@
 ghost use mathlib.Core.Path.{_≡_};
 ghost use Prim.Native.Nat.{_<_};
 ghost use Rattle.base.specs.Lists.{isAt};
-ghost use Rattle.megaco.specs.Bytes.{isLetter, isDigit, isWhite, isLineEnd, isComment, inClass, capital};
+ghost use Rattle.megaco.specs.Bytes.{isLetter, isDigit, isWhite, isLineEnd, isComment, capital};
 ghost use Rattle.megaco.specs.White.{goesOn, insideAfter, stopAt, whiteAt, sepAt};
 ghost use Rattle.megaco.specs.Tokens.{markAt, signAt, letterAt, rowAt};
 ghost use Rattle.text.specs.Classes.{lowOf, highOf, halfOf, OfMaps};
@@ -23,7 +23,7 @@ pub fn is_at(s: &[u8], at: usize, b: u8) -> bool
     if at < s.len() { s[at] == b } else { 0 == b }
 }
 
-pub fn is_letter(b: u8) -> bool
+fn is_letter(b: u8) -> bool
     ensures { λ r. ⌜ r ≡ isLetter b ⌝ }
 {
     (0x41 <= b) & (b <= 0x5a) | (0x61 <= b) & (b <= 0x7a)
@@ -100,12 +100,6 @@ fn in_maps(b: u8, low: u64, high: u64) -> bool
     ensures { λ r. ⌜ OfMaps b low high r ⌝ }
 {
     (half(b, low, high) >> (b % 64)) % 2 == 1
-}
-
-pub fn in_class(k: Class, b: u8) -> bool
-    ensures { λ r. ⌜ r ≡ inClass k b ⌝ }
-{
-    in_maps(b, low_of(k), high_of(k))
 }
 
 // The end of the bytes of a class that stand here.

@@ -60,7 +60,7 @@ fn path_start(s: &[u8], at: usize) -> usize
 }
 
 // Optional `*`, a word, then letters, digits, `/` `*` `_` `$`, 64 bytes in all.
-pub fn path_name(s: &[u8], at: usize) -> Parsed
+fn path_name(s: &[u8], at: usize) -> Parsed
     ensures { λ r. ⌜ r ≡ pathNameAt (now (s .entry)) at ⌝ }
 {
     let p = path_start(s, at);

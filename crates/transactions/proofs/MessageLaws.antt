@@ -1,7 +1,7 @@
 -- A transaction and a message, as they are run.
-use Prim.Native.Nat.{ℕ, _<_, _≤_}
+use Prim.Native.Nat.{ℕ, _≤_}
 use mathlib.Core.Path.{_≡_, refl, sym, ap, _∙_, subst}
-use mathlib.Core.Bool.{Bool, true, false}
+use mathlib.Core.Bool.{true}
 use mathlib.Core.List.{List}
 use lib.ListN.{length, replicate, length-replicate}
 use native.Mathlib.Omega.{arith}
@@ -9,10 +9,10 @@ use Rattle.base.specs.Bytes.{text}
 use Rattle.base.specs.Out.{Appended}
 use Rattle.base.proofs.OutLaws.{same-length-by}
 use Rattle.megaco.specs.Table.{sound}
-use Rattle.megaco.specs.Tree.{Transaction, transaction, Message, wellFormed, fault400, fault403, fault406}
+use Rattle.megaco.specs.Tree.{Transaction, transaction}
 use Rattle.megaco.specs.Reading.{messageR}
 use Rattle.megaco.specs.Reply.{errorText, replyText}
-use Rattle.megaco.specs.Running.{Ran, ran, runTransaction, runTransactions, runMessage}
+use Rattle.megaco.specs.Running.{runTransaction, runTransactions, runMessage}
 use Rattle.syntax.specs.Places.{verdict}
 use Rattle.syntax.specs.Extraction.{actionsOf, transactionOf, transactionsOf, headerEnd, messageOf}
 use Rattle.syntax.specs.Bridge.{told, message-told}

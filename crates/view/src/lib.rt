@@ -24,7 +24,7 @@ pub fn number_of(at: Context) -> u32
 }
 
 // The lowest number absent, asked in `$` alone.
-pub fn free_at(table: &[u32], at: Context) -> u32
+fn free_at(table: &[u32], at: Context) -> u32
     requires { ⌜ length (now table) ≡ words ⌝ }
     ensures { λ r. ⌜ r ≡ freeAt at (now (table .entry)) ⌝ }
 {
@@ -37,7 +37,7 @@ pub fn free_at(table: &[u32], at: Context) -> u32
 }
 
 // A context's record and how many stand in it; nothing where there can be no such context.
-pub fn seen(table: &[u32], c: u32) -> Seen
+fn seen(table: &[u32], c: u32) -> Seen
     requires { ⌜ length (now table) ≡ words ⌝ }
     ensures { λ r. ⌜ r ≡ seen c (now (table .entry)) ⌝ }
 {
@@ -76,7 +76,7 @@ pub fn look(table: &[u32], at: Context, i: usize) -> View
 // ---- wildcards
 
 // Whether a command on context c is for a termination with this context word.
-pub fn is_wanted(op: Op, c: u32, word: u32) -> bool
+fn is_wanted(op: Op, c: u32, word: u32) -> bool
     ensures { λ r. ⌜ r ≡ wanted op c word ⌝ }
 {
     match op {

@@ -1,4 +1,3 @@
-use borrow.Author.Needs.{needs}
 use mathlib.Core.Path.{refl}
 use Rattle.commands.specs.Fails.{optionally}
 use Rattle.commands.proofs.past_optional.Statement.{statement}

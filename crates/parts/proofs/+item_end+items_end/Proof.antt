@@ -1,7 +1,6 @@
 -- The proof of the cycle {item_end, items_end}: the end of an item and the end of an item list ask each other, and the levels left fall
 -- (twice, with one more for the item, which asks at its own level). Assumes nothing.
 use borrow.Author.Needs.{needs}
-use native.Mathlib.Omega.{arith}
 use Prim.Native.Nat.{ℕ, _+_, _*_, _-_, _<_}
 use mathlib.Core.Path.{_≡_}
 use lib.ListN.{length}
