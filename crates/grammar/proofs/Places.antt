@@ -6,7 +6,7 @@ use mathlib.Core.List.{List, [], _∷_, _++_, append-assoc}
 use lib.ListN.{length, getD, drop, length-append, length-drop}
 use lib.Seq.{drop-drop, drop-append-seam, take-append-seam}
 use lib.Dec.{eqb}
-use borrow.Author.Tests.{eqb-true, eq-eqb}
+use borrow.Author.Tests.{eqb-true}
 use native.Mathlib.Omega.{arith}
 use Rattle.base.specs.Pick.{pick}
 use Rattle.base.specs.Lists.{isAt, part}
@@ -73,11 +73,6 @@ part-is s a rest at h = let n : at + length a - at ≡ length a = omega arith in
 pub part-to : (s a rest : List ℕ) (at e : ℕ) → e ≡ at + length a → drop at s ≡ a ++ rest → part s at e ≡ a
 part-to s a rest at e l h = rw l (part-is s a rest at h)
 
--- a byte that stands at a place, and one that does not
-pub isAt-yes : (s : List ℕ) (at b : ℕ) → head (drop at s) ≡ b → isAt s at b ≡ true
-unfolding isAt
-isAt-yes s at b e = eq-eqb _ b (at-head s at ∙ e)
-
 pub isAt-head : (s t : List ℕ) (at b : ℕ) → drop at s ≡ t → isAt s at b ≡ eqb (head t) b
 unfolding isAt
 isAt-head s t at b h = rw (at-head s at, h)
@@ -133,13 +128,6 @@ module _ (s : List ℕ) where
 
   pub finds-here : (at : ℕ) (rest : List ℕ) → drop at s ≡ rest → Finds s (Next at) rest
   finds-here at rest h = record { end = at; is = refl; leaves = h }
-
-  -- by the result of a test
-  pub gets-is : {A : Type 0} {x : A} {rest : List ℕ} (r q : Read A) → q ≡ r → Gets s r x rest → Gets s q x rest
-  gets-is r q e g = rw e g
-
-  pub finds-is : {rest : List ℕ} (r q : Parsed) → q ≡ r → Finds s r rest → Finds s q rest
-  finds-is r q e g = rw e g
 
   -- one reader and then another
   pub finds-after : {mid rest : List ℕ} (r : Parsed) (f : ℕ → Parsed) → Finds s r mid → ((p : ℕ) → drop p s ≡ mid → Finds s (f p) rest)

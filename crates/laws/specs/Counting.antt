@@ -6,7 +6,7 @@ use mathlib.Core.List.{List, [], _∷_}
 use lib.ListN.{length, getD, set, take, length-set}
 use lib.Seq.{getD-set-same, getD-set-other}
 use lib.Dec.{eqb}
-use borrow.Author.Tests.{eqb-true, eqb-false, eq-eqb, ne-eqb}
+use borrow.Author.Tests.{eqb-true, eqb-false, eq-eqb}
 use native.Mathlib.Omega.{arith}
 use Rattle.base.specs.Pick.{pick}
 use Rattle.base.specs.Lists.{count, lowestAbsent}
@@ -15,14 +15,6 @@ use Rattle.megaco.specs.Table.{terminations, words, ctx, get, contextWords, mem
 -- 1 where a test holds
 abbrev pub one : Bool → ℕ
 one b = pick b 1 0
-
-pub one-yes : (a b : ℕ) → a ≡ b → one (eqb a b) ≡ 1
-unfolding pick
-one-yes a b e = rw (eq-eqb a b e)
-
-pub one-no : (a b : ℕ) → (a ≡ b → ⊥) → one (eqb a b) ≡ 0
-unfolding pick
-one-no a b h = rw (ne-eqb a b h)
 
 -- words that agree on who equals c are counted alike
 pub count-agree : (k c : ℕ) (t u : List ℕ) → length t ≡ length u

@@ -9,7 +9,7 @@ use native.Mathlib.Omega.{arith}
 use lib.ListN.{length, getD, take, drop, length-drop, drop-of-length-le}
 use lib.Seq.{drop-cons, take-all, take-nil}
 use lib.Dec.{leb, eqb}
-use borrow.Author.Tests.{eq-eqb, ne-eqb, leb-true, le-leb, lt-leb}
+use borrow.Author.Tests.{eq-eqb, ne-eqb, leb-true, lt-leb}
 use Rattle.base.specs.Pick.{pick}
 use Rattle.base.specs.Lists.{same, has, before, behind}
 use Rattle.base.specs.Bytes.{text}
@@ -197,19 +197,6 @@ two-yes a b p q x y e f t g h = rw (← e, ← f, t, g, h)
 pub two-no : (a b : ℕ) (x y : Bool) → x ≡ isDigit a → y ≡ isDigit b → (x && y && not (eqb a 48)) ≡ false → 0 ≡ twoDigits a b
 unfolding twoDigits pick
 two-no a b x y e f t = rw (← e, ← f, t)
-
-module _ (b : ℕ) where
-  pub capital-yes : 97 ≤ b → b ≤ 122 → b - 32 ≡ capital b
-  unfolding capital pick
-  capital-yes h k = rw (le-leb 97 b h, le-leb b 122 k)
-
-  pub capital-high : 122 < b → b ≡ capital b
-  unfolding capital pick
-  capital-high h = rw (lt-leb b 122 h, and-false (leb 97 b))
-
-  pub capital-low : b < 97 → b ≡ capital b
-  unfolding capital pick
-  capital-low h = rw (lt-leb 97 b h)
 
 -- ---- whole names: the parts of a name in capital letters are its parts
 

@@ -1,7 +1,7 @@
--- A reply and an action around what stands in their braces, actions one after another, and the limit of 2,048 bytes.
+-- A reply and an action around what stands in their braces, and the limit of 2,048 bytes.
 use Prim.Native.Nat.{ℕ, _-_, _<_, _≤_, min}
-use mathlib.Core.Path.{_≡_, sym, ap, _∙_}
-use mathlib.Core.List.{List, [], _∷_}
+use mathlib.Core.Path.{_≡_, ap, _∙_}
+use mathlib.Core.List.{List}
 use mathlib.Core.Bool.{true}
 use native.Mathlib.Omega.{arith}
 use lib.ListN.{length, take, drop, replicate, length-replicate}
@@ -9,11 +9,11 @@ use borrow.Author.Tests.{lt-ltb, le-ltb}
 use Rattle.base.specs.Pick.{pick}
 use Rattle.base.specs.Bytes.{text, _then_}
 use Rattle.base.specs.Out.{Appended}
-use Rattle.base.proofs.TextLaws.{then-assoc, none-then}
+use Rattle.base.proofs.TextLaws.{then-assoc}
 use Rattle.base.proofs.OutLaws.{_▸_, length-put, take-put}
 use Rattle.megaco.specs.declared.Context.{Context}
-use Rattle.megaco.specs.Reply.{Report, Acted, errorText, separator, reportsText, actionText, earlierText, actionsText, replyText, limited}
-use Rattle.reply.specs.Texts.{replyOpen, actionOpen, noActions, Limited}
+use Rattle.megaco.specs.Reply.{Report, errorText, reportsText, actionText, replyText, limited}
+use Rattle.reply.specs.Texts.{replyOpen, actionOpen, Limited}
 
 -- `P=id{..}` and `C=id{..}`
 pub reply-is : (id : ℕ) (x : List ℕ) → replyText id x ≡ replyOpen id then x then text "}"
@@ -23,12 +23,6 @@ reply-is id x = simp then-assoc
 pub action-is : (c : Context) (said : List Report) → actionText c said ≡ actionOpen c then reportsText true said then text "}"
 unfolding actionText actionOpen
 action-is c said = simp then-assoc
-
--- an action after others
-pub actions-next : (a : Acted) (earlier : List Acted) → actionsText (a ∷ earlier) ≡ actionsText earlier then separator (noActions earlier) then actionText (a .at) (a .said)
-unfolding actionsText earlierText noActions separator pick
-actions-next a [] = sym (none-then _)
-actions-next a (b ∷ earlier) = simp then-assoc
 
 pub fault-is : (o : List ℕ) (at id code : ℕ) (o₁ o₂ o₃ : List ℕ) (p q r : ℕ) → Appended o at (replyOpen id) o₁ p → Appended o₁ p (errorText code) o₂ q
     → Appended o₂ q (text "}") o₃ r → Appended o at (replyText id (errorText code)) o₃ r

@@ -1,11 +1,10 @@
 -- Parts of a reply's texts that are written by themselves, and the copy of a transaction's text out of a scratch buffer.
 use Prim.Native.Nat.{ℕ}
-use mathlib.Core.Bool.{Bool, true, false}
-use mathlib.Core.List.{List, [], _∷_}
+use mathlib.Core.List.{List}
 use lib.ListN.{replicate}
 use Rattle.base.specs.Bytes.{text, decimal, _then_}
 use Rattle.base.specs.Out.{Appended}
-use Rattle.megaco.specs.Reply.{Acted, contextText, limited}
+use Rattle.megaco.specs.Reply.{contextText, limited}
 use Rattle.megaco.specs.declared.Context.{Context}
 
 -- `P=id{`
@@ -15,11 +14,6 @@ replyOpen id = text "P=" then decimal id then text "{"
 -- `C=id{`
 unfoldable pub actionOpen : Context → List ℕ
 actionOpen c = text "C=" then contextText c then text "{"
-
--- whether an action would be the first of its transaction
-unfoldable pub noActions : List Acted → Bool
-noActions [] = true
-noActions (a ∷ acts) = false
 
 -- "If `P=id{..}` would pass 2,048 bytes it becomes `P=id{ER=533{}}`": whatever text bs was put into the scratch buffer of 2,049 bytes, of
 -- which n are used, o′ is o with that text or the error put in

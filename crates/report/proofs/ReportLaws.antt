@@ -32,11 +32,6 @@ unfolding firstAfter
 first-false [] = refl
 first-false (x ∷ xs) = refl
 
-pub first-split : (first : Bool) (xs ys : List Report) → firstAfter first (xs ++ ys) ≡ firstAfter (firstAfter first xs) ys
-unfolding firstAfter
-first-split first [] ys = refl
-first-split first (x ∷ xs) ys = sym (first-false ys)
-
 pub reports-split : (first : Bool) (xs ys : List Report) → reportsText first (xs ++ ys) ≡ reportsText first xs then reportsText (firstAfter first xs) ys
 unfolding reportsText firstAfter
 reports-split first [] ys = sym (none-then _)
@@ -48,9 +43,5 @@ reports-one first x = rw then-none
 
 -- the same as they are written
 module _ (o : List ℕ) (at : ℕ) (o₁ o₂ : List ℕ) (p r : ℕ) where
-  pub reports-after : (first : Bool) (xs ys : List Report) → Appended o at (reportsText first xs) o₁ p → Appended o₁ p (reportsText (firstAfter first xs) ys) o₂ r
-      → Appended o at (reportsText first (xs ++ ys)) o₂ r
-  reports-after first xs ys f g = rw reports-split (f ▸ g)
-
   pub report-is : (first : Bool) (x : Report) → Appended o at (separator first) o₁ p → Appended o₁ p (reportText x) o₂ r → Appended o at (reportsText first (x ∷ [])) o₂ r
   report-is first x f g = rw reports-one (f ▸ g)
