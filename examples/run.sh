@@ -1,9 +1,9 @@
 #!/usr/bin/env bash
 # Builds and runs the two examples and compares what they print with expected.txt.
-# The archive is CORDAFINA_LIB, or target/staticlib/libgateway.a.
+# The archive is CORDAFINA_LIB, or target/staticlib/libcordafina.a.
 set -eu
 root=$(cd "$(dirname "$0")/.." && pwd)
-archive=$(realpath -m "${CORDAFINA_LIB:-$root/target/staticlib/libgateway.a}")
+archive=$(realpath -m "${CORDAFINA_LIB:-$root/target/staticlib/libcordafina.a}")
 export CORDAFINA_LIB=$archive
 cd "$root"
 out=$(mktemp -d)

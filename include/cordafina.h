@@ -1,12 +1,13 @@
 /*
  * The Megaco trunk gateway: one call, for C99 and C++.
  *
- * A call takes one H.248.1 (Megaco) text message, runs it on a table that the
- * caller lends, and writes the reply into a buffer that the caller lends. What
- * it answers is document 01's; the code of the call is proved equal to the
- * definition in crates/megaco/specs.
+ * A call takes the count of lines that the shelf has, one H.248.1 (Megaco) text
+ * message and a table that the caller lends, runs the message on the table, and
+ * writes the reply into a buffer that the caller lends. What it answers is
+ * document 01's; the code of the call is proved equal to the definition in
+ * crates/megaco/specs.
  *
- *     cc -I include program.c target/staticlib/libgateway.a
+ *     cc -I include program.c target/staticlib/libcordafina.a
  *
  * The archive is for x86-64 Linux and asks for nothing but the C library's
  * memory functions.
@@ -17,8 +18,35 @@
 #include <stddef.h>
 #include <stdint.h>
 
-/* Words of a table: exactly so many. All zero is the fresh table. */
-#define CORDAFINA_TABLE_WORDS 752
+/* Lines of a shelf: 1 to so many. */
+#define CORDAFINA_MOST_LINES 16
+
+/*
+ * The table of n lines, N = 31n + 64 being the terminations. All zero is the
+ * fresh table.
+ *
+ *   word                        holds
+ *   0 .. N - 1                  the context of each termination, 0 for null:
+ *   31 (l - 1) + (s - 1)          L/l/s, l 1..n, s 1..31
+ *   31n + k - 1                   R/k, k 1..64; it exists exactly if the word is not 0
+ *   N .. 2N - 1                 the properties of each termination, mode + 8 * state
+ *   2N .. 2N + 127              contexts 1..128: 0 if absent, else 1 + priority + 16 * emergency
+ *
+ * Modes: 0 Inactive, 1 SendOnly, 2 ReceiveOnly, 3 SendReceive, 4 Loopback.
+ * States: 0 InService, 1 OutOfService, 2 Test.
+ */
+
+/* Terminations of n lines, existing or not. */
+#define CORDAFINA_TERMINATIONS(n) (31 * (size_t)(n) + 64)
+/* The number of L/l/s, whatever n, and that of R/k: the word that holds its context. */
+#define CORDAFINA_LINE(l, s) (31 * ((size_t)(l) - 1) + ((size_t)(s) - 1))
+#define CORDAFINA_EPHEMERAL(n, k) (31 * (size_t)(n) + ((size_t)(k) - 1))
+/* Where the properties start, by termination number, and the records, by context number less 1. */
+#define CORDAFINA_PROPERTIES(n) CORDAFINA_TERMINATIONS(n)
+#define CORDAFINA_RECORDS(n) (2 * CORDAFINA_TERMINATIONS(n))
+/* Words of a table: exactly so many, 752 for eight lines. */
+#define CORDAFINA_TABLE_WORDS(n) (CORDAFINA_RECORDS(n) + 128)
+
 /* Bytes of a reply buffer: at least so many. No reply is longer. */
 #define CORDAFINA_REPLY_BYTES 16640
 /* Bytes of a message: 1 to so many. */
@@ -26,12 +54,13 @@
 /* Bytes of the gateway's own mId: 1 to so many. */
 #define CORDAFINA_MID_BYTES 64
 
-/* What cordafina_refusal gives: document 01's numbers of the calls turned down. */
+/* What cordafina_refusal gives: the documents' numbers of the calls turned down. */
 #define CORDAFINA_TAKEN 0           /* not turned down: there is a reply */
 #define CORDAFINA_BAD_MESSAGE 1     /* message of 0 or over 4,096 bytes */
-#define CORDAFINA_BAD_TABLE 2       /* table not 752 words, or not sound */
+#define CORDAFINA_BAD_TABLE 2       /* table not of the count's words, or not sound */
 #define CORDAFINA_REPLY_TOO_SHORT 3 /* reply buffer under 16,640 bytes */
 #define CORDAFINA_BAD_MID 4         /* own mId not an mId, or over 64 bytes */
+#define CORDAFINA_LINES_UNFIT 8     /* count of lines outside 1 to 16 */
 
 #ifdef __cplusplus
 extern "C" {
@@ -40,6 +69,7 @@ extern "C" {
 /*
  * Answers one message.
  *
+ *   lines                  the count of lines, 1 to 16
  *   message, message_len   the message's bytes; read only
  *   table, table_len       the table, its length in words; read and written
  *   own_mid, own_mid_len   the gateway's own mId, as `[10.0.0.9]`; read only
@@ -47,15 +77,15 @@ extern "C" {
  *
  * The low 32 bits of the result are the reply's length in bytes, the high 32
  * bits the refusal: cordafina_length and cordafina_refusal take them apart.
- * The refusals are judged in the order 3, 2, 4, 1, and the first that holds is
- * given, with length 0. Any other call is taken and has a reply, whatever the
+ * The refusals are judged in the order 8, 3, 2, 4, 1, and the first that holds
+ * is given, with length 0. Any other call is taken and has a reply, whatever the
  * message is: one that does not read is answered by an error text and changes
  * no word of the table. The reply is not ended by a zero byte.
  *
  * Ownership. The four areas are the caller's before, during and after the
  * call. The library keeps no pointer, has no state and no heap, and frees
  * nothing. The table is all there is of the gateway's memory: keep it between
- * calls, copy it, or store it.
+ * calls with its count of lines, copy it, or store it.
  *
  * What stays. A call turned down writes no byte of the reply and no word of
  * the table. A call taken writes the first cordafina_length(..) bytes of the
@@ -63,8 +93,9 @@ extern "C" {
  * message and the own mId are never written, nor is anything outside the table
  * and the reply buffer.
  *
- * What the caller sees to. Contents and lengths need no check beforehand: line
- * noise, a trampled table and a short buffer are answered. But each pointer
+ * What the caller sees to. Contents, lengths and the count of lines need no
+ * check beforehand: line noise, a trampled table, one of another count and a
+ * short buffer are answered. But each pointer
  * must be that of a readable (table, reply: writable) area of the length told,
  * not null even where that is 0; the table is aligned as a uint32_t is; and
  * neither the table nor the reply overlaps any other of the four areas.
@@ -72,7 +103,8 @@ extern "C" {
  * Threads. Calls may run at the same time where no table and no reply buffer
  * is used by two of them. Messages and own mIds may be shared.
  */
-uint64_t cordafina_answer(const uint8_t *message, size_t message_len,
+uint64_t cordafina_answer(uint32_t lines,
+                          const uint8_t *message, size_t message_len,
                           uint32_t *table, size_t table_len,
                           const uint8_t *own_mid, size_t own_mid_len,
                           uint8_t *reply, size_t reply_len);
@@ -83,7 +115,7 @@ static inline size_t cordafina_length(uint64_t answer)
     return (size_t)(answer & 0xFFFFFFFFu);
 }
 
-/* The refusal in a result of cordafina_answer: CORDAFINA_TAKEN or one of the four. */
+/* The refusal in a result of cordafina_answer: CORDAFINA_TAKEN or one of the five. */
 static inline int cordafina_refusal(uint64_t answer)
 {
     return (int)(answer >> 32);

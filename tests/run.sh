@@ -6,10 +6,10 @@
 #   tests/run.sh --long               the long form
 #   tests/run.sh --allow-no-archive   where there is no archive: the reference's tests alone, and the note 'no archive yet'
 #
-# The archive is the file that CORDAFINA_LIB names, or target/staticlib/libgateway.a. SEED (default 1) is that of the generated calls.
+# The archive is the file that CORDAFINA_LIB names, or target/staticlib/libcordafina.a. SEED (default 1) is that of the generated calls.
 set -eu
 root=$(cd "$(dirname "$0")/.." && pwd)
-archive=$(realpath -m "${CORDAFINA_LIB:-$root/target/staticlib/libgateway.a}")
+archive=$(realpath -m "${CORDAFINA_LIB:-$root/target/staticlib/libcordafina.a}")
 export CORDAFINA_LIB=$archive
 seed=${SEED:-1}
 calls=200000
@@ -36,7 +36,7 @@ rust() { cargo "$1" -q -j1 --release --offline --manifest-path rust/Cargo.toml "
 
 if [ ! -f "$archive" ]; then
     if [ $allow = no ]; then
-        echo "tests: FAILED, there is no archive at $archive; make it with 'rt staticlib gateway'"
+        echo "tests: FAILED, there is no archive at $archive; make it with 'rt staticlib cordafina'"
         exit 1
     fi
     step "unit tests of the reference" rust test -p reference

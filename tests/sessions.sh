@@ -1,11 +1,14 @@
 #!/usr/bin/env bash
-# Runs the listing program on each session of tests/sessions and compares what it prints, byte for byte.
+# Runs the listing program on each session of a folder (tests/sessions) and compares what it prints, byte for byte.
+#
+#   tests/sessions.sh [FOLDER]
 set -eu
 root=$(cd "$(dirname "$0")/.." && pwd)
+folder=${1:-$root/tests/sessions}
 program=$root/target/bin/listing
 [ -x "$program" ] || { echo "sessions: there is no $program; make it with 'rt check listing'"; exit 1; }
 count=0
-for input in "$root"/tests/sessions/*.in; do
+for input in "$folder"/*.in; do
     "$program" < "$input" | cmp - "${input%.in}.out" || { echo "sessions: $input is answered otherwise"; exit 1; }
     count=$((count + 1))
 done

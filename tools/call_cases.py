@@ -1,15 +1,15 @@
 #!/usr/bin/env python3
 """The calls that crates/calls_run reads, and what each must answer: writes its stdin and its stdout from recorded calls.
 
-usage, from the root: tools/call_cases.py CALLS.jsonl
+usage, from the root: tools/call_cases.py CALLS.jsonl..
 
 Takes the rows at a boundary first, then rows that show a code, a refusal, a report or a kind that few before them show, as
 tools/evaluate.py does, and adds the calls of SESSION and SINGLE, which stand in this file: document 01 gives their replies and
 tables, or its rules decide them. Nothing is taken from the program: a row's reply, its table and its buffer are the recorded ones.
 
-Input, for each call: a line of 30 bytes (five numbers of five digits: the bytes of the own mId, the bytes of the message, the
-runs of equal words that are not 0, the words of the table, the bytes of the buffer), the own mId, the message, the runs
-(from, to, word: five digits each, and a space), a line end.
+Input, for each call: a line of 36 bytes (six numbers of five digits: the bytes of the own mId, the bytes of the message, the
+runs of equal words that are not 0, the lines told, the words of the table, the bytes of the buffer), the own mId, the message,
+the runs (from, to: five digits each; the word: ten digits, and a space), a line end.
 Output, for each call: its number, the refusal or the reply's length and its bytes, the sum of the table and the sum of the
 whole buffer, which is filled with 170 before the call.
 """
@@ -21,10 +21,15 @@ import re
 import sys
 
 OWN, HEAD = b"[10.0.0.9]", b"!/1 [10.0.0.1] "
-WORDS, BUFFER = 752, 16640
+LINES, WORDS, BUFFER = 8, 752, 16640
 FEW = 12          # how many rows are to show the same thing
 LONGEST = 300     # bytes of a message, boundaries aside
-ROOM = 560000     # bytes of the input
+ROOM = 800000     # bytes of the input
+
+
+def words(row):
+    """The words of a table of the lines told."""
+    return WORDS + 62 * (row.get("lines", LINES) - LINES)
 
 
 def runs(pairs):
@@ -38,9 +43,9 @@ def runs(pairs):
 
 
 def record(row):
-    message, own, words = bytes.fromhex(row["message"]), bytes.fromhex(row["own"]), runs(row["table"])
-    head = b"%05d %05d %05d %05d %05d\n" % (len(own), len(message), len(words), row["table_len"], row["buf"])
-    return head + own + message + b"".join(b"%05d%05d%05d " % tuple(w) for w in words) + b"\n"
+    message, own, held = bytes.fromhex(row["message"]), bytes.fromhex(row["own"]), runs(row["table"])
+    head = b"%05d %05d %05d %05d %05d %05d\n" % (len(own), len(message), len(held), row.get("lines", LINES), row["table_len"], row["buf"])
+    return head + own + message + b"".join(b"%05d%05d%010d " % tuple(w) for w in held) + b"\n"
 
 
 def total(numbers):
@@ -106,7 +111,7 @@ SINGLE = [
 
 
 def row(message, reply, before, after):
-    return {"kind": "document 01", "message": (HEAD + message).hex(), "own": OWN.hex(), "table_len": WORDS, "buf": BUFFER, "refusal": 0,
+    return {"kind": "document 01", "message": (HEAD + message).hex(), "own": OWN.hex(), "lines": LINES, "table_len": WORDS, "buf": BUFFER, "refusal": 0,
             "reply": (b"!/1 " + OWN + b" " + reply).hex(), "table": sorted(before.items()), "after": sorted((before if after is None else after).items())}
 
 
@@ -123,24 +128,26 @@ def own_rows():
 def marks(r):
     """What a row shows: its kind, its refusal, the lengths lent, the codes of its reply and its reports, full tables, wildcards."""
     kind = re.sub(r"byte \d+ ", "byte ", r["kind"])
-    found = {("kind", kind), ("refusal", r["refusal"]), ("table", r["table_len"]), ("buffer", r["buf"])}
+    lines = r.get("lines", LINES)
+    found = {("kind", kind), ("refusal", r["refusal"]), ("lines", lines), ("table", r["table_len"]), ("buffer", r["buf"])}
     reply, message, words = bytes.fromhex(r["reply"]), bytes.fromhex(r["message"]), dict(map(tuple, r["table"]))
     found |= {("code", c.decode()) for c in re.findall(rb"ER=(\d+)", reply)}
     found |= {("report", c.decode()) for c in re.findall(rb"[{,]([A-Z]+=[A-Z$*])", reply)}
     found |= {("failed", c) for c in re.findall(rb"([A-Z]+)=[^{},]+\{ER=(\d+)", reply)}
-    found |= {("wildcard", c.upper()) for c in re.findall(rb"=([A-Za-z]/(?:[0-9]/)?\*|\*)(?=[{},])", message)}
-    found.add(("contexts", sum(1 for i in words if i >= 624) // 32))
-    found.add(("ephemerals", sum(1 for i in words if 248 <= i < 312) // 16))
+    found |= {("wildcard", c.upper()) for c in re.findall(rb"=([A-Za-z]/(?:[0-9]+/)?\*|\*)(?=[{},])", message)}
+    ends = 31 * lines + 64
+    found.add(("contexts", sum(1 for i in words if 2 * ends <= i < 2 * ends + 128) // 32))
+    found.add(("ephemerals", sum(1 for i in words if 31 * lines <= i < ends) // 16))
     return found
 
 
 def choose(rows, room):
-    rows = [r for r in rows if r["table_len"] <= 1000 and r["buf"] <= 20000 and all(v < 100000 for _, v in r["table"])]
+    rows = [r for r in rows if r["table_len"] <= 2100 and r["buf"] <= 20000 and r.get("lines", LINES) < 100000]
     random.Random(1).shuffle(rows)
     edges = [r for r in rows if r["kind"].startswith("e") and not r["kind"].startswith("e byte ")]
     edges = [r for r in edges if not re.search(r"reply of 20(4[0-6]|5[1-9]|6)", r["kind"])]
-    edges += [r for r in rows if r["table_len"] != WORDS]
-    rest = [r for r in rows if r["table_len"] == WORDS and (r["kind"][0] != "e" or r["kind"].startswith("e byte "))]
+    edges += [r for r in rows if r["table_len"] != words(r)]
+    rest = [r for r in rows if r["table_len"] == words(r) and (r["kind"][0] != "e" or r["kind"].startswith("e byte "))]
     rest = sorted((r for r in rest if len(r["message"]) // 2 <= LONGEST), key=lambda r: len(record(r)) // 1000)
     have, taken = collections.Counter(), []
     for r in edges + rest:
@@ -153,7 +160,7 @@ def choose(rows, room):
 
 
 def main():
-    rows = [json.loads(line) for line in open(sys.argv[1])]
+    rows = [json.loads(line) for name in sys.argv[1:] for line in open(name)]
     own = own_rows()
     taken = own + choose(rows, ROOM - sum(len(record(r)) for r in own))
     crate = os.path.join("crates", "calls_run")
@@ -162,7 +169,7 @@ def main():
     with open(os.path.join(crate, "stdout"), "wb") as f:
         f.write(b"".join(told(k, r) for k, r in enumerate(taken, 1)))
     shown = collections.Counter(m for r in taken for m in marks(r))
-    for what in ("code", "refusal", "report", "wildcard", "table", "buffer"):
+    for what in ("code", "refusal", "report", "wildcard", "lines", "table", "buffer"):
         print(what, " ".join("%s:%d" % (c.decode() if isinstance(c, bytes) else c, n) for (k, c), n in sorted(shown.items(), key=str) if k == what))
     every = {m for r in rows for m in marks(r)}
     print(len(taken), "calls; shown by no call:", sorted(map(str, every - set(shown))))

@@ -39,8 +39,10 @@ def tried(edit):
             shutil.copytree(f'{ROOT}/crates/{crate}', f'{work}/crates/{crate}')
         # the examples refuse most of these edits by themselves: here it is the laws that must
         os.remove(f'{work}/crates/megaco/proofs/Examples.antt')
-        with open(f'{work}/crates/megaco/proofs/Lib.antt', 'w') as f:
-            f.write('pub mod Opened\n')
+        library = f'{work}/crates/megaco/proofs/Lib.antt'
+        lines = [line for line in open(library) if 'Examples' not in line]
+        with open(library, 'w') as f:
+            f.writelines(lines)
         with open(f'{work}/crates.txt', 'w') as f:
             f.write('base:\nmegaco: base\nlaws: megaco base\n')
         for path, text in edited({}, edit).items():

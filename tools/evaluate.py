@@ -4,7 +4,7 @@
 usage: tools/evaluate.py CALLS.jsonl [--rows N] [--longest BYTES] [--seed S] [--keep DIR]
 
 Takes N rows (default 300), of messages of at most BYTES bytes (default 200), those first that show a code, a refusal, a
-report or a kind (by its first letter) that few before them show. Each row is a theorem `holds row ≡ true`, proved by
+report, a count of lines or a kind (by its first letter) that few before them show. A row without `lines` has eight. Each row is a theorem `holds row ≡ true`, proved by
 computation, in a crate `rows` that is written into a temporary repository beside copies of `base` and `megaco`. The refusal,
 the whole table and the whole reply buffer, filled with 170 before the call, are compared. It stands outside the gate.
 """
@@ -25,8 +25,8 @@ def table(length, pairs):
 
 
 def marks(row):
-    """What a row shows: its kind, its refusal, the codes of its reply."""
-    found = {('kind', row['kind'][:1]), ('refusal', row['refusal'])}
+    """What a row shows: its kind, its refusal, its count of lines, the codes of its reply."""
+    found = {('kind', row['kind'][:1]), ('refusal', row['refusal']), ('lines', row.get('lines', 8))}
     reply = bytes.fromhex(row['reply'])
     found |= {('code', c) for c in re.findall(rb'ER=(\d+)', reply)}
     found |= {('report', c) for c in re.findall(rb'[{,]([A-Z]+=[A-Z$*])', reply)}
@@ -80,9 +80,9 @@ use Rattle.megaco.proofs.Opened.{opened}
 abbrev fits : Called → ℕ → ℕ → List ℕ → List ℕ → Bool
 fits c b n a u = eqb (c .refusal) n && eqb (c .size) (length a) && same (c .reply) (a ++ replicate (b - length a) 170) && same (c .table) u
 
-unfoldable holds : List ℕ → List ℕ → List ℕ → ℕ → ℕ → List ℕ → List ℕ → Bool
+unfoldable holds : ℕ → List ℕ → List ℕ → List ℕ → ℕ → ℕ → List ℕ → List ℕ → Bool
 unfolding opened
-holds m t own b n a u = fits (call m t own (replicate b 170)) b n a u
+holds l m t own b n a u = fits (call l m t own (replicate b 170)) b n a u
 
 '''
     per = 25
@@ -94,7 +94,7 @@ holds m t own b n a u = fits (call m t own (replicate b 170)) b n a u
             f.write(head)
             for i, r in enumerate(taken[k:k + per]):
                 f.write(f'''-- {ascii(r['kind'])}: {bytes.fromhex(r['message'])!r}
-row{k + i} : holds {number_list(bytes.fromhex(r['message']))} {table(r['table_len'], r['table'])} {number_list(bytes.fromhex(r['own']))} {r['buf']} {r['refusal']} {number_list(bytes.fromhex(r['reply']))} {table(r['table_len'], r['after'])} ≡ true
+row{k + i} : holds {r.get('lines', 8)} {number_list(bytes.fromhex(r['message']))} {table(r['table_len'], r['table'])} {number_list(bytes.fromhex(r['own']))} {r['buf']} {r['refusal']} {number_list(bytes.fromhex(r['reply']))} {table(r['table_len'], r['after'])} ≡ true
 unfolding holds
 row{k + i} = refl
 
@@ -102,7 +102,8 @@ row{k + i} = refl
     open(f'{work}/crates/rows/specs/Lib.antt', 'w').write(''.join(f'pub mod {m}\n' for m in modules))
     shown = collections.Counter(m for r in taken for m in marks(r))
     print(f'{len(taken)} rows of {len(rows)}; codes:', ' '.join(sorted(c.decode() for k, c in shown if k == 'code')),
-          '; refusals:', ' '.join(sorted(str(c) for k, c in shown if k == 'refusal')))
+          '; refusals:', ' '.join(sorted(str(c) for k, c in shown if k == 'refusal')),
+          '; lines:', ' '.join(map(str, sorted(c for k, c in shown if k == 'lines'))))
     out = subprocess.run(['rt', 'dev', 'rows'], cwd=work, env=dict(os.environ, RT_CUT='0'), capture_output=True, text=True)
     text = out.stdout + out.stderr
     bad = sorted(set(re.findall(r'error: `(row\d+)`', text) + re.findall(r'in `(row\d+)`', text)), key=lambda s: int(s[3:]))

@@ -10,15 +10,17 @@ static const char *const messages[] = {
     "!/1 [10.0.0.1] T=3{C=1{S=*}}",
 };
 
+enum { LINES = 8 };
+
 int main(void)
 {
     static const char own[] = "[10.0.0.9]";
-    static uint32_t table[CORDAFINA_TABLE_WORDS];
+    static uint32_t table[CORDAFINA_TABLE_WORDS(LINES)];
     static uint8_t reply[CORDAFINA_REPLY_BYTES];
 
     for (size_t i = 0; i < sizeof messages / sizeof messages[0]; i++) {
-        uint64_t answer = cordafina_answer((const uint8_t *)messages[i], strlen(messages[i]),
-                                           table, CORDAFINA_TABLE_WORDS,
+        uint64_t answer = cordafina_answer(LINES, (const uint8_t *)messages[i], strlen(messages[i]),
+                                           table, CORDAFINA_TABLE_WORDS(LINES),
                                            (const uint8_t *)own, strlen(own),
                                            reply, sizeof reply);
         if (cordafina_refusal(answer) != CORDAFINA_TAKEN) {
@@ -26,7 +28,7 @@ int main(void)
             return 1;
         }
         printf("%s\n  %.*s\n", messages[i], (int)cordafina_length(answer), (const char *)reply);
-        printf("  L/1/5 stands in context %u\n", (unsigned)table[4]);
+        printf("  L/1/5 stands in context %u\n", (unsigned)table[CORDAFINA_LINE(1, 5)]);
     }
     return 0;
 }

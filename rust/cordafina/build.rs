@@ -1,11 +1,11 @@
 //! Links the proved archive: the file that the variable CORDAFINA_LIB names (a
 //! path that is not absolute starts at this crate's folder), or the one that
-//! `rt staticlib gateway` writes.
+//! `rt staticlib cordafina` writes.
 
 use std::path::PathBuf;
 use std::{env, fs, process};
 
-const BUILT: &str = "../../target/staticlib/libgateway.a";
+const BUILT: &str = "../../target/staticlib/libcordafina.a";
 
 fn main() {
     let named = env::var_os("CORDAFINA_LIB").unwrap_or(BUILT.into());
@@ -17,7 +17,7 @@ fn main() {
     let out = folder("OUT_DIR");
     if let Err(error) = fs::copy(&archive, out.join("libcordafina_archive.a")) {
         eprintln!("no archive at {}: {error}", archive.display());
-        eprintln!("make it with `rt staticlib gateway`, or name it in CORDAFINA_LIB");
+        eprintln!("make it with `rt staticlib cordafina`, or name it in CORDAFINA_LIB");
         process::exit(1);
     }
     println!("cargo:rustc-link-search=native={}", out.display());

@@ -1,11 +1,12 @@
 -- The target is the definition's aim.
-use Prim.Native.Nat.{ℕ}
+use Prim.Native.Nat.{ℕ, _+_, _-_}
 use mathlib.Core.Path.{_≡_, refl}
 use mathlib.Core.Bool.{Bool, true, false, not}
 use mathlib.Core.List.{List}
 use lib.Dec.{eqb}
+use borrow.Author.Tests.{ne-eqb}
 use Rattle.base.specs.Pick.{pick}
-use Rattle.megaco.specs.Table.{ctx, get, exists, freeEphemeral}
+use Rattle.megaco.specs.Table.{lineTerminations, fitted, ctx, get, exists, freeEphemeral}
 use Rattle.megaco.specs.Running.{misses, aimRoot, aimFree, aim, isAdd, isModify, isNull}
 use Rattle.megaco.specs.declared.Context.{Context}
 use Rattle.megaco.specs.declared.Op.{Op}
@@ -13,7 +14,7 @@ use Rattle.megaco.specs.declared.Name.{Name}
 use Rattle.megaco.specs.declared.Name.the-variants.{Termination, Root, Chosen, Unchosen, Wildcard, Unmatched, Unknown}
 use Rattle.megaco.specs.declared.Range.{Range}
 use Rattle.aims.specs.declared.Target.{Target}
-use Rattle.aims.specs.declared.Target.the-variants.{Misses, Many}
+use Rattle.aims.specs.declared.Target.the-variants.{Misses, One, Many}
 use Rattle.aims.specs.Targets.{rootTarget, freeTarget, unchosenTarget, oneTarget, targetOf, aimOf}
 
 module _ (op : Op) (at : Context) (t : List ℕ) where
@@ -24,7 +25,7 @@ module _ (op : Op) (at : Context) (t : List ℕ) where
   root-is true false items p q = rw (p, q)
   root-is false n items p q = rw p
 
-  free-is : (a z : Bool) (n : ℕ) → isAdd op ≡ a → eqb n 0 ≡ z → aimOf (freeTarget op n) op at t ≡ pick (not (isAdd op)) (misses 410) (aimFree n)
+  free-is : (a z : Bool) (n : ℕ) → isAdd op ≡ a → eqb n 0 ≡ z → aimOf (freeTarget (fitted t) op n) op at t ≡ pick (not (isAdd op)) (misses 410) (aimFree (fitted t) n)
   unfolding freeTarget aimFree aimOf pick
   free-is true true n p q = rw (p, q)
   free-is true false n p q = rw (p, q)
@@ -36,14 +37,14 @@ module _ (op : Op) (at : Context) (t : List ℕ) where
   unchosen-is true p = rw p
   unchosen-is false p = rw p
 
-  one-is : (i : ℕ) (b : Bool) → exists i (get t (ctx i)) ≡ b → aimOf (oneTarget i (get t (ctx i))) op at t ≡ aim op at true (Termination i) t
+  one-is : (i : ℕ) (b : Bool) → exists (fitted t) i (get t (ctx i)) ≡ b → aimOf (oneTarget (fitted t) i (get t (ctx i))) op at t ≡ aim op at true (Termination i) t
   unfolding oneTarget aimOf aim pick
   one-is i true p = rw p
   one-is i false p = rw p
 
   pub target-is : (items : Bool) (n : Name) → aimOf (targetOf op at items n t) op at t ≡ aim op at items n t
   unfolding targetOf aim aimOf
-  target-is items (Termination i) = one-is i (exists i (get t (ctx i))) refl
+  target-is items (Termination i) = one-is i (exists (fitted t) i (get t (ctx i))) refl
   target-is items Root = root-is (isModify op) (isNull at) items refl refl
   target-is items Chosen = free-is (isAdd op) (eqb (freeEphemeral t) 0) (freeEphemeral t) refl refl
   target-is items Unchosen = unchosen-is (isAdd op) refl
@@ -51,19 +52,24 @@ module _ (op : Op) (at : Context) (t : List ℕ) where
   target-is items Unmatched = refl
   target-is items Unknown = refl
 
+-- the lowest absent ephemeral
+pub free-one : (lines l n : ℕ) (op : Op) (x : Bool) → x ≡ isAdd op → x ≡ true → (n ≡ 0 → ⊥) → l ≡ lineTerminations lines → One (l + (n - 1)) ≡ freeTarget lines op n
+unfolding freeTarget pick
+free-one lines l n op x e t h f = rw (← e, t, ne-eqb n 0 h, f)
+
 -- each form of a name
 module _ (op : Op) (at : Context) (items : Bool) (n : Name) (t : List ℕ) (r : Target) where
-  pub for-one : (i w : ℕ) → n ≡ Termination i → w ≡ get t (ctx i) → r ≡ oneTarget i w → r ≡ targetOf op at items n t
+  pub for-one : (i w k : ℕ) → n ≡ Termination i → w ≡ get t (ctx i) → k ≡ fitted t → r ≡ oneTarget k i w → r ≡ targetOf op at items n t
   unfolding targetOf
-  for-one i w e p q = rw (e, ← p) q
+  for-one i w k e p f q = rw (e, ← p, ← f) q
 
   pub for-root : n ≡ Root → r ≡ rootTarget op at items → r ≡ targetOf op at items n t
   unfolding targetOf
   for-root e q = rw e q
 
-  pub for-chosen : (k : ℕ) → n ≡ Chosen → k ≡ freeEphemeral t → r ≡ freeTarget op k → r ≡ targetOf op at items n t
+  pub for-chosen : (k l : ℕ) → n ≡ Chosen → k ≡ freeEphemeral t → l ≡ fitted t → r ≡ freeTarget l op k → r ≡ targetOf op at items n t
   unfolding targetOf
-  for-chosen k e p q = rw (e, ← p) q
+  for-chosen k l e p f q = rw (e, ← p, ← f) q
 
   pub for-unchosen : n ≡ Unchosen → r ≡ unchosenTarget op → r ≡ targetOf op at items n t
   unfolding targetOf

@@ -4,7 +4,7 @@ use mathlib.Core.Bool.{Bool, false}
 use mathlib.Core.List.{List, [], _∷_}
 use lib.Dec.{eqb}
 use Rattle.base.specs.Pick.{pick}
-use Rattle.megaco.specs.Table.{ctx, get, lineTerminations, exists, freeEphemeral}
+use Rattle.megaco.specs.Table.{fitted, ctx, get, lineTerminations, exists, freeEphemeral}
 use Rattle.megaco.specs.Running.{Aim, misses, gateway, meets, aimMatches, matches, isAdd, isModify, isNull}
 use Rattle.megaco.specs.declared.Context.{Context}
 use Rattle.megaco.specs.declared.Op.{Op}
@@ -18,21 +18,21 @@ unfoldable pub rootTarget : Op → Context → Bool → Target
 rootTarget op at items = pick (isModify op) (pick (isNull at) (pick items (Misses 447) Gateway) (Misses 435)) (Misses 410)
 
 -- "410 unless Add; `$` and `R/$` choose the lowest absent ephemeral, 432 if none"
-unfoldable pub freeTarget : Op → ℕ → Target
-freeTarget op n = pick (isAdd op) (pick (eqb n 0) (Misses 432) (One (lineTerminations + (n - 1)))) (Misses 410)
+unfoldable pub freeTarget : ℕ → Op → ℕ → Target
+freeTarget lines op n = pick (isAdd op) (pick (eqb n 0) (Misses 432) (One (lineTerminations lines + (n - 1)))) (Misses 410)
 
 -- "and 432 for other forms"
 unfoldable pub unchosenTarget : Op → Target
 unchosenTarget op = pick (isAdd op) (Misses 432) (Misses 410)
 
 -- "430 if no existing termination has that name"
-unfoldable pub oneTarget : ℕ → ℕ → Target
-oneTarget i word = pick (exists i word) (One i) (Misses 430)
+unfoldable pub oneTarget : ℕ → ℕ → ℕ → Target
+oneTarget lines i word = pick (exists lines i word) (One i) (Misses 430)
 
 unfoldable pub targetOf : Op → Context → Bool → Name → List ℕ → Target
-targetOf op at items (Termination i) t = oneTarget i (get t (ctx i))
+targetOf op at items (Termination i) t = oneTarget (fitted t) i (get t (ctx i))
 targetOf op at items Root t = rootTarget op at items
-targetOf op at items Chosen t = freeTarget op (freeEphemeral t)
+targetOf op at items Chosen t = freeTarget (fitted t) op (freeEphemeral t)
 targetOf op at items Unchosen t = unchosenTarget op
 targetOf op at items (Wildcard r) t = Many r
 targetOf op at items Unmatched t = Misses 431

@@ -1,7 +1,6 @@
 // Whom a command's name means (document 01, test 4).
 ghost use mathlib.Core.Path.{_≡_};
-ghost use lib.ListN.{length};
-ghost use Rattle.megaco.specs.Table.{words};
+ghost use Rattle.megaco.specs.Table.{Sized};
 ghost use Rattle.megaco.specs.Running.{isAdd, isModify, isSubtract, isNull};
 ghost use Rattle.aims.specs.Targets.{rootTarget, freeTarget, unchosenTarget, oneTarget, targetOf};
 use megaco::Context;
@@ -78,14 +77,14 @@ fn root_target(op: Op, at: Context, items: bool) -> Target
 }
 
 // `$` and `R/$`, with the lowest absent ephemeral.
-fn free_target(op: Op, n: u32) -> Target
-    ensures { λ r. ⌜ r ≡ freeTarget op n ⌝ }
+fn free_target(lines: u32, op: Op, n: u32) -> Target
+    ensures { λ r. ⌜ r ≡ freeTarget lines op n ⌝ }
 {
     if is_add(op) {
         if n == 0 {
             return Target::Misses(432);
         }
-        return Target::One(table::LINE_TERMINATIONS + (n as usize - 1));
+        return Target::One(table::line_terminations(lines) + (n as usize - 1));
     }
     Target::Misses(410)
 }
@@ -99,10 +98,10 @@ fn unchosen_target(op: Op) -> Target
     Target::Misses(410)
 }
 
-fn one_target(i: usize, word: u32) -> Target
-    ensures { λ r. ⌜ r ≡ oneTarget i word ⌝ }
+fn one_target(lines: u32, i: usize, word: u32) -> Target
+    ensures { λ r. ⌜ r ≡ oneTarget lines i word ⌝ }
 {
-    if table::exists(i, word) {
+    if table::exists(lines, i, word) {
         return Target::One(i);
     }
     Target::Misses(430)
@@ -110,13 +109,13 @@ fn one_target(i: usize, word: u32) -> Target
 
 // Test 4.
 pub fn target_of(op: Op, at: Context, items: bool, name: Name, table: &[u32]) -> Target
-    requires { ⌜ length (now table) ≡ words ⌝ }
+    requires { ⌜ Sized (now table) ⌝ }
     ensures { λ r. ⌜ r ≡ targetOf op at items name (now (table .entry)) ⌝ }
 {
     match name {
-        Name::Termination(i) => one_target(i, table::context_of(table, i)),
+        Name::Termination(i) => one_target(table::lines(table), i, table::context_of(table, i)),
         Name::Root => root_target(op, at, items),
-        Name::Chosen => free_target(op, table::free_ephemeral(table)),
+        Name::Chosen => free_target(table::lines(table), op, table::free_ephemeral(table)),
         Name::Unchosen => unchosen_target(op),
         Name::Wildcard(r) => Target::Many(r),
         Name::Unmatched => Target::Misses(431),

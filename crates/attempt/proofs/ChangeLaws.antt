@@ -67,7 +67,7 @@ unfolding placed apply
 place-by i c word t t₁ t₂ e f = f ∙ rw e
 
 module _ (op : Op) (at : Context) (given i : ℕ) (vs : Values) (v : View) (t : List ℕ) where
-  pub change-add : (t₁ t₂ : List ℕ) (c u w : ℕ) → op ≡ Add → t₁ ≡ apply (joining at given v []) t → c ≡ target at v → w ≡ added i (v .word)
+  pub change-add : (t₁ t₂ : List ℕ) (c u w : ℕ) → op ≡ Add → t₁ ≡ apply (joining at given v []) t → c ≡ target at v → w ≡ added (v .lines) i (v .word)
       → u ≡ update vs w → t₂ ≡ apply (placed i c u) t₁ → t₂ ≡ apply (changes op at given i vs v) t
   unfolding changes joining
   change-add t₁ t₂ c u w o e f g h k = k ∙ rw (e, h, f, g, o) (sym (first-write (isChoose at) _ _ t))
@@ -76,7 +76,7 @@ module _ (op : Op) (at : Context) (given i : ℕ) (vs : Values) (v : View) (t : 
   unfolding changes apply
   change-modify t₁ u o h k = k ∙ rw (o, h)
 
-  pub change-subtract : (t₁ t₂ : List ℕ) (w : ℕ) → op ≡ Subtract → t₁ ≡ apply (leaving v []) t → w ≡ subtracted i (v .word)
+  pub change-subtract : (t₁ t₂ : List ℕ) (w : ℕ) → op ≡ Subtract → t₁ ≡ apply (leaving v []) t → w ≡ subtracted (v .lines) i (v .word)
       → t₂ ≡ apply (placed i 0 w) t₁ → t₂ ≡ apply (changes op at given i vs v) t
   unfolding changes leaving
   change-subtract t₁ t₂ w o e g k = k ∙ rw (e, g, o) (sym (first-write _ _ _ t))

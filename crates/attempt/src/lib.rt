@@ -118,17 +118,21 @@ fn update(values: Values, word: u32) -> u32
 }
 
 // The property word that Add starts from.
-fn added(i: usize, word: u32) -> u32
-    ensures { λ r. ⌜ r ≡ added i word ⌝ }
+fn added(lines: u32, i: usize, word: u32) -> u32
+    ensures { λ r. ⌜ r ≡ added lines i word ⌝ }
 {
-    if table::is_ephemeral(i) { 0 } else { word }
+    if table::is_ephemeral(lines, i) {
+        0
+    } else {
+        word
+    }
 }
 
 // The property word that Subtract leaves.
-fn subtracted(i: usize, word: u32) -> u32
-    ensures { λ r. ⌜ r ≡ subtracted i word ⌝ }
+fn subtracted(lines: u32, i: usize, word: u32) -> u32
+    ensures { λ r. ⌜ r ≡ subtracted lines i word ⌝ }
 {
-    if table::is_ephemeral(i) {
+    if table::is_ephemeral(lines, i) {
         0
     } else {
         8 * (word / 8)
@@ -184,7 +188,7 @@ pub fn change(
                 table,
                 i,
                 target(at, view),
-                update(values, added(i, view.word)),
+                update(values, added(view.lines, i, view.word)),
             );
         }
         Op::Modify => {
@@ -192,7 +196,7 @@ pub fn change(
         }
         Op::Subtract => {
             leave(table, view);
-            place(table, i, 0, subtracted(i, view.word));
+            place(table, i, 0, subtracted(view.lines, i, view.word));
         }
         Op::Move => {
             leave(table, view);

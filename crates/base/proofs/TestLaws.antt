@@ -1,8 +1,11 @@
 -- What tests tell: a choice by a test, tests joined, lists found the same.
-use Prim.Native.Nat.{ℕ}
+use Prim.Native.Nat.{ℕ, zero, suc, _<_}
 use mathlib.Core.Path.{_≡_, refl, sym}
 use mathlib.Core.Bool.{Bool, true, false, _&&_, _||_}
 use mathlib.Core.List.{List, [], _∷_}
+use mathlib.Core.Logic.{⊎-elim}
+use native.Mathlib.Nat.{eq-or-lt-of-le}
+use native.Mathlib.Omega.{arith}
 use lib.Dec.{eqb}
 use borrow.Author.Tests.{eqb-true, eqb-false}
 use Rattle.base.specs.Pick.{pick}
@@ -75,3 +78,15 @@ same-is (x ∷ xs) (y ∷ ys) e =
     let q : x ≡ y = eqb-true x y (p .0) in
     let r : xs ≡ ys = same-is xs ys (p .1) in
     λ i. q i ∷ r i
+
+-- a test of every number below a bound
+unfoldable pub below : (ℕ → Bool) → ℕ → Bool
+below p zero = true
+below p (suc n) = let r = below p n in pick (p n) r false
+
+pub below-at : (p : ℕ → Bool) (n i : ℕ) → below p n ≡ true → i < n → p i ≡ true
+unfolding below
+below-at p zero i e h = absurd (omega arith)
+below-at p (suc n) i e h =
+    let b = pick-both (p n) (below p n) e in
+    ⊎-elim (λ l. rw l (b .0)) (λ l. below-at p n i (b .1) l) (eq-or-lt-of-le {n = i} {m = n} (omega arith))

@@ -1,8 +1,8 @@
-// Recorded calls. The input has for each call a line of 30 bytes (five numbers of five digits: the bytes of the gateway's own mId,
-// the bytes of the message, the runs of words that are not 0, the words of the table, the bytes of the reply buffer), then the mId,
-// the message, the runs (sixteen bytes each: from, to, word) and a line end. Each call is told in one line: its number, the refusal
-// or the reply's length and its bytes, the sum of the table and the sum of the whole buffer. tools/call_cases.py writes the input
-// and the output.
+// Recorded calls. The input has for each call a line of 36 bytes (six numbers of five digits: the bytes of the gateway's own mId,
+// the bytes of the message, the runs of words that are not 0, the lines told, the words of the table, the bytes of the reply buffer),
+// then the mId, the message, the runs (21 bytes each: from, to, word) and a line end. Each call is told in one line: its number, the
+// refusal or the reply's length and its bytes, the sum of the table and the sum of the whole buffer. tools/call_cases.py writes the
+// input and the output.
 use gateway::Outcome;
 use libc::STDIN_FILENO;
 use libc::STDOUT_FILENO;
@@ -12,7 +12,7 @@ ghost use lib.ListN.{length};
 
 fn main() {
     let mut room = io::large_buffer();
-    let mut table = [0u32; 1000];
+    let mut table = [0u32; 2100];
     let mut reply = [0u8; 20000];
     run(&mut room, &mut table, &mut reply);
 }
@@ -31,15 +31,16 @@ fn run(room: &mut [u8], table: &mut [u32], reply: &mut [u8]) {
 
 // Reads one call and tells it; whether there was one.
 fn one(k: u64, room: &mut [u8], table: &mut [u32], reply: &mut [u8]) -> bool {
-    let mut head = [0u8; 30];
-    if io::read_full(STDIN_FILENO, &mut head) < 30 {
+    let mut head = [0u8; 36];
+    if io::read_full(STDIN_FILENO, &mut head) < 36 {
         return false;
     }
     let own = number(&head[0..5]);
     let message = own + number(&head[6..11]);
-    let runs = message + number(&head[12..17]) * 16;
-    let words = number(&head[18..23]);
-    let buffer = number(&head[24..29]);
+    let runs = message + number(&head[12..17]) * 21;
+    let lines = number(&head[18..23]) as u32;
+    let words = number(&head[24..29]);
+    let buffer = number(&head[30..35]);
     if runs < room.len() {
         let e = runs + 1;
         if io::read_full(STDIN_FILENO, &mut room[0..e]) < e {
@@ -50,6 +51,7 @@ fn one(k: u64, room: &mut [u8], table: &mut [u32], reply: &mut [u8]) -> bool {
             &room[0..own],
             &room[own..message],
             &room[message..runs],
+            lines,
             table,
             words,
             reply,
@@ -66,6 +68,7 @@ fn lend(
     own: &[u8],
     message: &[u8],
     runs: &[u8],
+    lines: u32,
     table: &mut [u32],
     words: usize,
     reply: &mut [u8],
@@ -78,6 +81,7 @@ fn lend(
                 own,
                 message,
                 runs,
+                lines,
                 &mut table[0..words],
                 &mut reply[0..buffer],
             );
@@ -85,9 +89,17 @@ fn lend(
     }
 }
 
-fn call(k: u64, own: &[u8], message: &[u8], runs: &[u8], table: &mut [u32], reply: &mut [u8]) {
+fn call(
+    k: u64,
+    own: &[u8],
+    message: &[u8],
+    runs: &[u8],
+    lines: u32,
+    table: &mut [u32],
+    reply: &mut [u8],
+) {
     prepare(table, reply, runs);
-    let a = gateway::answer(message, table, own, reply);
+    let a = gateway::answer(lines, message, table, own, reply);
     tell(k, a, reply);
     sums(table, reply);
 }
@@ -127,22 +139,29 @@ fn prepare(table: &mut [u32], reply: &mut [u8], runs: &[u8]) {
 
 fn put_runs(table: &mut [u32], runs: &[u8]) {
     let mut i: usize = 0;
-    while i < runs.len() / 16 {
-        let p = i * 16;
-        put_one(table, &runs[p..p + 16]);
+    while i < runs.len() / 21 {
+        let p = i * 21;
+        put_one(table, &runs[p..p + 21]);
         i += 1;
     }
 }
 
 fn put_one(table: &mut [u32], s: &[u8])
-    requires { ⌜ length (now s) ≡ 16 ⌝ }
+    requires { ⌜ length (now s) ≡ 21 ⌝ }
 {
     put_run(
         table,
         number(&s[0..5]),
         number(&s[5..10]),
-        number(&s[10..15]) as u32,
+        word(number(&s[10..15]), number(&s[15..20])),
     );
+}
+
+// The word that ten digits write, five and five.
+fn word(high: usize, low: usize) -> u32
+    requires { ⌜ (high < 100000) × (low < 100000) ⌝ }
+{
+    ((high * 100000 + low) % 4294967296) as u32
 }
 
 // One word from a place up to another.
@@ -209,6 +228,7 @@ fn tell(k: u64, a: Outcome, reply: &[u8]) {
         Outcome::TableUnsound => say(b" refused 2"),
         Outcome::ReplyTooShort => say(b" refused 3"),
         Outcome::MidUnfit => say(b" refused 4"),
+        Outcome::LinesUnfit => say(b" refused 8"),
     }
 }
 

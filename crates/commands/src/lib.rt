@@ -1,8 +1,7 @@
 // One command of a message: its parts found once, its tests in document 01's order, and what it leaves.
 ghost use mathlib.Core.Path.{_≡_};
 ghost use mathlib.Core.Option.{some};
-ghost use lib.ListN.{length};
-ghost use Rattle.megaco.specs.Table.{words};
+ghost use Rattle.megaco.specs.Table.{Sized};
 ghost use Rattle.megaco.specs.Running.{opOf, tested, ordered, runCommand};
 ghost use Rattle.parts.specs.Found.{itemsFrom, commandEndFrom};
 ghost use Rattle.syntax.specs.Extraction.{commandOf, commandEnd};
@@ -30,7 +29,7 @@ fn run_tested(
     table: &mut [u32],
     out: &mut [u8],
 ) -> Passed
-    requires { ⌜ length (now table) ≡ words ⌝ }
+    requires { ⌜ Sized (now table) ⌝ }
     ensures { λ r. ⌜ Did (tested op (now (name .entry)) (itemsFrom (now (s .entry)) places) (turn .given) (turn .at) (now (table .entry))) (turn .first) (now (out .entry)) (turn .next) (now (table .exit)) (now (out .exit)) (r .went) × (r .end ≡ commandEndFrom (now (s .entry)) places) ⌝ }
 {
     let at = turn.at;
@@ -98,7 +97,7 @@ fn run_built(
     table: &mut [u32],
     out: &mut [u8],
 ) -> Passed
-    requires { ⌜ length (now table) ≡ words ⌝ }
+    requires { ⌜ Sized (now table) ⌝ }
     ensures { λ r. ⌜ Did (ordered (places .optional) (some op) (now (name .entry)) (itemsFrom (now (s .entry)) places) (turn .given) (turn .at) (now (table .entry))) (turn .first) (now (out .entry)) (turn .next) (now (table .exit)) (now (out .exit)) (r .went) × (r .end ≡ commandEndFrom (now (s .entry)) places) ⌝ }
 {
     let at = turn.at;
@@ -123,7 +122,7 @@ fn run_found(
     table: &mut [u32],
     out: &mut [u8],
 ) -> Passed
-    requires { ⌜ length (now table) ≡ words ⌝ }
+    requires { ⌜ Sized (now table) ⌝ }
     ensures { λ r. ⌜ Did (ordered (places .optional) (opOf (places .wild) (now (word .entry))) (now (name .entry)) (itemsFrom (now (s .entry)) places) (turn .given) (turn .at) (now (table .entry))) (turn .first) (now (out .entry)) (turn .next) (now (table .exit)) (now (out .exit)) (r .went) × (r .end ≡ commandEndFrom (now (s .entry)) places) ⌝ }
 {
     let f = orders::op_of(places.wild, word);
@@ -135,7 +134,7 @@ fn run_found(
 
 // The command that stands at a place of the message.
 pub fn run_command(s: &[u8], i: usize, turn: Turn, table: &mut [u32], out: &mut [u8]) -> Passed
-    requires { ⌜ length (now table) ≡ words ⌝ }
+    requires { ⌜ Sized (now table) ⌝ }
     ensures { λ r. ⌜ Did (runCommand (commandOf (now (s .entry)) i) (turn .given) (turn .at) (now (table .entry))) (turn .first) (now (out .entry)) (turn .next) (now (table .exit)) (now (out .exit)) (r .went) × (r .end ≡ commandEnd (now (s .entry)) i) ⌝ }
 {
     let places = parts::command_places(s, i);

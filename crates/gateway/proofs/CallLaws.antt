@@ -5,7 +5,7 @@ use mathlib.Core.Bool.{Bool, true, false, _||_}
 use mathlib.Core.List.{List}
 use lib.ListN.{length}
 use lib.Dec.{ltb, leb, eqb}
-use borrow.Author.Tests.{lt-ltb, le-ltb, leb-true}
+use borrow.Author.Tests.{lt-ltb, le-ltb, leb-true, eq-eqb, ne-eqb}
 use native.Mathlib.Omega.{arith}
 use Rattle.base.specs.Pick.{pick}
 use Rattle.base.specs.Bytes.{_then_}
@@ -14,7 +14,8 @@ use Rattle.base.proofs.OutLaws.{_▸_}
 use Rattle.base.proofs.TestLaws.{and-both}
 use Rattle.megaco.specs.Tokens.{isMid, wholeAt, mIdAt}
 use Rattle.megaco.specs.Reading.{messageR}
-use Rattle.megaco.specs.Table.{sound}
+use Rattle.megaco.specs.Table.{words, mostLines, sound}
+use Rattle.megaco.specs.Names.{within}
 use Rattle.megaco.specs.Reply.{headerText}
 use Rattle.megaco.specs.Running.{runMessage}
 use Rattle.megaco.specs.Call.{Called, written, replied, taken, call}
@@ -22,70 +23,60 @@ use Rattle.laws.specs.Bounds.{reply-fits}
 use Rattle.running.specs.Promises.{Wrote}
 use Rattle.gateway.specs.Answers.{refusalOf, sizeOf, Answered, Packed}
 use Rattle.gateway.specs.declared.Outcome.{Outcome}
-use Rattle.gateway.specs.declared.Outcome.the-variants.{Taken, ReplyTooShort, TableUnsound, MidUnfit, MessageUnfit}
+use Rattle.gateway.specs.declared.Outcome.the-variants.{Taken, ReplyTooShort, TableUnsound, MidUnfit, MessageUnfit, LinesUnfit}
 
-module _ (m t own o : List ℕ) where
-  pub short-reply : length o < 16640 → Answered (call m t own o) t o ReplyTooShort
+pub unfit-lines : (lines : ℕ) (m t own o : List ℕ) (x : Bool) → x ≡ within lines mostLines → x ≡ false → Answered (call lines m t own o) t o LinesUnfit
+unfolding call refusalOf sizeOf pick
+unfit-lines lines m t own o x e f = rw (sym e ∙ f) (record { refusal = refl; size = refl; table = refl; reply = refl })
+
+module _ (lines : ℕ) (m t own o : List ℕ) (w : within lines mostLines ≡ true) where
+  pub short-reply : length o < 16640 → Answered (call lines m t own o) t o ReplyTooShort
   unfolding call refusalOf sizeOf pick
-  short-reply h = rw (lt-ltb (length o) 16640 h) (record { refusal = refl; size = refl; table = refl; reply = refl })
+  short-reply h = rw (w, lt-ltb (length o) 16640 h) (record { refusal = refl; size = refl; table = refl; reply = refl })
 
   module _ (h : 16640 ≤ length o) where
-    pub unsound-table : (x : Bool) → x ≡ sound t → x ≡ false → Answered (call m t own o) t o TableUnsound
+    pub unfit-table : (k : ℕ) → k ≡ words lines → (length t ≡ k → ⊥) → Answered (call lines m t own o) t o TableUnsound
     unfolding call refusalOf sizeOf pick
-    unsound-table x e f = rw (le-ltb (length o) 16640 h, sym e ∙ f) (record { refusal = refl; size = refl; table = refl; reply = refl })
+    unfit-table k e f = rw (w, le-ltb (length o) 16640 h, ne-eqb (length t) (words lines) (λ q. f (q ∙ sym e))) (record { refusal = refl; size = refl; table = refl; reply = refl })
 
-    module _ (x : Bool) (e : x ≡ sound t) (f : x ≡ true) where
-      pub unfit-mid : (y : Bool) → y ≡ isMid own → y ≡ false → Answered (call m t own o) t o MidUnfit
+    module _ (n : ℕ) (n-is : n ≡ words lines) (long : length t ≡ n) where
+      l : length t ≡ words lines
+      l = long ∙ n-is
+
+      pub unsound-table : (x : Bool) → x ≡ sound t → x ≡ false → Answered (call lines m t own o) t o TableUnsound
       unfolding call refusalOf sizeOf pick
-      unfit-mid y g k = rw (le-ltb (length o) 16640 h, sym e ∙ f, sym g ∙ k) (record { refusal = refl; size = refl; table = refl; reply = refl })
+      unsound-table x e f = rw (w, le-ltb (length o) 16640 h, eq-eqb (length t) (words lines) l, sym e ∙ f) (record { refusal = refl; size = refl; table = refl; reply = refl })
 
-      module _ (y : Bool) (g : y ≡ isMid own) (k : y ≡ true) where
-        pub unfit-message : (eqb (length m) 0 || ltb 4096 (length m)) ≡ true → Answered (call m t own o) t o MessageUnfit
+      module _ (x : Bool) (e : x ≡ sound t) (f : x ≡ true) where
+        pub unfit-mid : (y : Bool) → y ≡ isMid own → y ≡ false → Answered (call lines m t own o) t o MidUnfit
         unfolding call refusalOf sizeOf pick
-        unfit-message z = rw (le-ltb (length o) 16640 h, sym e ∙ f, sym g ∙ k, z) (record { refusal = refl; size = refl; table = refl; reply = refl })
+        unfit-mid y g k = rw (w, le-ltb (length o) 16640 h, eq-eqb (length t) (words lines) l, sym e ∙ f, sym g ∙ k) (record { refusal = refl; size = refl; table = refl; reply = refl })
 
-        taken-is : (eqb (length m) 0 || ltb 4096 (length m)) ≡ false → call m t own o ≡ taken m t own o
-        unfolding call pick
-        taken-is z = rw (le-ltb (length o) 16640 h, sym e ∙ f, sym g ∙ k, z)
+        module _ (y : Bool) (g : y ≡ isMid own) (k : y ≡ true) where
+          pub unfit-message : (eqb (length m) 0 || ltb 4096 (length m)) ≡ true → Answered (call lines m t own o) t o MessageUnfit
+          unfolding call refusalOf sizeOf pick
+          unfit-message z = rw (w, le-ltb (length o) 16640 h, eq-eqb (length t) (words lines) l, sym e ∙ f, sym g ∙ k, z) (record { refusal = refl; size = refl; table = refl; reply = refl })
 
-        short-mid : length own ≤ 64
-        unfolding isMid
-        short-mid = leb-true (length own) 64 (and-both (leb (length own) 64) (wholeAt (mIdAt own 0) (length own)) (sym g ∙ k) .0)
+          taken-is : (eqb (length m) 0 || ltb 4096 (length m)) ≡ false → call lines m t own o ≡ taken m t own o
+          unfolding call pick
+          taken-is z = rw (w, le-ltb (length o) 16640 h, eq-eqb (length t) (words lines) l, sym e ∙ f, sym g ∙ k, z)
 
-        pub is-taken : (eqb (length m) 0 || ltb 4096 (length m)) ≡ false → (o₁ : List ℕ) (p : ℕ) (t′ o′ : List ℕ) (r : ℕ) → Appended o 0 (headerText own) o₁ p
-            → Wrote (runMessage (messageR m) t) o₁ p t′ o′ r → Answered (call m t own o) t′ o′ (Taken r)
-        unfolding taken replied written refusalOf sizeOf
-        is-taken z o₁ p t′ o′ r a w =
-            let x = runMessage (messageR m) t in
-            let b : Appended o 0 (headerText own then x .text) o′ r = a ▸ w .text in
-            let l : length (headerText own then x .text) ≤ 16640 = reply-fits m t own short-mid in
-            let n : r ≡ length (headerText own then x .text) = omega (arith, b .next) in
-            rw (taken-is z) (record { refusal = refl; size = n; table = w .table; reply = b .text })
+          short-mid : length own ≤ 64
+          unfolding isMid
+          short-mid = leb-true (length own) 64 (and-both (leb (length own) 64) (wholeAt (mIdAt own 0) (length own)) (sym g ∙ k) .0)
 
--- the answer as one number
-module _ (c : Called) (t′ o′ : List ℕ) (a : Outcome) (d : Answered c t′ o′ a) where
-  packs : (r : ℕ) → r ≡ sizeOf a + 4294967296 * refusalOf a → Packed c t′ o′ r
-  packs r e = record { answer = e ∙ (λ i. d .size i + 4294967296 * d .refusal i); table = d .table; reply = d .reply }
+          pub is-taken : (eqb (length m) 0 || ltb 4096 (length m)) ≡ false → (o₁ : List ℕ) (p : ℕ) (t′ o′ : List ℕ) (r : ℕ) → Appended o 0 (headerText own) o₁ p
+              → Wrote (runMessage (messageR m) t) o₁ p t′ o′ r → Answered (call lines m t own o) t′ o′ (Taken r)
+          unfolding taken replied written refusalOf sizeOf
+          is-taken z o₁ p t′ o′ r a w =
+              let x = runMessage (messageR m) t in
+              let b : Appended o 0 (headerText own then x .text) o′ r = a ▸ w .text in
+              let l₁ : length (headerText own then x .text) ≤ 16640 = reply-fits m t own short-mid in
+              let n₁ : r ≡ length (headerText own then x .text) = omega (arith, b .next) in
+              rw (taken-is z) (record { refusal = refl; size = n₁; table = w .table; reply = b .text })
 
-  pub packed-taken : (n : ℕ) → a ≡ Taken n → Packed c t′ o′ n
-  unfolding sizeOf refusalOf
-  packed-taken n e = packs n (rw e (omega arith))
-
-  pub packed-short : a ≡ ReplyTooShort → Packed c t′ o′ (3 * 4294967296)
-  unfolding sizeOf refusalOf
-  packed-short e = packs _ (rw e)
-
-  pub packed-unsound : a ≡ TableUnsound → Packed c t′ o′ (2 * 4294967296)
-  unfolding sizeOf refusalOf
-  packed-unsound e = packs _ (rw e)
-
-  pub packed-mid : a ≡ MidUnfit → Packed c t′ o′ (4 * 4294967296)
-  unfolding sizeOf refusalOf
-  packed-mid e = packs _ (rw e)
-
-  pub packed-message : a ≡ MessageUnfit → Packed c t′ o′ 4294967296
-  unfolding sizeOf refusalOf
-  packed-message e = packs _ (rw e)
+pub fitted-by : (x : Bool) (lines : ℕ) → x ≡ within lines mostLines → x ≡ true → within lines mostLines ≡ true
+fitted-by x lines e f = sym e ∙ f
 
 pub sound-by : (x : Bool) (t : List ℕ) → x ≡ sound t → x ≡ true → sound t ≡ true
 sound-by x t e f = sym e ∙ f

@@ -4,7 +4,7 @@ use mathlib.Core.Path.{_≡_}
 use mathlib.Core.List.{List}
 use Rattle.megaco.specs.Call.{Called}
 use Rattle.gateway.specs.declared.Outcome.{Outcome}
-use Rattle.gateway.specs.declared.Outcome.the-variants.{Taken, ReplyTooShort, TableUnsound, MidUnfit, MessageUnfit}
+use Rattle.gateway.specs.declared.Outcome.the-variants.{Taken, ReplyTooShort, TableUnsound, MidUnfit, MessageUnfit, LinesUnfit}
 
 -- 'Calls turned down': the number, 0 for a call that is taken
 unfoldable pub refusalOf : Outcome → ℕ
@@ -13,6 +13,7 @@ refusalOf ReplyTooShort = 3
 refusalOf TableUnsound = 2
 refusalOf MidUnfit = 4
 refusalOf MessageUnfit = 1
+refusalOf LinesUnfit = 8
 
 -- the reply's length: "Each gives length 0"
 unfoldable pub sizeOf : Outcome → ℕ
@@ -21,6 +22,7 @@ sizeOf ReplyTooShort = 0
 sizeOf TableUnsound = 0
 sizeOf MidUnfit = 0
 sizeOf MessageUnfit = 0
+sizeOf LinesUnfit = 0
 
 -- an answer, the table and the reply buffer after the call are those of the definition
 pub record Answered (c : Called) (t′ o′ : List ℕ) (r : Outcome) : Type 0 where
@@ -29,7 +31,11 @@ pub record Answered (c : Called) (t′ o′ : List ℕ) (r : Outcome) : Type 0 w
   pub table : t′ ≡ c .table
   pub reply : o′ ≡ c .reply
 
--- the same with the answer as one number of 64 bits: the length in the low 32, the refusal in the high 32
+-- the answer as one number of 64 bits: the length in the low 32, the refusal in the high 32
+unfoldable pub numberOf : Outcome → ℕ
+numberOf a = sizeOf a + 4294967296 * refusalOf a
+
+-- the same with that number
 pub record Packed (c : Called) (t′ o′ : List ℕ) (r : ℕ) : Type 0 where
   pub answer : r ≡ c .size + 4294967296 * c .refusal
   pub table : t′ ≡ c .table

@@ -1,23 +1,70 @@
-// The call: one message, a lent table, the gateway's own mId and a lent reply buffer.
+// The call: the lines fitted, one message, a lent table, the gateway's own mId and a lent reply buffer.
+ghost use mathlib.Core.Path.{_≡_};
+ghost use mathlib.Core.Bool.{true};
+ghost use Rattle.megaco.specs.Table.{words, mostLines};
+ghost use Rattle.megaco.specs.Names.{within};
 ghost use Rattle.megaco.specs.Call.{call};
-ghost use Rattle.gateway.specs.Answers.{Answered, Packed};
+ghost use Rattle.gateway.specs.Answers.{Answered};
 
-// What a call answers: the reply's length, or why it was turned down.
+// What a call answers: the reply's length, or why it was turned down (`refusalOf` gives the number of each).
 pub enum Outcome {
     Taken(usize),
     ReplyTooShort,
     TableUnsound,
     MidUnfit,
     MessageUnfit,
+    LinesUnfit,
 }
 
 // Reads the message, runs it on the table and writes the reply from the start of the buffer. A call that is turned down changes
 // neither.
-pub fn answer(message: &[u8], table: &mut [u32], own: &[u8], reply: &mut [u8]) -> Outcome
-    ensures { λ r. ⌜ Answered (call (now (message .entry)) (now (table .entry)) (now (own .entry)) (now (reply .entry))) (now (table .exit)) (now (reply .exit)) r ⌝ }
+pub fn answer(
+    lines: u32,
+    message: &[u8],
+    table: &mut [u32],
+    own: &[u8],
+    reply: &mut [u8],
+) -> Outcome
+    ensures { λ r. ⌜ Answered (call lines (now (message .entry)) (now (table .entry)) (now (own .entry)) (now (reply .entry))) (now (table .exit)) (now (reply .exit)) r ⌝ }
+{
+    if are_fitted(lines) {
+        return answer_fitted(lines, message, table, own, reply);
+    }
+    Outcome::LinesUnfit
+}
+
+// 1 to 16.
+fn are_fitted(lines: u32) -> bool
+    ensures { λ r. ⌜ r ≡ within lines mostLines ⌝ }
+{
+    (0 < lines) & (lines <= table::MOST_LINES)
+}
+
+// The words of a table of so many lines.
+fn words_of(lines: u32) -> usize
+    ensures { λ r. ⌜ r ≡ words lines ⌝ }
+{
+    let n = table::line_terminations(lines) + table::EPHEMERALS as usize;
+    n + n + table::CONTEXTS as usize
+}
+
+// A call with a good count of lines.
+fn answer_fitted(
+    lines: u32,
+    message: &[u8],
+    table: &mut [u32],
+    own: &[u8],
+    reply: &mut [u8],
+) -> Outcome
+    requires { ⌜ within lines mostLines ≡ true ⌝ }
+    ensures { λ r. ⌜ Answered (call lines (now (message .entry)) (now (table .entry)) (now (own .entry)) (now (reply .entry))) (now (table .exit)) (now (reply .exit)) r ⌝ }
 {
     if reply.len() < 16640 {
         return Outcome::ReplyTooShort;
+    }
+    let n = words_of(lines);
+    if table.len() != n {
+        return Outcome::TableUnsound;
     }
     if sound::is_sound(table) {
         if tokens::is_mid(own) {
@@ -30,25 +77,4 @@ pub fn answer(message: &[u8], table: &mut [u32], own: &[u8], reply: &mut [u8]) -
         return Outcome::MidUnfit;
     }
     Outcome::TableUnsound
-}
-
-// The same for C: the reply's length in the low 32 bits, document 01's number of the refusal in the high 32, 0 for a call that is
-// taken.
-#[no_mangle]
-pub extern "C" fn cordafina_answer(
-    message: &[u8],
-    table: &mut [u32],
-    own: &[u8],
-    reply: &mut [u8],
-) -> u64
-    ensures { λ r. ⌜ Packed (call (now (message .entry)) (now (table .entry)) (now (own .entry)) (now (reply .entry))) (now (table .exit)) (now (reply .exit)) r ⌝ }
-{
-    let a = answer(message, table, own, reply);
-    match a {
-        Outcome::Taken(n) => n as u64,
-        Outcome::ReplyTooShort => 3 * 4294967296,
-        Outcome::TableUnsound => 2 * 4294967296,
-        Outcome::MidUnfit => 4 * 4294967296,
-        Outcome::MessageUnfit => 4294967296,
-    }
 }

@@ -15,7 +15,7 @@ use Rattle.megaco.specs.declared.Op.the-variants.{Add, Modify, Subtract, Move}
 use Rattle.megaco.specs.declared.Range.{Range}
 use Rattle.megaco.specs.declared.Name.{Name}
 use Rattle.megaco.specs.declared.Name.the-variants.{Termination, Root, Chosen, Unchosen, Wildcard, Unmatched, Unknown}
-use Rattle.megaco.specs.Table.{lines, channels, ephemerals, terminations, words, ctx, get, contextWords, ephemeralContexts, exists, freeEphemeral}
+use Rattle.megaco.specs.Table.{channels, ephemerals, terminations, words, fitted, ctx, get, contextWords, ephemeralContexts, exists, freeEphemeral}
 use Rattle.megaco.specs.Names.{within, lineName, ephemeralName, plainName, lineRange, wildcardName, capitalName, nameOf, inRange}
 use Rattle.megaco.specs.Running.{wanted, matchesFrom, matches, Aim, misses, gateway, meets, isAdd, isModify, aimRoot, aimFree, aimMatches, aim}
 use Rattle.base.proofs.TestLaws.{clash, and-both, pick-of}
@@ -25,39 +25,42 @@ use Rattle.laws.specs.Sound.{context-words, context-at, ephemeral-contex
 -- ---- names
 
 -- a name of a termination means one of the table
-pub data Low : Name → Type 0 where
-  low : {i : ℕ} → i < terminations → Low (Termination i)
-  root : Low Root
-  chosen : Low Chosen
-  unchosen : Low Unchosen
-  wildcard : {r : Range} → Low (Wildcard r)
-  unmatched : Low Unmatched
-  unknown : Low Unknown
+pub data Low (n : ℕ) : Name → Type 0 where
+  low : {i : ℕ} → i < terminations n → Low n (Termination i)
+  root : Low n Root
+  chosen : Low n Chosen
+  unchosen : Low n Unchosen
+  wildcard : {r : Range} → Low n (Wildcard r)
+  unmatched : Low n Unmatched
+  unknown : Low n Unknown
 
 within-both : (x m : ℕ) → within x m ≡ true → (0 < x) × (x ≤ m)
 unfolding within
 within-both x m e = let b = and-both (ltb 0 x) (leb x m) e in (ltb-true 0 x (b .0), leb-true x m (b .1))
 
-line-low : (l s : ℕ) → Low (lineName l s)
+line-low : (n l s : ℕ) → Low n (lineName n l s)
 unfolding lineName
-line-low l s = pick-of Low _ (λ e. let b = and-both _ _ e in let p = within-both l lines (b .0) in let q = within-both s channels (b .1) in low (omega arith)) (λ _. unknown)
+line-low n l s = pick-of (Low n) _ (λ e. let b = and-both _ _ e in let p = within-both l n (b .0) in let q = within-both s channels (b .1) in low (omega arith)) (λ _. unknown)
 
-ephemeral-low : (n : ℕ) → Low (ephemeralName n)
+ephemeral-low : (n k : ℕ) → Low n (ephemeralName n k)
 unfolding ephemeralName
-ephemeral-low n = pick-of Low _ (λ e. let p = within-both n ephemerals e in low (omega arith)) (λ _. unknown)
+ephemeral-low n k = pick-of (Low n) _ (λ e. let p = within-both k ephemerals e in low (omega arith)) (λ _. unknown)
 
-pub name-low : (n : List ℕ) → Low (nameOf n)
+pub name-low : (n : ℕ) (x : List ℕ) → Low n (nameOf n x)
 unfolding nameOf capitalName wildcardName lineRange plainName
-name-low n =
-    pick-of Low _ (λ _. root) (λ _. pick-of Low _ (λ _. pick-of Low _ (λ _. chosen) (λ _. unchosen)) (λ _. pick-of Low _
-    (λ _. pick-of Low _ (λ _. wildcard) (λ _. pick-of Low _ (λ _. wildcard) (λ _. pick-of Low _ (λ _. wildcard) (λ _. pick-of Low _ (λ _. wildcard) (λ _. unmatched)))))
-    (λ _. pick-of Low _ (λ _. line-low _ _) (λ _. pick-of Low _ (λ _. ephemeral-low _) (λ _. unknown)))))
+name-low n x =
+    pick-of L _ (λ _. root) (λ _. pick-of L _ (λ _. pick-of L _ (λ _. chosen) (λ _. unchosen)) (λ _. pick-of L _
+    (λ _. pick-of L _ (λ _. wildcard) (λ _. pick-of L _ (λ _. wildcard) (λ _. pick-of L _ (λ _. wildcard) (λ _. pick-of L _ (λ _. wildcard) (λ _. unmatched)))))
+    (λ _. pick-of L _ (λ _. line-low n _ _) (λ _. pick-of L _ (λ _. ephemeral-low n _) (λ _. unknown)))))
+  where
+    L : Name → Type 0
+    L = Low n
 
 -- ---- terminations meant
 
 pub record Meant (op : Op) (t : List ℕ) (i : ℕ) : Type 0 where
-  pub small : i < terminations
-  pub there : isModify op ≡ true → exists i (get t (ctx i)) ≡ true
+  pub small : i < terminations (fitted t)
+  pub there : isModify op ≡ true → exists (fitted t) i (get t (ctx i)) ≡ true
 
 pub data Each (P : ℕ → Type 0) : List ℕ → Type 0 where
   no-more : Each P []
@@ -73,16 +76,16 @@ pub data Aims (op : Op) (t : List ℕ) : Aim → Type 0 where
   those : {wild : Bool} {is : List ℕ} → Each (Meant op t) is → Aims op t (meets wild is)
 
 -- matches from number i on, with the rest of the context words
-matches-meant : (op : Op) (c : ℕ) (r : Range) (t : List ℕ) (i : ℕ) (xs : List ℕ) → i + length xs ≤ terminations
-    → ((k : ℕ) → k < length xs → getD xs k 0 ≡ get t (ctx (i + k))) → Each (Meant op t) (matchesFrom op c r i xs)
+matches-meant : (op : Op) (c : ℕ) (r : Range) (t : List ℕ) (i : ℕ) (xs : List ℕ) → i + length xs ≤ terminations (fitted t)
+    → ((k : ℕ) → k < length xs → getD xs k 0 ≡ get t (ctx (i + k))) → Each (Meant op t) (matchesFrom (fitted t) op c r i xs)
 unfolding matchesFrom
 matches-meant op c r t i [] h f = no-more
 matches-meant op c r t i (x ∷ xs) h f =
     let rest = matches-meant op c r t (i + 1) xs (omega arith) (λ k b. let n : i + 1 + k ≡ i + suc k = omega arith in rw n (f (suc k) (omega arith))) in
     let here : x ≡ get t (ctx i) = rw add-zero at (f 0 (omega arith)) in
     pick-of (Each (Meant op t)) _
-    (λ e. let b = and-both (inRange r i && exists i x) (wanted op c x) e in
-    more (record { small = omega arith; there = λ _. rw (← here) (and-both (inRange r i) (exists i x) (b .0) .1) }) rest) (λ _. rest)
+    (λ e. let b = and-both (inRange (fitted t) r i && exists (fitted t) i x) (wanted op c x) e in
+    more (record { small = omega arith; there = λ _. rw (← here) (and-both (inRange (fitted t) r i) (exists (fitted t) i x) (b .0) .1) }) rest) (λ _. rest)
 
 root-meant : (op : Op) (t : List ℕ) (at : Context) (items : Bool) → Aims op t (aimRoot op at items)
 unfolding aimRoot
@@ -96,7 +99,7 @@ add-only Modify e h = clash e
 add-only Subtract e h = clash e
 add-only Move e h = clash e
 
-free-meant : (op : Op) (t : List ℕ) → length t ≡ words → not (isAdd op) ≡ false → Aims op t (aimFree (freeEphemeral t))
+free-meant : (op : Op) (t : List ℕ) → length t ≡ words (fitted t) → not (isAdd op) ≡ false → Aims op t (aimFree (fitted t) (freeEphemeral t))
 unfolding aimFree freeEphemeral
 free-meant op t l a =
     let n : ℕ = lowestAbsent 1 (ephemeralContexts t) in
@@ -109,7 +112,7 @@ unfolding aimMatches
 wild-meant op t [] h = nobody
 wild-meant op t (i ∷ is) h = those h
 
-pub aim-meant : (op : Op) (at : Context) (items : Bool) (n : Name) (t : List ℕ) → length t ≡ words → Low n → Aims op t (aim op at items n t)
+pub aim-meant : (op : Op) (at : Context) (items : Bool) (n : Name) (t : List ℕ) → length t ≡ words (fitted t) → Low (fitted t) n → Aims op t (aim op at items n t)
 unfolding aim matches
 aim-meant op at items Root t l h = root-meant op t at items
 aim-meant op at items Chosen t l h = pick-of (Aims op t) _ (λ _. nobody) (λ e. free-meant op t l e)

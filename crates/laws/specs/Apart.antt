@@ -5,7 +5,7 @@ use mathlib.Core.List.{List, [], _∷_}
 use Rattle.megaco.specs.Bytes.{star, dollar}
 use Rattle.megaco.specs.Tree.{Command, command, Action, action, Transaction, transaction, wellFormed}
 use Rattle.megaco.specs.Reading.{messageR}
-use Rattle.megaco.specs.Table.{ctx, get}
+use Rattle.megaco.specs.Table.{fitted, ctx, get}
 use Rattle.megaco.specs.Names.{nameOf}
 use Rattle.megaco.specs.declared.Context.{Context}
 use Rattle.megaco.specs.declared.Context.the-variants.{Null, Numbered}
@@ -57,22 +57,22 @@ abbrev pub NamesPlain : Transaction → Type 0
 NamesPlain x = (n : List ℕ) → n ∈ namesOf x → (star ∈ n → ⊥) × (dollar ∈ n → ⊥)
 
 -- "It names each line and ephemeral, existing or not, that is written in it as a termination, in either letter case .. ; `ROOT` and unknown
--- names name none": `nameOf` ignores letter case and asks no table
-pub record Names (x : Transaction) (i : ℕ) : Type 0 where
+-- names name none": `nameOf` ignores letter case and is told how many lines are fitted
+pub record Names (lines : ℕ) (x : Transaction) (i : ℕ) : Type 0 where
   pub name : List ℕ
   pub written : name ∈ namesOf x
-  pub means : nameOf name ≡ Termination i
+  pub means : nameOf lines name ≡ Termination i
 
 -- "the numbered contexts each names, with the numbered ones its terminations stand in at the start": t is the table at the start of both
 pub data Reaches (t : List ℕ) (x : Transaction) (c : ℕ) : Type 0 where
   writes : Numbered c ∈ contextsOf x → Reaches t x c
-  stands : (i : ℕ) → Names x i → get t (ctx i) ≡ c → Reaches t x c
+  stands : (i : ℕ) → Names (fitted t) x i → get t (ctx i) ≡ c → Reaches t x c
 
 -- ---- two transactions
 
 -- "no termination is named by both"
-abbrev pub TerminationsApart : Transaction → Transaction → Type 0
-TerminationsApart x y = (i : ℕ) → Names x i → Names y i → ⊥
+abbrev pub TerminationsApart : ℕ → Transaction → Transaction → Type 0
+TerminationsApart lines x y = (i : ℕ) → Names lines x i → Names lines y i → ⊥
 
 -- "the numbered contexts .. are apart from the other's"; 0 is null in the table, and two transactions may both stand there
 abbrev pub ContextsApart : List ℕ → Transaction → Transaction → Type 0
@@ -83,5 +83,5 @@ pub record Apart (t : List ℕ) (x y : Transaction) : Type 0 where
   pub contexts-two : ContextsPlain y
   pub names-one : NamesPlain x
   pub names-two : NamesPlain y
-  pub terminations : TerminationsApart x y
+  pub terminations : TerminationsApart (fitted t) x y
   pub contexts : ContextsApart t x y

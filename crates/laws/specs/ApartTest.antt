@@ -9,7 +9,7 @@ use borrow.Author.Tests.{not-true}
 use Rattle.base.specs.Lists.{has}
 use Rattle.megaco.specs.Bytes.{star, dollar}
 use Rattle.megaco.specs.Tree.{Transaction}
-use Rattle.megaco.specs.Table.{ctx, get}
+use Rattle.megaco.specs.Table.{fitted, ctx, get}
 use Rattle.megaco.specs.Names.{nameOf}
 use Rattle.megaco.specs.declared.Context.{Context}
 use Rattle.megaco.specs.declared.Context.the-variants.{Null, Numbered, Choose, All}
@@ -53,8 +53,8 @@ writtenNumber Choose = none
 writtenNumber All = none
 
 -- the terminations named, the contexts written, the context words of terminations
-unfoldable pub named : Transaction → List ℕ
-named x = collect (λ n. terminationOf (nameOf n)) (namesOf x)
+unfoldable pub named : ℕ → Transaction → List ℕ
+named lines x = collect (λ n. terminationOf (nameOf lines n)) (namesOf x)
 
 unfoldable pub numbered : Transaction → List ℕ
 numbered x = collect writtenNumber (contextsOf x)
@@ -64,16 +64,16 @@ standing t is = collect (λ i. some (get t (ctx i))) is
 
 -- the contexts written, and those that the terminations named stand in
 unfoldable pub reached : List ℕ → Transaction → List ℕ
-reached t x = numbered x ++ standing t (named x)
+reached t x = numbered x ++ standing t (named (fitted t) x)
 
-unfoldable pub terminationsApart? : Transaction → Transaction → Bool
-terminationsApart? x y = noneShared? (named x) (named y)
+unfoldable pub terminationsApart? : ℕ → Transaction → Transaction → Bool
+terminationsApart? lines x y = noneShared? (named lines x) (named lines y)
 
 unfoldable pub contextsApart? : List ℕ → Transaction → Transaction → Bool
 contextsApart? t x y = onlyZeroShared? (reached t x) (reached t y)
 
 unfoldable pub apart? : List ℕ → Transaction → Transaction → Bool
-apart? t x y = contextsPlain? x && contextsPlain? y && namesPlain? x && namesPlain? y && terminationsApart? x y && contextsApart? t x y
+apart? t x y = contextsPlain? x && contextsPlain? y && namesPlain? x && namesPlain? y && terminationsApart? (fitted t) x y && contextsApart? t x y
 
 -- ---- contexts
 
@@ -121,21 +121,21 @@ termination-is (Wildcard r) i e = cc
 termination-is Unmatched i e = cc
 termination-is Unknown i e = cc
 
-names-named : (x : Transaction) (i : ℕ) → Names x i → i ∈ named x
+names-named : (lines : ℕ) (x : Transaction) (i : ℕ) → Names lines x i → i ∈ named lines x
 unfolding named terminationOf
-names-named x i m = in-collect (λ n. terminationOf (nameOf n)) (namesOf x) (m .name) i (m .written) (ap terminationOf (m .means))
+names-named lines x i m = in-collect (λ n. terminationOf (nameOf lines n)) (namesOf x) (m .name) i (m .written) (ap terminationOf (m .means))
 
-named-names : (x : Transaction) (i : ℕ) → i ∈ named x → Names x i
+named-names : (lines : ℕ) (x : Transaction) (i : ℕ) → i ∈ named lines x → Names lines x i
 unfolding named
-named-names x i m =
-    let r = collect-in (λ n. terminationOf (nameOf n)) (namesOf x) i m in
-    record { name = r .0; written = r .1; means = termination-is (nameOf (r .0)) i (r .2) }
+named-names lines x i m =
+    let r = collect-in (λ n. terminationOf (nameOf lines n)) (namesOf x) i m in
+    record { name = r .0; written = r .1; means = termination-is (nameOf lines (r .0)) i (r .2) }
 
-pub terminations-apart-is : (x y : Transaction) → terminationsApart? x y ≡ true ↔ TerminationsApart x y
+pub terminations-apart-is : (lines : ℕ) (x y : Transaction) → terminationsApart? lines x y ≡ true ↔ TerminationsApart lines x y
 unfolding terminationsApart?
-terminations-apart-is x y = (
-  λ e i m k. none-shared (named x) (named y) .0 e i (names-named x i m) (names-named y i k),
-  λ h. none-shared (named x) (named y) .1 (λ i m k. h i (named-names x i m) (named-names y i k)),
+terminations-apart-is lines x y = (
+  λ e i m k. none-shared (named lines x) (named lines y) .0 e i (names-named lines x i m) (names-named lines y i k),
+  λ h. none-shared (named lines x) (named lines y) .1 (λ i m k. h i (named-names lines x i m) (named-names lines y i k)),
 )
 
 -- ---- contexts reached
@@ -153,16 +153,16 @@ some-is a b e = cc
 module _ (t : List ℕ) (x : Transaction) where
   reaches-reached : (c : ℕ) → Reaches t x c → c ∈ reached t x
   unfolding reached numbered standing writtenNumber
-  reaches-reached c (writes m) = Memᴰ·append-left (standing t (named x)) (in-collect writtenNumber (contextsOf x) (Numbered c) c m refl)
-  reaches-reached c (stands i m e) = Memᴰ·append-right (numbered x) (in-collect (λ j. some (get t (ctx j))) (named x) i c (names-named x i m) (ap some e))
+  reaches-reached c (writes m) = Memᴰ·append-left (standing t (named (fitted t) x)) (in-collect writtenNumber (contextsOf x) (Numbered c) c m refl)
+  reaches-reached c (stands i m e) = Memᴰ·append-right (numbered x) (in-collect (λ j. some (get t (ctx j))) (named (fitted t) x) i c (names-named (fitted t) x i m) (ap some e))
 
   reached-reaches : (c : ℕ) → c ∈ reached t x → Reaches t x c
   unfolding reached numbered standing
   reached-reaches c m = by (List·Memᴰ·append-cases (numbered x) m)
     where
-      by : (c ∈ numbered x) ⊎ (c ∈ standing t (named x)) → Reaches t x c
+      by : (c ∈ numbered x) ⊎ (c ∈ standing t (named (fitted t) x)) → Reaches t x c
       by (inl m) = let r = collect-in writtenNumber (contextsOf x) c m in writes (subst (λ (w : Context). w ∈ contextsOf x) (number-is (r .0) c (r .2)) (r .1))
-      by (inr m) = let r = collect-in (λ j. some (get t (ctx j))) (named x) c m in stands (r .0) (named-names x (r .0) (r .1)) (some-is _ c (r .2))
+      by (inr m) = let r = collect-in (λ j. some (get t (ctx j))) (named (fitted t) x) c m in stands (r .0) (named-names (fitted t) x (r .0) (r .1)) (some-is _ c (r .2))
 
 pub contexts-apart-is : (t : List ℕ) (x y : Transaction) → contextsApart? t x y ≡ true ↔ ContextsApart t x y
 unfolding contextsApart?
@@ -181,8 +181,8 @@ apart-is t x y = (
     contexts-two = contexts-plain-is y .0 (search (and-left, and-right));
     names-one = names-plain-is x .0 (search (and-left, and-right));
     names-two = names-plain-is y .0 (search (and-left, and-right));
-    terminations = terminations-apart-is x y .0 (search (and-left, and-right));
+    terminations = terminations-apart-is (fitted t) x y .0 (search (and-left, and-right));
     contexts = contexts-apart-is t x y .0 (search (and-left, and-right));
   },
-  λ A. rw (contexts-plain-is x .1 (A .contexts-one), contexts-plain-is y .1 (A .contexts-two), names-plain-is x .1 (A .names-one), names-plain-is y .1 (A .names-two), terminations-apart-is x y .1 (A .terminations), contexts-apart-is t x y .1 (A .contexts)),
+  λ A. rw (contexts-plain-is x .1 (A .contexts-one), contexts-plain-is y .1 (A .contexts-two), names-plain-is x .1 (A .names-one), names-plain-is y .1 (A .names-two), terminations-apart-is (fitted t) x y .1 (A .terminations), contexts-apart-is t x y .1 (A .contexts)),
 )

@@ -15,11 +15,12 @@ use Rattle.megaco.specs.declared.Op.the-variants.{Add, Modify, Subtract, Move}
 use Rattle.megaco.specs.declared.Values.{Values}
 use Rattle.megaco.specs.declared.Seen.{Seen}
 use Rattle.megaco.specs.declared.View.{View}
-use Rattle.megaco.specs.Table.{lineTerminations, terminations, contexts, most, prop, rec, ctx, cell, get, Write, apply, recordWords, isEphemeral, exists, known, members, freeContext}
+use Rattle.megaco.specs.Table.{lineTerminations, terminations, contexts, fitted, most, prop, rec, ctx, cell, get, Write, write, apply, recordWords, isEphemeral, exists, known, members, freeContext}
 use Rattle.megaco.specs.Items.{update}
 use Rattle.megaco.specs.Running.{unseen, seen, numberOf, freeAt, look, isChoose, target, roomChecks, checks, joining, leaving, placed, added, subtracted, changes, settled, isModify, Result, attempt, Effect, concluded, effect, tries}
 use Rattle.base.proofs.TestLaws.{clash, and-both, both-and, pick-of}
 use Rattle.laws.specs.Passed.{Passed, judged}
+use Rattle.laws.specs.Slots.{fitted-apply}
 use Rattle.laws.specs.Counting.{member, lowest}
 use Rattle.laws.specs.Sound.{SoundWord, Whole, alive, record-words, record-at}
 use Rattle.laws.specs.Values.{Fair, update-sound}
@@ -139,9 +140,9 @@ pub record Leaves (op : Op) (at : Context) (t u : List ℕ) : Type 0 where
   pub meant : (j : ℕ) → Meant op t j → Meant op u j
 
 -- the writes of an attempt: each of these laws knows one of the definitions
-placed-moves : (g d i x y : ℕ) → i < terminations → Moves false false g d i x y (placed i x y)
+placed-moves : (n g d i x y : ℕ) → i < terminations n → Moves n false false g d i x y (placed i x y)
 unfolding placed pick
-placed-moves g d i x y h =
+placed-moves n g d i x y h =
     record {
       within = omega arith;
       context = λ j v. refl;
@@ -149,11 +150,11 @@ placed-moves g d i x y h =
       record′ = λ c v. rw (and-false (eqb x c), and-false (eqb d c));
     }
 
-joining-moves : (at : Context) (g d i y : ℕ) (v : View) (t : List ℕ) → Target at t (target at v) → i < terminations
-    → Moves (isChoose at) false g d i (target at v) y (joining at g v (placed i (target at v) y))
+joining-moves : (at : Context) (g d i y : ℕ) (v : View) (t : List ℕ) → Target at t (target at v) → i < terminations (fitted t)
+    → Moves (fitted t) (isChoose at) false g d i (target at v) y (joining at g v (placed i (target at v) y))
 unfolding joining target placed pick
 joining-moves at g d i y v t T h =
-    pick-of (Moves (isChoose at) false g d i (target at v) y) (isChoose at)
+    pick-of (Moves (fitted t) (isChoose at) false g d i (target at v) y) (isChoose at)
     (λ e. let n : target at v ≡ v .free = rw e in
     record {
       within = omega arith;
@@ -169,11 +170,11 @@ joining-moves at g d i y v t T h =
       record′ = λ c w. rw (e, and-false (eqb (numberOf at) c), and-false (eqb d c));
     })
 
-leaving-moves : (new : Bool) (g i x y : ℕ) (v : View) (ws : List Write) → 0 < v .here → v .here ≤ contexts → Moves new false g (v .here) i x y ws
-    → Moves new (leb (v .from .members) 1) g (v .here) i x y (leaving v ws)
+leaving-moves : (n : ℕ) (new : Bool) (g i x y : ℕ) (v : View) (ws : List Write) → 0 < v .here → v .here ≤ contexts → Moves n new false g (v .here) i x y ws
+    → Moves n new (leb (v .from .members) 1) g (v .here) i x y (leaving v ws)
 unfolding leaving pick
-leaving-moves new g i x y v ws p q M =
-    pick-of (Moves new (leb (v .from .members) 1) g (v .here) i x y) (leb (v .from .members) 1)
+leaving-moves n new g i x y v ws p q M =
+    pick-of (Moves n new (leb (v .from .members) 1) g (v .here) i x y) (leb (v .from .members) 1)
     (λ e. record {
       within = search M;
       context = M .context;
@@ -188,7 +189,7 @@ leaving-moves new g i x y v ws p q M =
     })
 
 -- a context that is joined
-joined : (at : Context) (g d i x y : ℕ) (t : List ℕ) (last : Bool) → Target at t x → Present g → i < terminations → get t (ctx i) ≡ d → x ≢ d → SoundWord y
+joined : (at : Context) (g d i x y : ℕ) (t : List ℕ) (last : Bool) → Target at t x → Present g → i < terminations (fitted t) → get t (ctx i) ≡ d → x ≢ d → SoundWord y
     → (0 < d → last ≡ leb (members d t) 1) → Goes t (isChoose at) last g d i x y
 joined at g d i x y t last T G h e n s ends =
     record {
@@ -205,7 +206,7 @@ joined at g d i x y t last T G h e n s ends =
     }
 
 -- it exists then
-joined-there : (at : Context) (i : ℕ) (v : View) (t u : List ℕ) → Joins at t → Target at t (target at v) → i < terminations → Whole u → get u (ctx i) ≡ target at v
+joined-there : (at : Context) (i : ℕ) (v : View) (t u : List ℕ) → Joins at t → Target at t (target at v) → i < terminations (fitted u) → Whole u → get u (ctx i) ≡ target at v
     → Joins (settled at v) u
 unfolding settled target isChoose numberOf pick
 joined-there at i v t u j T h W e = by at j T e
@@ -218,28 +219,28 @@ joined-there at i v t u j T h W e = by at j T e
     by (Numbered c) (there p q _) T e = there p q (held c p q e)
 
 -- the context that it stands in
-here-low : (i : ℕ) (t : List ℕ) → Whole t → i < terminations → 0 < get t (ctx i) → seen (get t (ctx i)) t .members ≡ members (get t (ctx i)) t
+here-low : (i : ℕ) (t : List ℕ) → Whole t → i < terminations (fitted t) → 0 < get t (ctx i) → seen (get t (ctx i)) t .members ≡ members (get t (ctx i)) t
 here-low i t W h p = seen-members (get t (ctx i)) t p (W .place i h)
 
-added-sound : (i w : ℕ) → SoundWord w → SoundWord (added i w)
+added-sound : (n i w : ℕ) → SoundWord w → SoundWord (added n i w)
 unfolding added
-added-sound i w s = pick-of SoundWord (isEphemeral i) (λ _. omega arith) (λ _. s)
+added-sound n i w s = pick-of SoundWord (isEphemeral n i) (λ _. omega arith) (λ _. s)
 
-subtracted-sound : (i w : ℕ) → SoundWord w → SoundWord (subtracted i w)
+subtracted-sound : (n i w : ℕ) → SoundWord w → SoundWord (subtracted n i w)
 unfolding subtracted
-subtracted-sound i w s = pick-of SoundWord (isEphemeral i) (λ _. omega arith) (λ _. omega arith)
+subtracted-sound n i w s = pick-of SoundWord (isEphemeral n i) (λ _. omega arith) (λ _. omega arith)
 
-subtracted-zero : (i w : ℕ) → lineTerminations ≤ i → subtracted i w ≡ 0
+subtracted-zero : (n i w : ℕ) → lineTerminations n ≤ i → subtracted n i w ≡ 0
 unfolding subtracted isEphemeral pick
-subtracted-zero i w h = rw (le-leb lineTerminations i h)
+subtracted-zero n i w h = rw (le-leb (lineTerminations n) i h)
 
 -- an absent ephemeral does not exist
-absent-gone : (i word : ℕ) → lineTerminations ≤ i → word ≡ 0 → exists i word ≡ true → ⊥
+absent-gone : (n i word : ℕ) → lineTerminations n ≤ i → word ≡ 0 → exists n i word ≡ true → ⊥
 unfolding exists isEphemeral
-absent-gone i word h z e = clash (sym (rw (le-leb lineTerminations i h, eq-eqb word 0 z) at e))
+absent-gone n i word h z e = clash (sym (rw (le-leb (lineTerminations n) i h, eq-eqb word 0 z) at e))
 
 -- a Move goes elsewhere: a new context has no record, and that of the termination has one
-moved-away : (at : Context) (i x : ℕ) (t : List ℕ) → Whole t → Target at t x → i < terminations → 0 < get t (ctx i) → get t (ctx i) ≢ numberOf at → x ≢ get t (ctx i)
+moved-away : (at : Context) (i x : ℕ) (t : List ℕ) → Whole t → Target at t x → i < terminations (fitted t) → 0 < get t (ctx i) → get t (ctx i) ≢ numberOf at → x ≢ get t (ctx i)
 moved-away at i x t W T h p n e = by (isChoose at) refl
   where
     by : (b : Bool) → isChoose at ≡ b → ⊥
@@ -249,42 +250,42 @@ moved-away at i x t W T h p n e = by (isChoose at) refl
 -- a termination that joins
 arrives : (op : Op) (at : Context) (given d i y : ℕ) (t : List ℕ) (last : Bool) (ws : List Write) → isModify op ≡ false
     → ((c : Context) (u : List ℕ) → Joins c u → Ready op c u) → Whole t → Joins at t → Target at t (target at (look at i t))
-    → Moves (isChoose at) last given d i (target at (look at i t)) y ws → Goes t (isChoose at) last given d i (target at (look at i t)) y
+    → Moves (fitted t) (isChoose at) last given d i (target at (look at i t)) y ws → Goes t (isChoose at) last given d i (target at (look at i t)) y
     → Leaves op (settled at (look at i t)) t (apply ws t)
 arrives op at given d i y t last ws n r W j T m g =
     let x : ℕ = target at (look at i t) in
     let S = moved-sound t (isChoose at) last given d i x y ws W m g in
     record {
       whole = S;
-      ready = r _ _ (joined-there at i (look at i t) t (apply ws t) j T (g .small) S (moved-here t (isChoose at) last given d i x y ws W m g));
-      meant = λ k u. record { small = u .small; there = λ e. absurd (clash (sym e ∙ n)) };
+      ready = r _ _ (joined-there at i (look at i t) t (apply ws t) j T (rw (fitted-apply ws t) (g .small)) S (moved-here t (isChoose at) last given d i x y ws W m g));
+      meant = λ k u. record { small = rw (fitted-apply ws t) (u .small); there = λ e. absurd (clash (sym e ∙ n)) };
     }
 
 -- a termination that goes to null
-departs : (c given i : ℕ) (t : List ℕ) → Whole t → 0 < c → i < terminations → get t (ctx i) ≡ numberOf (Numbered c)
-    → Leaves Subtract (settled (Numbered c) (look (Numbered c) i t)) t (apply (leaving (look (Numbered c) i t) (placed i 0 (subtracted i (get t (cell (prop i)))))) t)
+departs : (c given i : ℕ) (t : List ℕ) → Whole t → 0 < c → i < terminations (fitted t) → get t (ctx i) ≡ numberOf (Numbered c)
+    → Leaves Subtract (settled (Numbered c) (look (Numbered c) i t)) t (apply (leaving (look (Numbered c) i t) (placed i 0 (subtracted (fitted t) i (get t (cell (prop i)))))) t)
 unfolding look numberOf settled isChoose isModify pick
 departs c given i t W h k e =
     let w : ℕ = get t (cell (prop i)) in
     let d : ℕ = get t (ctx i) in
     let b : 0 < d = rw e h in
     record {
-      whole = moved-sound t false (leb (seen d t .members) 1) given d i 0 (subtracted i w) _ W
-          (leaving-moves false given i 0 (subtracted i w) (look (Numbered c) i t) _ b (W .place i k) (placed-moves given d i 0 (subtracted i w) k))
+      whole = moved-sound t false (leb (seen d t .members) 1) given d i 0 (subtracted (fitted t) i w) _ W
+          (leaving-moves (fitted t) false given i 0 (subtracted (fitted t) i w) (look (Numbered c) i t) _ b (W .place i k) (placed-moves (fitted t) given d i 0 (subtracted (fitted t) i w) k))
           (record {
             small = k;
             from = refl;
             away = λ z. omega arith;
             low = omega arith;
-            word = subtracted-sound i w (W .word i k);
-            absent = λ z _. subtracted-zero i w z;
+            word = subtracted-sound (fitted t) i w (W .word i k);
+            absent = λ z _. subtracted-zero (fitted t) i w z;
             room = λ z. absurd (omega arith);
             made = λ z. absurd (clash (sym z));
             there = λ _ z. absurd (omega arith);
             ends = λ z. ap (λ (m : ℕ). leb m 1) (here-low i t W k z);
           });
       ready = stands h;
-      meant = λ j m. record { small = m .small; there = λ z. absurd (clash (sym z)) };
+      meant = λ j m. record { small = rw (fitted-apply (leaving (look (Numbered c) i t) (placed i 0 (subtracted (fitted t) i w))) t) (m .small); there = λ z. absurd (clash (sym z)) };
     }
 
 pub attempt-sound : (op : Op) (at : Context) (given i : ℕ) (vs : Values) (t : List ℕ) → Whole t → Ready op at t → Meant op t i → Present given → Fair vs
@@ -292,18 +293,18 @@ pub attempt-sound : (op : Op) (at : Context) (given i : ℕ) (vs : Values) (t : 
 unfolding changes look isModify
 attempt-sound Add at given i vs t W j M G F p =
     let v : View = look at i t in
-    let w : ℕ = added i (get t (cell (prop i))) in
+    let w : ℕ = added (fitted t) i (get t (cell (prop i))) in
     let q = may-add at v p in
     let T = targeted at i t W j (q .1) in
     arrives Add at given 0 i (update vs w) t false _ refl (λ c u k. k) W j T (joining-moves at given 0 i (update vs w) v t T (M .small))
     (joined at given 0 i (target at v) (update vs w) t false T G (M .small) (q .0) (λ z. omega (arith, T .some))
-    (update-sound vs w F (added-sound i (get t (cell (prop i))) (W .word i (M .small)))) (λ z. absurd (omega arith)))
+    (update-sound vs w F (added-sound (fitted t) i (get t (cell (prop i))) (W .word i (M .small)))) (λ z. absurd (omega arith)))
 attempt-sound Modify at given i vs t W j M G F p =
     let w : ℕ = get t (cell (prop i)) in
     record {
-      whole = modified-sound t i (update vs w) W (M .small) (update-sound vs w F (W .word i (M .small))) (λ k z. absurd (absent-gone i (get t (ctx i)) k z (M .there refl)));
+      whole = modified-sound t i (update vs w) W (M .small) (update-sound vs w F (W .word i (M .small))) (λ k z. absurd (absent-gone (fitted t) i (get t (ctx i)) k z (M .there refl)));
       ready = tt;
-      meant = λ k m. record { small = m .small; there = λ e. rw (modified-place t i (update vs w) (W .long) (M .small) k (m .small)) (m .there e) };
+      meant = λ k m. record { small = rw (fitted-apply (write (cell (prop i)) (update vs w) ∷ []) t) (m .small); there = λ e. rw (fitted-apply (write (cell (prop i)) (update vs w) ∷ []) t, modified-place t i (update vs w) (W .long) (M .small) k (m .small)) (m .there e) };
     }
 attempt-sound Subtract (Numbered c) given i vs t W (stands h) M G F p = departs c given i t W h (M .small) (may-subtract (Numbered c) (look (Numbered c) i t) p)
 attempt-sound Move at given i vs t W j M G F p =
@@ -314,7 +315,7 @@ attempt-sound Move at given i vs t W j M G F p =
     let b : 0 < d = omega (arith, q .0) in
     let T = targeted at i t W j (q .2) in
     arrives Move at given d i (update vs w) t (leb (seen d t .members) 1) _ refl (λ c u k. k) W j T
-    (leaving-moves (isChoose at) given i (target at v) (update vs w) v _ b (W .place i (M .small)) (joining-moves at given d i (update vs w) v t T (M .small)))
+    (leaving-moves (fitted t) (isChoose at) given i (target at v) (update vs w) v _ b (W .place i (M .small)) (joining-moves at given d i (update vs w) v t T (M .small)))
     (joined at given d i (target at v) (update vs w) t (leb (seen d t .members) 1) T G (M .small) refl (moved-away at i (target at v) t W T (M .small) b (q .1))
     (update-sound vs w F (W .word i (M .small))) (λ z. ap (λ (m : ℕ). leb m 1) (here-low i t W (M .small) z)))
 

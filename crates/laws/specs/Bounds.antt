@@ -6,7 +6,7 @@ use mathlib.Core.Bool.{true, and-eq-true-iff}
 use mathlib.Core.List.{List, [], _∷_}
 use lib.ListN.{length, take, drop}
 use lib.Dec.{ltb, leb, eqb}
-use borrow.Author.Tests.{ltb-false, leb-true, eqb-false, not-false}
+use borrow.Author.Tests.{ltb-false, leb-true, eqb-true, eqb-false, not-false}
 use native.Mathlib.Omega.{arith}
 use Rattle.base.specs.Bytes.{_then_}
 use Rattle.base.proofs.PickLaws.{pick-ind}
@@ -22,7 +22,8 @@ use Rattle.megaco.specs.Tree.{Action, Transaction, transaction, Message, wellFo
 use Rattle.megaco.specs.Reading.{Read, got, fault, elsewhere, numbered, inside, followed, endOr, bracesThen, transactionsR, messageR}
 use Rattle.megaco.specs.Reply.{Acted, errorText, replyText, limited, transactionText, headerText}
 use Rattle.megaco.specs.Running.{state, fresh, run, steps, runTransaction, runTransactions, runMessage}
-use Rattle.megaco.specs.Table.{sound}
+use Rattle.megaco.specs.Table.{mostLines, words, sound}
+use Rattle.megaco.specs.Names.{within}
 use Rattle.megaco.specs.Call.{Called, turnedDown, written, replied, taken, call}
 
 -- ---- what is read: at most 8 transactions, each with an identifier of 32 bits
@@ -162,16 +163,18 @@ unfolding isMid
 own-fits own e = leb-true _ _ (and-eq-true-iff (leb (length own) 64) _ .0 e .0)
 
 -- what holds of each way to turn a call down, and of a call that is taken, holds of every call
-pub call-ind : (P : Called → Type 0) (m t own o : List ℕ) → ((n : ℕ) → 0 < n → P (turnedDown n t o))
-    → (16640 ≤ length o → sound t ≡ true → isMid own ≡ true → 0 < length m → length m ≤ 4096 → P (taken m t own o)) → P (call m t own o)
+pub call-ind : (P : Called → Type 0) (n : ℕ) (m t own o : List ℕ) → ((k : ℕ) → 0 < k → P (turnedDown k t o))
+    → (within n mostLines ≡ true → 16640 ≤ length o → length t ≡ words n → sound t ≡ true → isMid own ≡ true → 0 < length m → length m ≤ 4096 → P (taken m t own o)) → P (call n m t own o)
 unfolding call
-call-ind P m t own o down up =
+call-ind P n m t own o down up =
+    pick-ind P _ _ _ (λ e. down 8 (omega arith)) λ w.
     pick-ind P _ _ _ (λ e. down 3 (omega arith)) λ a.
     pick-ind P _ _ _ (λ e. down 2 (omega arith)) λ b.
     pick-ind P _ _ _ (λ e. down 4 (omega arith)) λ c.
     pick-ind P _ _ _ (λ e. down 1 (omega arith)) λ d.
     let z = or-neither (eqb (length m) 0) (ltb 4096 (length m)) d in
-    up (ltb-false _ _ a) (not-false _ b) (not-false _ c) (omega (arith, eqb-false (length m) 0 (z .0))) (ltb-false _ _ (z .1))
+    let y = and-eq-true-iff (eqb (length t) (words n)) (sound t) .0 (not-false _ b) in
+    up (not-false _ w) (ltb-false _ _ a) (eqb-true (length t) (words n) (y .0)) (y .1) (not-false _ c) (omega (arith, eqb-false (length m) 0 (z .0))) (ltb-false _ _ (z .1))
 
 -- "Each gives length 0 and changes neither reply buffer nor table"
 pub record Kept (t o : List ℕ) (x : Called) : Type 0 where
@@ -179,12 +182,12 @@ pub record Kept (t o : List ℕ) (x : Called) : Type 0 where
   pub table : x .table ≡ t
   pub reply : x .reply ≡ o
 
-pub refusal-keeps : (m t own o : List ℕ) → call m t own o .refusal ≢ 0 → Kept t o (call m t own o)
+pub refusal-keeps : (n : ℕ) (m t own o : List ℕ) → call n m t own o .refusal ≢ 0 → Kept t o (call n m t own o)
 unfolding taken replied written
-refusal-keeps m t own o =
-    call-ind (λ x. x .refusal ≢ 0 → Kept t o x) m t own o
-    (λ n p h. record { size = refl; table = refl; reply = refl })
-    (λ a b c d e h. absurd (h refl))
+refusal-keeps n m t own o =
+    call-ind (λ x. x .refusal ≢ 0 → Kept t o x) n m t own o
+    (λ k p h. record { size = refl; table = refl; reply = refl })
+    (λ w a l b c d e h. absurd (h refl))
 
 -- "bytes past its length stay": of every call, turned down or taken
 pub record Bounded (o : List ℕ) (x : Called) : Type 0 where
@@ -192,12 +195,12 @@ pub record Bounded (o : List ℕ) (x : Called) : Type 0 where
   pub past : drop (x .size) (x .reply) ≡ drop (x .size) o
   pub fits : x .size ≤ 16640
 
-pub call-bounded : (m t own o : List ℕ) → Bounded o (call m t own o)
+pub call-bounded : (n : ℕ) (m t own o : List ℕ) → Bounded o (call n m t own o)
 unfolding taken replied written
-call-bounded m t own o =
-    call-ind (Bounded o) m t own o
-    (λ n p. record { long = refl; past = refl; fits = omega arith })
-    (λ a b c d e.
+call-bounded n m t own o =
+    call-ind (Bounded o) n m t own o
+    (λ k p. record { long = refl; past = refl; fits = omega arith })
+    (λ w a l b c d e.
     record {
       long = length-put o 0 (replyTo m t own);
       past = drop-put o 0 (replyTo m t own) (length (replyTo m t own)) (omega arith);
@@ -211,17 +214,17 @@ pub record Taken (m t own : List ℕ) (x : Called) : Type 0 where
   pub whole : take (x .size) (x .reply) ≡ replyTo m t own
   pub header : take (length (headerText own)) (x .reply) ≡ headerText own
 
-pub call-taken : (m t own o : List ℕ) → call m t own o .refusal ≡ 0 → Taken m t own (call m t own o)
+pub call-taken : (n : ℕ) (m t own o : List ℕ) → call n m t own o .refusal ≡ 0 → Taken m t own (call n m t own o)
 unfolding taken replied written
-call-taken m t own o =
-    call-ind (λ x. x .refusal ≡ 0 → Taken m t own x) m t own o
-    (λ n p h. absurd (omega arith))
-    (λ a b c d e h.
-    let l : length (replyTo m t own) ≤ length o = omega (arith, reply-fits m t own (own-fits own c)) in
+call-taken n m t own o =
+    call-ind (λ x. x .refusal ≡ 0 → Taken m t own x) n m t own o
+    (λ k p h. absurd (omega arith))
+    (λ w a l b c d e h.
+    let r : length (replyTo m t own) ≤ length o = omega (arith, reply-fits m t own (own-fits own c)) in
     record {
       table = refl;
       size = refl;
-      whole = take-put o (replyTo m t own) l;
+      whole = take-put o (replyTo m t own) r;
       header = take-front o (headerText own) _ (omega (arith, length-then (headerText own) (runMessage (messageR m) t .text)));
     })
 
@@ -233,7 +236,7 @@ fault-runs-nothing fault400 t h = refl
 fault-runs-nothing (fault403 id) t h = refl
 fault-runs-nothing fault406 t h = refl
 
-pub fault-keeps : (m t own o : List ℕ) → ((xs : List Transaction) → messageR m ≢ wellFormed xs) → call m t own o .table ≡ t
+pub fault-keeps : (n : ℕ) (m t own o : List ℕ) → ((xs : List Transaction) → messageR m ≢ wellFormed xs) → call n m t own o .table ≡ t
 unfolding taken replied written
-fault-keeps m t own o h =
-    call-ind (λ x. x .table ≡ t) m t own o (λ n p. refl) (λ a b c d e. fault-runs-nothing (messageR m) t h)
+fault-keeps n m t own o h =
+    call-ind (λ x. x .table ≡ t) n m t own o (λ k p. refl) (λ w a l b c d e. fault-runs-nothing (messageR m) t h)

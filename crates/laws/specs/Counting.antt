@@ -10,7 +10,8 @@ use borrow.Author.Tests.{eqb-true, eqb-false, eq-eqb}
 use native.Mathlib.Omega.{arith}
 use Rattle.base.specs.Pick.{pick}
 use Rattle.base.specs.Lists.{count, lowestAbsent}
-use Rattle.megaco.specs.Table.{terminations, words, ctx, get, contextWords, members}
+use Rattle.megaco.specs.Table.{terminations, words, fitted, ctx, get, contextWords, members}
+use Rattle.megaco.proofs.Sizes.{fitted-same}
 
 -- 1 where a test holds
 abbrev pub one : Bool → ℕ
@@ -49,28 +50,29 @@ counted (suc k) c (suc i) (x ∷ xs) h l e = omega (arith, counted k c i xs (ome
 
 -- ---- members of a context
 
-pub members-same : (c : ℕ) (t u : List ℕ) → length u ≡ length t → ((j : ℕ) → j < terminations → get u (ctx j) ≡ get t (ctx j)) → members c u ≡ members c t
+pub members-same : (c : ℕ) (t u : List ℕ) → length u ≡ length t → ((j : ℕ) → j < terminations (fitted t) → get u (ctx j) ≡ get t (ctx j)) → members c u ≡ members c t
 unfolding members contextWords
-members-same c t u l h = count-agree terminations c u t l (λ j b. ap (λ (z : ℕ). eqb z c) (h j b))
+members-same c t u l h = rw (fitted-same u t l) (count-agree (terminations (fitted t)) c u t l (λ j b. ap (λ (z : ℕ). eqb z c) (h j b)))
 
 -- a termination goes to x
-pub members-moved : (c i x : ℕ) (t u : List ℕ) → i < terminations → length t ≡ words → length u ≡ length t
-    → ((j : ℕ) → j < terminations → get u (ctx j) ≡ pick (eqb i j) x (get t (ctx j)))
+pub members-moved : (c i x : ℕ) (t u : List ℕ) → i < terminations (fitted t) → length t ≡ words (fitted t) → length u ≡ length t
+    → ((j : ℕ) → j < terminations (fitted t) → get u (ctx j) ≡ pick (eqb i j) x (get t (ctx j)))
     → members c u + one (eqb (get t (ctx i)) c) ≡ members c t + one (eqb x c)
 unfolding members contextWords pick
 members-moved c i x t u b l k h =
-    let e : members c u ≡ count c (take terminations (set t i x)) =
-    count-agree terminations c u (set t i x) (k ∙ sym (length-set t i x)) (λ j d. ap (λ (z : ℕ). eqb z c) (h j d ∙ at j (eqb i j) refl)) in
-    omega (arith, e, count-set terminations c i x t b (omega arith))
+    let n : ℕ = terminations (fitted t) in
+    let e : members c u ≡ count c (take n (set t i x)) =
+    rw (fitted-same u t k) (count-agree n c u (set t i x) (k ∙ sym (length-set t i x)) (λ j d. ap (λ (z : ℕ). eqb z c) (h j d ∙ at j (eqb i j) refl))) in
+    omega (arith, e, count-set n c i x t b (omega arith))
   where
     at : (j : ℕ) (y : Bool) → eqb i j ≡ y → pick y x (getD t j 0) ≡ getD (set t i x) j 0
     at j true e = rw (← eqb-true i j e) (sym (getD-set-same t i x 0 (omega arith)))
     at j false e = sym (getD-set-other t i j x 0 (λ q. eqb-false i j e (sym q)))
 
 -- a termination that stands in c is a member
-pub member : (i : ℕ) (t : List ℕ) → i < terminations → length t ≡ words → 0 < members (get t (ctx i)) t
+pub member : (i : ℕ) (t : List ℕ) → i < terminations (fitted t) → length t ≡ words (fitted t) → 0 < members (get t (ctx i)) t
 unfolding members contextWords
-member i t h l = counted terminations (get t (ctx i)) i t h (omega arith) refl
+member i t h l = counted (terminations (fitted t)) (get t (ctx i)) i t h (omega arith) refl
 
 -- ---- the lowest absent number
 

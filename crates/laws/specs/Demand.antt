@@ -6,7 +6,7 @@ use mathlib.Core.List.{List, [], _∷_}
 use Rattle.base.specs.Bytes.{_then_}
 use Rattle.megaco.specs.Tree.{Transaction, transaction, wellFormed}
 use Rattle.megaco.specs.Reading.{messageR}
-use Rattle.megaco.specs.Table.{sound}
+use Rattle.megaco.specs.Table.{fitted, sound}
 use Rattle.megaco.specs.Reply.{transactionText}
 use Rattle.megaco.specs.Running.{Progress, runTransaction, runTransactions, runMessage}
 use Rattle.laws.specs.Mix.{Both, Mixture, mixed}
@@ -38,7 +38,7 @@ pub demand-3 :
     -- "that name every context by number or as the null one, and every termination without `*` or `$`"
     → ContextsPlain x → ContextsPlain y → NamesPlain x → NamesPlain y
     -- "Say that no termination is named by both"
-    → TerminationsApart x y
+    → TerminationsApart (fitted t) x y
     -- "Say that the numbered contexts each names, with the numbered ones its terminations stand in at the start, are apart from the other's"
     → ContextsApart t x y
     -- "Then .. running one after the other from that table ends alike in both orders"

@@ -11,8 +11,9 @@ use lib.Dec.{eqb}
 use borrow.Author.Tests.{ne-eqb}
 use native.Mathlib.Omega.{arith}
 use native.Mathlib.Decide.{ℕ-discrete}
-use Rattle.megaco.specs.Table.{terminations, contexts, words, prop, rec, offset, Slot, ctx, cell, get, Write, write, store, apply}
-use Rattle.laws.specs.Slots.{Valid, length-store, get-other, store-comm}
+use Rattle.megaco.specs.Table.{terminations, contexts, words, fitted, prop, rec, offset, Slot, ctx, cell, get, Write, write, store, apply}
+use Rattle.megaco.proofs.Sizes.{fitted-is}
+use Rattle.laws.specs.Slots.{Valid, length-store, fitted-store, get-other, store-comm}
 
 -- whose a word is
 pub data Owner : Type 0 where
@@ -23,7 +24,7 @@ owner (ctx i) = termination i
 owner (cell (prop i)) = termination i
 owner (cell (rec c)) = context c
 
-module _ (N K : ℕ → Type 0) where
+module _ (lines : ℕ) (N K : ℕ → Type 0) where
   abbrev pub Mine : Owner → Type 0
   Mine (termination i) = N i
   Mine (context c) = K c
@@ -35,7 +36,7 @@ module _ (N K : ℕ → Type 0) where
 
   -- a write of the footprint
   pub record Ours (s : Slot) (v : ℕ) : Type 0 where
-    pub valid : Valid s
+    pub valid : Valid lines s
     pub mine : Mine (owner s)
     pub fits : Fits s v
 
@@ -45,20 +46,20 @@ module _ (N K : ℕ → Type 0) where
 
   -- the terminations and the contexts are those of the table
   pub record Foot : Type 0 where
-    pub small : (i : ℕ) → N i → i < terminations
+    pub small : (i : ℕ) → N i → i < terminations lines
     pub above : (c : ℕ) → K c → 0 < c
     pub below : (c : ℕ) → K c → c ≤ contexts
 
   -- each termination of the footprint stands in null or in a context of it
   pub record Closed (t : List ℕ) : Type 0 where
-    pub long : length t ≡ words
+    pub long : length t ≡ words lines
     pub home : (i : ℕ) → N i → 0 < get t (ctx i) → K (get t (ctx i))
 
   -- two tables look alike to the footprint
   pub record Agree (t u : List ℕ) : Type 0 where
     pub long : length t ≡ length u
-    pub same : (s : Slot) → Valid s → Mine (owner s) → get t s ≡ get u s
-    pub stand : (c : ℕ) → K c → (i : ℕ) → i < terminations → eqb (get t (ctx i)) c ≡ eqb (get u (ctx i)) c
+    pub same : (s : Slot) → Valid lines s → Mine (owner s) → get t s ≡ get u s
+    pub stand : (c : ℕ) → K c → (i : ℕ) → i < terminations lines → eqb (get t (ctx i)) c ≡ eqb (get u (ctx i)) c
 
   pub agree-refl : (t : List ℕ) → Agree t t
   agree-refl t = record { long = refl; same = λ s h m. refl; stand = λ c k i h. refl }
@@ -79,13 +80,13 @@ module _ (N K : ℕ → Type 0) where
   closed-store F (cell x) v t o c =
       record {
         long = length-store (write (cell x) v) t ∙ c .long;
-        home = λ i m. subst (λ (y : ℕ). 0 < y → K y) (sym (getD-set-other t (terminations + offset x) i v 0 (let h : i < terminations = F .small i m in omega arith))) (c .home i m);
+        home = λ i m. subst (λ (y : ℕ). 0 < y → K y) (sym (getD-set-other t (terminations (fitted t) + offset (fitted t) x) i v 0 (let h : i < terminations lines = F .small i m in omega (arith, fitted-is lines t (c .long))))) (c .home i m);
       }
   closed-store F (ctx j) v t o c = record { long = length-store (write (ctx j) v) t ∙ c .long; home = λ i m. at i m (ℕ-discrete i j) }
     where
       at : (i : ℕ) → N i → Dec (i ≡ j) → 0 < getD (set t j v) i 0 → K (getD (set t j v) i 0)
       at i m (yes e) =
-          let h : i < length t = rw (c .long) (let k : i < terminations = F .small i m in omega arith) in
+          let h : i < length t = rw (c .long) (let k : i < terminations lines = F .small i m in omega arith) in
           let g : getD (set t j v) i 0 ≡ v = rw (← e) (getD-set-same t i v 0 h) in
           subst (λ (x : ℕ). 0 < x → K x) (sym g) (o .fits)
       at i m (no d) = subst (λ (x : ℕ). 0 < x → K x) (sym (getD-set-other t j i v 0 d)) (c .home i m)
@@ -97,35 +98,35 @@ module _ (N K : ℕ → Type 0) where
 
 -- ---- two footprints that have nothing in common
 
-module _ (N K M L : ℕ → Type 0) where
+module _ (lines : ℕ) (N K M L : ℕ → Type 0) where
   pub record Disjoint : Type 0 where
-    pub one : Foot N K
-    pub two : Foot M L
+    pub one : Foot lines N K
+    pub two : Foot lines M L
     pub apart-terminations : (i : ℕ) → N i → M i → ⊥
     pub apart-contexts : (c : ℕ) → K c → L c → ⊥
 
-  never : Disjoint → (o : Owner) → Mine N K o → Mine M L o → ⊥
+  never : Disjoint → (o : Owner) → Mine lines N K o → Mine lines M L o → ⊥
   never D (termination i) a b = D .apart-terminations i a b
   never D (context c) a b = D .apart-contexts c a b
 
-  differ : Disjoint → (s r : Slot) → Mine N K (owner s) → Mine M L (owner r) → s ≢ r
-  differ D s r a b e = never D (owner r) (subst (λ (o : Slot). Mine N K (owner o)) e a) b
+  differ : Disjoint → (s r : Slot) → Mine lines N K (owner s) → Mine lines M L (owner r) → s ≢ r
+  differ D s r a b e = never D (owner r) (subst (λ (o : Slot). Mine lines N K (owner o)) e a) b
 
   -- no context of the first holds a value that fits the second
   strange : Disjoint → (c v : ℕ) → K c → (0 < v → L v) → eqb v c ≡ false
   strange D c v k f = ne-eqb v c (λ e. D .apart-contexts c k (subst L e (f (let h : 0 < c = D .one .above c k in rw e h))))
 
   -- a write of the second changes nothing that the first sees
-  store-agree : Disjoint → (r : Slot) (v : ℕ) (t : List ℕ) → Ours M L r v → Closed M L t → Agree N K t (store (write r v) t)
+  store-agree : Disjoint → (r : Slot) (v : ℕ) (t : List ℕ) → Ours lines M L r v → Closed lines M L t → Agree lines N K t (store (write r v) t)
   store-agree D r v t o c =
       record {
         long = sym (length-store (write r v) t);
-        same = λ s h m. sym (get-other s r v t h (o .valid) (differ D s r m (o .mine)));
+        same = λ s h m. sym (get-other lines s r v t (fitted-is lines t (c .long)) h (o .valid) (differ D s r m (o .mine)));
         stand = at r o;
       }
     where
-      at : (r : Slot) → Ours M L r v → (d : ℕ) → K d → (i : ℕ) → i < terminations → eqb (get t (ctx i)) d ≡ eqb (get (store (write r v) t) (ctx i)) d
-      at (cell x) o d k i h = ap (λ (y : ℕ). eqb y d) (sym (getD-set-other t (terminations + offset x) i v 0 (omega arith)))
+      at : (r : Slot) → Ours lines M L r v → (d : ℕ) → K d → (i : ℕ) → i < terminations lines → eqb (get t (ctx i)) d ≡ eqb (get (store (write r v) t) (ctx i)) d
+      at (cell x) o d k i h = ap (λ (y : ℕ). eqb y d) (sym (getD-set-other t (terminations (fitted t) + offset (fitted t) x) i v 0 (omega (arith, fitted-is lines t (c .long)))))
       at (ctx j) o d k i h = by (ℕ-discrete i j)
         where
           by : Dec (i ≡ j) → eqb (get t (ctx i)) d ≡ eqb (getD (set t j v) i 0) d
@@ -136,27 +137,28 @@ module _ (N K M L : ℕ → Type 0) where
               strange D d (getD t i 0) k (c .home i m) ∙ sym (ap (λ (x : ℕ). eqb x d) g ∙ strange D d v k (o .fits))
           by (no f) = ap (λ (x : ℕ). eqb x d) (sym (getD-set-other t j i v 0 f))
 
-  pub apply-agree : Disjoint → (ws : List Write) (t : List ℕ) → AllOurs M L ws → Closed M L t → Agree N K t (apply ws t)
+  pub apply-agree : Disjoint → (ws : List Write) (t : List ℕ) → AllOurs lines M L ws → Closed lines M L t → Agree lines N K t (apply ws t)
   unfolding apply
-  apply-agree D _ t nothing c = agree-refl N K t
+  apply-agree D _ t nothing c = agree-refl lines N K t
   apply-agree D _ t (also {s = r} {v = v} {ws = ws} o a) c =
       let u = store (write r v) t in
-      agree-trans N K t u (apply ws u) (store-agree D r v t o c) (apply-agree D ws u a (closed-store M L (D .two) r v t o c))
+      agree-trans lines N K t u (apply ws u) (store-agree D r v t o c) (apply-agree D ws u a (closed-store lines M L (D .two) r v t o c))
 
   -- writes of the two commute
-  store-apply : Disjoint → (s : Slot) (v : ℕ) (ws : List Write) (t : List ℕ) → Ours N K s v → AllOurs M L ws
+  store-apply : Disjoint → (s : Slot) (v : ℕ) (ws : List Write) (t : List ℕ) → fitted t ≡ lines → Ours lines N K s v → AllOurs lines M L ws
       → store (write s v) (apply ws t) ≡ apply ws (store (write s v) t)
   unfolding apply
-  store-apply D s v _ t o nothing = refl
-  store-apply D s v _ t o (also {s = r} {v = x} {ws = ws} p a) =
-      store-apply D s v ws (store (write r x) t) o a
-      ∙ ap (apply ws) (sym (store-comm s r v x t (o .valid) (p .valid) (differ D s r (o .mine) (p .mine))))
+  store-apply D s v _ t f o nothing = refl
+  store-apply D s v _ t f o (also {s = r} {v = x} {ws = ws} p a) =
+      store-apply D s v ws (store (write r x) t) (fitted-store (write r x) t ∙ f) o a
+      ∙ ap (apply ws) (sym (store-comm lines s r v x t f (o .valid) (p .valid) (differ D s r (o .mine) (p .mine))))
 
-  pub apply-comm : Disjoint → (vs ws : List Write) (t : List ℕ) → AllOurs N K vs → AllOurs M L ws → apply vs (apply ws t) ≡ apply ws (apply vs t)
+  pub apply-comm : Disjoint → (vs ws : List Write) (t : List ℕ) → fitted t ≡ lines → AllOurs lines N K vs → AllOurs lines M L ws → apply vs (apply ws t) ≡ apply ws (apply vs t)
   unfolding apply
-  apply-comm D _ ws t nothing b = refl
-  apply-comm D _ ws t (also {s = s} {v = v} {ws = vs} o a) b = ap (apply vs) (store-apply D s v ws t o b) ∙ apply-comm D vs ws (store (write s v) t) a b
+  apply-comm D _ ws t f nothing b = refl
+  apply-comm D _ ws t f (also {s = s} {v = v} {ws = vs} o a) b =
+      ap (apply vs) (store-apply D s v ws t f o b) ∙ apply-comm D vs ws (store (write s v) t) (fitted-store (write s v) t ∙ f) a b
 
-pub disjoint-sym : (N K M L : ℕ → Type 0) → Disjoint N K M L → Disjoint M L N K
-disjoint-sym N K M L D =
+pub disjoint-sym : (lines : ℕ) (N K M L : ℕ → Type 0) → Disjoint lines N K M L → Disjoint lines M L N K
+disjoint-sym lines N K M L D =
     record { one = D .two; two = D .one; apart-terminations = λ i b a. D .apart-terminations i a b; apart-contexts = λ c b a. D .apart-contexts c a b }

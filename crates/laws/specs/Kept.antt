@@ -13,7 +13,7 @@ use Rattle.megaco.specs.declared.Op.{Op}
 use Rattle.megaco.specs.declared.Op.the-variants.{Add, Modify, Subtract, Move}
 use Rattle.megaco.specs.declared.Values.{Values}
 use Rattle.megaco.specs.Tree.{Command, Transaction, Message}
-use Rattle.megaco.specs.Table.{contexts, rec, cell, get, sound}
+use Rattle.megaco.specs.Table.{contexts, fitted, rec, cell, get, sound}
 use Rattle.megaco.specs.Names.{nameOf}
 use Rattle.megaco.specs.Running.{Step, State, step, seen, numberOf, missed, Aim, misses, gateway, meets, isSubtract, isNull, isModify, aimed, barred, lost, runCommand, runTransaction, runTransactions, runMessage}
 use Rattle.megaco.specs.Call.{call}
@@ -60,7 +60,7 @@ aimed-sound op name given vs (meets wild is) at t W (those m) G F r = tries-soun
 pub whole-kept : Keeps Whole Present
 whole-kept =
     record {
-      orders = λ op name given vs items at t W G F b l. aimed-sound op name given vs _ at t W (aim-meant op at items (nameOf name) t (W .long) (name-low name)) G F (ready op at t b l);
+      orders = λ op name given vs items at t W G F b l. aimed-sound op name given vs _ at t W (aim-meant op at items (nameOf (fitted t) name) t (W .long) (name-low (fitted t) name)) G F (ready op at t b l);
       starts = start-sound;
       gives = start-given;
     }
@@ -84,5 +84,5 @@ transactions-sound xs t = sound-by t _ (transactions-keep Whole Present whole-ke
 pub message-sound : (m : Message) (t : List ℕ) → sound t ≡ true → sound (runMessage m t .table) ≡ true
 message-sound m t = sound-by t _ (message-keeps Whole Present whole-kept m t)
 
-pub call-sound : (m t own o : List ℕ) → sound t ≡ true → sound (call m t own o .table) ≡ true
-call-sound m t own o = sound-by t _ (call-keeps Whole Present whole-kept m t own o)
+pub call-sound : (n : ℕ) (m t own o : List ℕ) → sound t ≡ true → sound (call n m t own o .table) ≡ true
+call-sound n m t own o = sound-by t _ (call-keeps Whole Present whole-kept n m t own o)

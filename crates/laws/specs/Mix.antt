@@ -4,6 +4,7 @@ use mathlib.Core.Path.{_≡_, refl, sym, ap, _∙_, subst}
 use mathlib.Core.List.{List, [], _∷_}
 use Rattle.megaco.specs.Table.{apply}
 use Rattle.megaco.specs.Running.{Step, Progress, State, state, step, run}
+use Rattle.megaco.proofs.Sizes.{fitted-is}
 use Rattle.laws.specs.Frame.{Closed, Agree, agree-refl, closed-agree, closed-apply, Disjoint, disjoint-sym, apply-agree, apply-comm}
 use Rattle.laws.specs.Steps.{enact, Named, Seats, Acts, acts}
 
@@ -49,83 +50,83 @@ Each P [] = Unit {0}
 Each P (s ∷ ss) = P s × Each P ss
 
 -- one step, seen by its own footprint and by another one
-module _ (N K M L : ℕ → Type 0) (D : Disjoint M L N K) (s : Step) (t : List ℕ) (p : Progress) (c : Closed N K t) (m : Named N K s) (h : Seats N K (p .acts)) where
-  act : Acts N K (λ u. step s (state u p)) t
-  act = acts N K (D .two) t c s p m h
+module _ (lines : ℕ) (N K M L : ℕ → Type 0) (D : Disjoint lines M L N K) (s : Step) (t : List ℕ) (p : Progress) (c : Closed lines N K t) (m : Named lines N K s) (h : Seats lines N K (p .acts)) where
+  act : Acts lines N K (λ u. step s (state u p)) t
+  act = acts lines N K (D .two) t c s p m h
 
   is : step s (state t p) ≡ enact (act .change) t
-  is = act .on t (agree-refl N K t)
+  is = act .on t (agree-refl lines N K t)
 
   -- its own footprint stays closed
-  own-closed : Closed N K (step s (state t p) .table)
-  own-closed = subst (λ (x : State). Closed N K (x .table)) (sym is) (closed-apply N K (D .two) (act .change .writes) t (act .all) c)
+  own-closed : Closed lines N K (step s (state t p) .table)
+  own-closed = subst (λ (x : State). Closed lines N K (x .table)) (sym is) (closed-apply lines N K (D .two) (act .change .writes) t (act .all) c)
 
-  own-seats : Seats N K (step s (state t p) .progress .acts)
-  own-seats = subst (λ (x : State). Seats N K (x .progress .acts)) (sym is) (act .seats)
+  own-seats : Seats lines N K (step s (state t p) .progress .acts)
+  own-seats = subst (λ (x : State). Seats lines N K (x .progress .acts)) (sym is) (act .seats)
 
   -- the other one sees no change
-  other-agrees : Agree M L t (apply (act .change .writes) t)
-  other-agrees = apply-agree M L N K D (act .change .writes) t (act .all) c
+  other-agrees : Agree lines M L t (apply (act .change .writes) t)
+  other-agrees = apply-agree lines M L N K D (act .change .writes) t (act .all) c
 
-  other-closed : Closed M L t → Closed M L (step s (state t p) .table)
-  other-closed d = subst (λ (x : State). Closed M L (x .table)) (sym is) (closed-agree M L (D .one) t _ other-agrees d)
+  other-closed : Closed lines M L t → Closed lines M L (step s (state t p) .table)
+  other-closed d = subst (λ (x : State). Closed lines M L (x .table)) (sym is) (closed-agree lines M L (D .one) t _ other-agrees d)
 
 -- each footprint is closed, and each transaction's action stands in its own
-pub record Ready (N K M L : ℕ → Type 0) (b : Both) : Type 0 where
-  pub one-closed : Closed N K (b .table)
-  pub two-closed : Closed M L (b .table)
-  pub one-seats : Seats N K (b .one .acts)
-  pub two-seats : Seats M L (b .two .acts)
+pub record Ready (lines : ℕ) (N K M L : ℕ → Type 0) (b : Both) : Type 0 where
+  pub one-closed : Closed lines N K (b .table)
+  pub two-closed : Closed lines M L (b .table)
+  pub one-seats : Seats lines N K (b .one .acts)
+  pub two-seats : Seats lines M L (b .two .acts)
 
-module _ (N K M L : ℕ → Type 0) (D : Disjoint N K M L) where
-  E : Disjoint M L N K
-  E = disjoint-sym N K M L D
+module _ (lines : ℕ) (N K M L : ℕ → Type 0) (D : Disjoint lines N K M L) where
+  E : Disjoint lines M L N K
+  E = disjoint-sym lines N K M L D
 
-  ready-one : (s : Step) (b : Both) → Named N K s → Ready N K M L b → Ready N K M L (step-one s b)
+  ready-one : (s : Step) (b : Both) → Named lines N K s → Ready lines N K M L b → Ready lines N K M L (step-one s b)
   ready-one s b m r =
       record {
-        one-closed = own-closed N K M L E s (b .table) (b .one) (r .one-closed) m (r .one-seats);
-        two-closed = other-closed N K M L E s (b .table) (b .one) (r .one-closed) m (r .one-seats) (r .two-closed);
-        one-seats = own-seats N K M L E s (b .table) (b .one) (r .one-closed) m (r .one-seats);
+        one-closed = own-closed lines N K M L E s (b .table) (b .one) (r .one-closed) m (r .one-seats);
+        two-closed = other-closed lines N K M L E s (b .table) (b .one) (r .one-closed) m (r .one-seats) (r .two-closed);
+        one-seats = own-seats lines N K M L E s (b .table) (b .one) (r .one-closed) m (r .one-seats);
         two-seats = r .two-seats;
       }
 
-  ready-two : (s : Step) (b : Both) → Named M L s → Ready N K M L b → Ready N K M L (step-two s b)
+  ready-two : (s : Step) (b : Both) → Named lines M L s → Ready lines N K M L b → Ready lines N K M L (step-two s b)
   ready-two s b m r =
       record {
-        one-closed = other-closed M L N K D s (b .table) (b .two) (r .two-closed) m (r .two-seats) (r .one-closed);
-        two-closed = own-closed M L N K D s (b .table) (b .two) (r .two-closed) m (r .two-seats);
+        one-closed = other-closed lines M L N K D s (b .table) (b .two) (r .two-closed) m (r .two-seats) (r .one-closed);
+        two-closed = own-closed lines M L N K D s (b .table) (b .two) (r .two-closed) m (r .two-seats);
         one-seats = r .one-seats;
-        two-seats = own-seats M L N K D s (b .table) (b .two) (r .two-closed) m (r .two-seats);
+        two-seats = own-seats lines M L N K D s (b .table) (b .two) (r .two-closed) m (r .two-seats);
       }
 
   -- two steps, one of each, may change places
-  diamond : (s r : Step) (b : Both) → Named N K s → Named M L r → Ready N K M L b → step-one s (step-two r b) ≡ step-two r (step-one s b)
+  diamond : (s r : Step) (b : Both) → Named lines N K s → Named lines M L r → Ready lines N K M L b → step-one s (step-two r b) ≡ step-two r (step-one s b)
   diamond s r b m o h =
       let t = b .table in
-      let p = act N K M L E s t (b .one) (h .one-closed) m (h .one-seats) in
-      let q = act M L N K D r t (b .two) (h .two-closed) o (h .two-seats) in
+      let p = act lines N K M L E s t (b .one) (h .one-closed) m (h .one-seats) in
+      let q = act lines M L N K D r t (b .two) (h .two-closed) o (h .two-seats) in
       let vs = p .change .writes in
       let ws = q .change .writes in
-      let p₀ : step s (state t (b .one)) ≡ enact (p .change) t = p .on t (agree-refl N K t) in
-      let q₀ : step r (state t (b .two)) ≡ enact (q .change) t = q .on t (agree-refl M L t) in
-      let p₁ : step s (state (apply ws t) (b .one)) ≡ enact (p .change) (apply ws t) = p .on (apply ws t) (apply-agree N K M L D ws t (q .all) (h .two-closed)) in
-      let q₁ : step r (state (apply vs t) (b .two)) ≡ enact (q .change) (apply vs t) = q .on (apply vs t) (apply-agree M L N K E vs t (p .all) (h .one-closed)) in
-      let c : apply vs (apply ws t) ≡ apply ws (apply vs t) = apply-comm N K M L D vs ws t (p .all) (q .all) in
+      let p₀ : step s (state t (b .one)) ≡ enact (p .change) t = p .on t (agree-refl lines N K t) in
+      let q₀ : step r (state t (b .two)) ≡ enact (q .change) t = q .on t (agree-refl lines M L t) in
+      let p₁ : step s (state (apply ws t) (b .one)) ≡ enact (p .change) (apply ws t) = p .on (apply ws t) (apply-agree lines N K M L D ws t (q .all) (h .two-closed)) in
+      let q₁ : step r (state (apply vs t) (b .two)) ≡ enact (q .change) (apply vs t) = q .on (apply vs t) (apply-agree lines M L N K E vs t (p .all) (h .one-closed)) in
+      let c : apply vs (apply ws t) ≡ apply ws (apply vs t) = apply-comm lines N K M L D vs ws t (fitted-is lines t (h .one-closed .long)) (p .all) (q .all) in
       rw (q₀, p₀) (rw (p₁, q₁) (ap (λ (x : List ℕ). record { table = x; one = p .change .next; two = q .change .next }) c))
 
-  past : (ss : List Step) (r : Step) (b : Both) → Each (Named N K) ss → Named M L r → Ready N K M L b → run-one ss (step-two r b) ≡ step-two r (run-one ss b)
+  past : (ss : List Step) (r : Step) (b : Both) → Each (Named lines N K) ss → Named lines M L r → Ready lines N K M L b → run-one ss (step-two r b) ≡ step-two r (run-one ss b)
   unfolding run
   past [] r b m o h = refl
   past (s ∷ ss) r b m o h = ap (run-one ss) (diamond s r b (m .0) o h) ∙ past ss r (step-one s b) (m .1) o (ready-one s b (m .0) h)
 
   -- all of the first and all of the second may change places
-  pub exchange : (ss rs : List Step) (b : Both) → Each (Named N K) ss → Each (Named M L) rs → Ready N K M L b → run-one ss (run-two rs b) ≡ run-two rs (run-one ss b)
+  pub exchange : (ss rs : List Step) (b : Both) → Each (Named lines N K) ss → Each (Named lines M L) rs → Ready lines N K M L b → run-one ss (run-two rs b) ≡ run-two rs (run-one ss b)
   unfolding run
   exchange ss [] b m o h = refl
   exchange ss (r ∷ rs) b m o h = exchange ss rs (step-two r b) m (o .1) (ready-two r b (o .0) h) ∙ ap (run-two rs) (past ss r b m (o .0) h)
 
-  pub one-after-other : {ss rs : List Step} (z : Mixture ss rs) (b : Both) → Each (Named N K) ss → Each (Named M L) rs → Ready N K M L b
+  pub one-after-other : {ss rs : List Step} (z : Mixture ss rs) (b : Both) → Each (Named lines N K) ss → Each (Named lines M L) rs → Ready lines N K M L b
       → mixed z b ≡ run-two rs (run-one ss b)
   unfolding mixed run
   one-after-other over b m o h = refl

@@ -9,62 +9,68 @@ use lib.Dec.{leb, eqb}
 use borrow.Author.Tests.{eqb-true, eq-eqb, leb-true, leb-false}
 use native.Mathlib.Omega.{arith}
 use Rattle.base.specs.Pick.{pick}
-use Rattle.megaco.specs.Table.{lineTerminations, terminations, contexts, words, most, prop, rec, ctx, cell, get, Write, write, apply, members}
+use Rattle.megaco.specs.Table.{lineTerminations, terminations, contexts, words, fitted, most, prop, rec, ctx, cell, get, Write, write, apply, members}
 use Rattle.base.proofs.TestLaws.{pick-of}
-use Rattle.laws.specs.Slots.{length-apply, holds, Within, get-apply}
+use Rattle.laws.specs.Slots.{length-apply, fitted-apply, holds, Within, get-apply}
 use Rattle.laws.specs.Counting.{one, members-same, members-moved}
 use Rattle.laws.specs.Sound.{SoundWord, SoundRecord, Whole}
 
 -- the facts of a sound table, of what the words hold after writes
 pub record Lands (ws : List Write) (t : List ℕ) : Type 0 where
-  pub within : Within ws
-  pub place : (i : ℕ) → i < terminations → holds ws (ctx i) (get t (ctx i)) ≤ contexts
-  pub word : (i : ℕ) → i < terminations → SoundWord (holds ws (cell (prop i)) (get t (cell (prop i))))
-  pub absent : (i : ℕ) → lineTerminations ≤ i → i < terminations → holds ws (ctx i) (get t (ctx i)) ≡ 0 → holds ws (cell (prop i)) (get t (cell (prop i))) ≡ 0
+  pub within : Within (fitted t) ws
+  pub place : (i : ℕ) → i < terminations (fitted t) → holds ws (ctx i) (get t (ctx i)) ≤ contexts
+  pub word : (i : ℕ) → i < terminations (fitted t) → SoundWord (holds ws (cell (prop i)) (get t (cell (prop i))))
+  pub absent : (i : ℕ) → lineTerminations (fitted t) ≤ i → i < terminations (fitted t) → holds ws (ctx i) (get t (ctx i)) ≡ 0 → holds ws (cell (prop i)) (get t (cell (prop i))) ≡ 0
   pub held : (c : ℕ) → 0 < c → c ≤ contexts → SoundRecord (holds ws (cell (rec c)) (get t (cell (rec c)))) (members c (apply ws t))
 
-pub landed : (ws : List Write) (t : List ℕ) → length t ≡ words → Lands ws t → Whole (apply ws t)
-landed ws t l a =
+pub landed : (ws : List Write) (t : List ℕ) → Whole t → Lands ws t → Whole (apply ws t)
+landed ws t W a =
+    let n : ℕ = fitted t in
+    let f : fitted (apply ws t) ≡ n = fitted-apply ws t in
+    let l : length t ≡ words n = W .long in
+    let b : (i : ℕ) → i < terminations (fitted (apply ws t)) → i < terminations n = λ i h. rw f at h in
     record {
-      long = length-apply ws t ∙ l;
-      place = λ i h. rw (get-apply ws (ctx i) t (a .within) h l) (a .place i h);
-      word = λ i h. rw (get-apply ws (cell (prop i)) t (a .within) h l) (a .word i h);
-      absent = λ i k h. rw (get-apply ws (ctx i) t (a .within) h l, get-apply ws (cell (prop i)) t (a .within) h l) (a .absent i k h);
-      held = λ c p q. rw (get-apply ws (cell (rec c)) t (a .within) (p, q) l) (a .held c p q);
+      some = rw f (W .some);
+      few = rw f (W .few);
+      long = rw f (length-apply ws t ∙ l);
+      place = λ i h. rw (get-apply n ws (ctx i) t (a .within) (b i h) l) (a .place i (b i h));
+      word = λ i h. rw (get-apply n ws (cell (prop i)) t (a .within) (b i h) l) (a .word i (b i h));
+      absent = λ i k h. rw (get-apply n ws (ctx i) t (a .within) (b i h) l, get-apply n ws (cell (prop i)) t (a .within) (b i h) l) (a .absent i (rw f at k) (b i h));
+      held = λ c p q. rw (get-apply n ws (cell (rec c)) t (a .within) (p, q) l) (a .held c p q);
     }
 
 -- ---- a termination goes from d to x, with a property word y
 
 -- what the writes leave: where x is new its record is made, g; where the termination was the last in d, the record of d ends
-pub record Moves (new last : Bool) (g d i x y : ℕ) (ws : List Write) : Type 0 where
-  pub within : Within ws
+pub record Moves (n : ℕ) (new last : Bool) (g d i x y : ℕ) (ws : List Write) : Type 0 where
+  pub within : Within n ws
   pub context : (j v : ℕ) → holds ws (ctx j) v ≡ pick (eqb i j) x v
   pub property : (j v : ℕ) → holds ws (cell (prop j)) v ≡ pick (eqb i j) y v
   pub record′ : (c v : ℕ) → holds ws (cell (rec c)) v ≡ pick (eqb x c && new) g (pick (eqb d c && last) 0 v)
 
 -- when a termination may go
 pub record Goes (t : List ℕ) (new last : Bool) (g d i x y : ℕ) : Type 0 where
-  pub small : i < terminations
+  pub small : i < terminations (fitted t)
   pub from : get t (ctx i) ≡ d
   pub away : x ≢ d
   pub low : x ≤ contexts
   pub word : SoundWord y
-  pub absent : lineTerminations ≤ i → x ≡ 0 → y ≡ 0
+  pub absent : lineTerminations (fitted t) ≤ i → x ≡ 0 → y ≡ 0
   pub room : 0 < x → members x t < most
   pub made : new ≡ true → (0 < g) × (g ≤ 32)
   pub there : new ≡ false → 0 < x → 0 < get t (cell (rec x))
   pub ends : 0 < d → last ≡ leb (members d t) 1
 
-module _ (t : List ℕ) (new last : Bool) (g d i x y : ℕ) (ws : List Write) (W : Whole t) (M : Moves new last g d i x y ws) (G : Goes t new last g d i x y) where
+module _ (t : List ℕ) (new last : Bool) (g d i x y : ℕ) (ws : List Write) (W : Whole t) (M : Moves (fitted t) new last g d i x y ws) (G : Goes t new last g d i x y) where
   -- the termination stands there then, and the others where they stood
-  moved-place : (j : ℕ) → j < terminations → get (apply ws t) (ctx j) ≡ pick (eqb i j) x (get t (ctx j))
-  moved-place j h = get-apply ws (ctx j) t (M .within) h (W .long) ∙ M .context j (get t (ctx j))
+  moved-place : (j : ℕ) → j < terminations (fitted t) → get (apply ws t) (ctx j) ≡ pick (eqb i j) x (get t (ctx j))
+  moved-place j h = get-apply (fitted t) ws (ctx j) t (M .within) h (W .long) ∙ M .context j (get t (ctx j))
 
   pub moved-here : get (apply ws t) (ctx i) ≡ x
   unfolding pick
   moved-here = moved-place i (G .small) ∙ rw (eq-eqb i i refl)
 
-  moved-absent : (j : ℕ) → lineTerminations ≤ j → j < terminations → (b : Bool) → eqb i j ≡ b
+  moved-absent : (j : ℕ) → lineTerminations (fitted t) ≤ j → j < terminations (fitted t) → (b : Bool) → eqb i j ≡ b
       → pick b x (get t (ctx j)) ≡ 0 → pick b y (get t (cell (prop j))) ≡ 0
   unfolding pick
   moved-absent j k h true e = G .absent (omega (arith, eqb-true i j e))
@@ -103,7 +109,7 @@ module _ (t : List ℕ) (new last : Bool) (g d i x y : ℕ) (ws : List Write) (W
 
   pub moved-sound : Whole (apply ws t)
   moved-sound =
-      landed ws t (W .long)
+      landed ws t W
       (record {
         within = M .within;
         place = λ j h. rw (M .context j (get t (ctx j))) (pick-of (λ (z : ℕ). z ≤ contexts) (eqb i j) (λ _. G .low) (λ _. W .place j h));
@@ -116,16 +122,16 @@ module _ (t : List ℕ) (new last : Bool) (g d i x y : ℕ) (ws : List Write) (W
 -- ---- a word alone changes
 
 -- a property: no termination goes
-pub modified-place : (t : List ℕ) (i y : ℕ) → length t ≡ words → i < terminations → (j : ℕ) → j < terminations
+pub modified-place : (t : List ℕ) (i y : ℕ) → length t ≡ words (fitted t) → i < terminations (fitted t) → (j : ℕ) → j < terminations (fitted t)
     → get (apply (write (cell (prop i)) y ∷ []) t) (ctx j) ≡ get t (ctx j)
 unfolding pick
-modified-place t i y l b j h = get-apply (write (cell (prop i)) y ∷ []) (ctx j) t (b, tt) h l
+modified-place t i y l b j h = get-apply (fitted t) (write (cell (prop i)) y ∷ []) (ctx j) t (b, tt) h l
 
-pub modified-sound : (t : List ℕ) (i y : ℕ) → Whole t → i < terminations → SoundWord y → (lineTerminations ≤ i → get t (ctx i) ≡ 0 → y ≡ 0)
+pub modified-sound : (t : List ℕ) (i y : ℕ) → Whole t → i < terminations (fitted t) → SoundWord y → (lineTerminations (fitted t) ≤ i → get t (ctx i) ≡ 0 → y ≡ 0)
     → Whole (apply (write (cell (prop i)) y ∷ []) t)
 unfolding pick
 modified-sound t i y W b s a =
-    landed ws t (W .long)
+    landed ws t W
     (record {
       within = (b, tt);
       place = W .place;
@@ -145,7 +151,7 @@ pub recorded-sound : (t : List ℕ) (c r : ℕ) → Whole t → 0 < c → c ≤ 
     → Whole (apply (write (cell (rec c)) r ∷ []) t)
 unfolding pick
 recorded-sound t c r W p q h k l =
-    landed ws t (W .long)
+    landed ws t W
     (record {
       within = ((p, q), tt);
       place = W .place;
@@ -158,7 +164,7 @@ recorded-sound t c r W p q h k l =
     ws = write (cell (rec c)) r ∷ []
 
     same : (e : ℕ) → members e (apply ws t) ≡ members e t
-    same e = members-same e t (apply ws t) (length-apply ws t) (λ j b. get-apply ws (ctx j) t ((p, q), tt) b (W .long))
+    same e = members-same e t (apply ws t) (length-apply ws t) (λ j b. get-apply (fitted t) ws (ctx j) t ((p, q), tt) b (W .long))
 
     by : (e : ℕ) → c ≡ e → SoundRecord (get t (cell (rec e))) (members e t) → SoundRecord r (members e t)
     by e n s = let z : 0 < get t (cell (rec e)) = subst (λ (j : ℕ). 0 < get t (cell (rec j))) n h in omega arith

@@ -9,7 +9,7 @@ use Rattle.base.specs.Pick.{pick}
 use Rattle.base.specs.Lists.{has, same}
 use Rattle.megaco.specs.Bytes.{star, dollar}
 use Rattle.megaco.specs.Tree.{Transaction}
-use Rattle.megaco.specs.Table.{sound}
+use Rattle.megaco.specs.Table.{fitted, sound}
 use Rattle.megaco.specs.Running.{runTransaction}
 use Rattle.megaco.specs.declared.Context.the-variants.{Numbered}
 use Rattle.base.proofs.TestLaws.{clash, and-left, and-right}
@@ -95,10 +95,10 @@ abbrev alone : List ℕ
 alone = with-words ((0, 3) ∷ (1, 1) ∷ (624, 1) ∷ (626, 1) ∷ [])
 
 -- contexts may be shared: eight in context 1, one leaves and one joins
-pub shared-context : Claim (λ t x y. PlainContexts x y × PlainNames x y × TerminationsApart x y) → ⊥
+pub shared-context : Claim (λ t x y. PlainContexts x y × PlainNames x y × TerminationsApart (fitted t) x y) → ⊥
 shared-context =
-    refute (λ t x y. PlainContexts x y × PlainNames x y × TerminationsApart x y) eight x y (unfold tests in refl) (unfold tests alike? in refl)
-    (plain-contexts x y (unfold tests in refl), plain-names x y (unfold tests in refl), terminations-apart-is x y .0 (unfold tests in refl))
+    refute (λ t x y. PlainContexts x y × PlainNames x y × TerminationsApart (fitted t) x y) eight x y (unfold tests in refl) (unfold tests alike? in refl)
+    (plain-contexts x y (unfold tests in refl), plain-names x y (unfold tests in refl), terminations-apart-is (fitted eight) x y .0 (unfold tests in refl))
   where
     x : Transaction
     x = read "T=1{C=1{S=L/1/1}}"
@@ -107,10 +107,10 @@ shared-context =
     y = read "T=2{C=1{A=L/2/1}}"
 
 -- the contexts written are apart, and where the terminations stand at the start is left out: L/1/1 alone in 3, L/1/2 in 1
-pub start-contexts : Claim (λ t x y. PlainContexts x y × PlainNames x y × TerminationsApart x y × WrittenApart x y) → ⊥
+pub start-contexts : Claim (λ t x y. PlainContexts x y × PlainNames x y × TerminationsApart (fitted t) x y × WrittenApart x y) → ⊥
 start-contexts =
-    refute (λ t x y. PlainContexts x y × PlainNames x y × TerminationsApart x y × WrittenApart x y) alone x y (unfold tests in refl) (unfold tests alike? in refl)
-    (plain-contexts x y (unfold tests in refl), plain-names x y (unfold tests in refl), terminations-apart-is x y .0 (unfold tests in refl), written-apart x y (unfold tests in refl))
+    refute (λ t x y. PlainContexts x y × PlainNames x y × TerminationsApart (fitted t) x y × WrittenApart x y) alone x y (unfold tests in refl) (unfold tests alike? in refl)
+    (plain-contexts x y (unfold tests in refl), plain-names x y (unfold tests in refl), terminations-apart-is (fitted alone) x y .0 (unfold tests in refl), written-apart x y (unfold tests in refl))
   where
     x : Transaction
     x = read "T=1{C=1{MV=L/1/1}}"
@@ -131,10 +131,10 @@ shared-termination =
     y = read "T=2{C=2{A=l/3/1}}"
 
 -- names may hold `$`: two ephemerals, both chosen
-pub chosen-termination : Claim (λ t x y. PlainContexts x y × NamesWithout star x y × TerminationsApart x y × ContextsApart t x y) → ⊥
+pub chosen-termination : Claim (λ t x y. PlainContexts x y × NamesWithout star x y × TerminationsApart (fitted t) x y × ContextsApart t x y) → ⊥
 chosen-termination =
-    refute (λ t x y. PlainContexts x y × NamesWithout star x y × TerminationsApart x y × ContextsApart t x y) start x y (unfold tests in refl) (unfold tests alike? in refl)
-    (plain-contexts x y (unfold tests in refl), without x y star (unfold tests in refl) (unfold tests in refl), terminations-apart-is x y .0 (unfold tests in refl), contexts-apart-is start x y .0 (unfold tests in refl))
+    refute (λ t x y. PlainContexts x y × NamesWithout star x y × TerminationsApart (fitted t) x y × ContextsApart t x y) start x y (unfold tests in refl) (unfold tests alike? in refl)
+    (plain-contexts x y (unfold tests in refl), without x y star (unfold tests in refl) (unfold tests in refl), terminations-apart-is (fitted start) x y .0 (unfold tests in refl), contexts-apart-is start x y .0 (unfold tests in refl))
   where
     x : Transaction
     x = read "T=1{C=1{A=$}}"
@@ -143,10 +143,10 @@ chosen-termination =
     y = read "T=2{C=2{A=R/$}}"
 
 -- names may hold `*`: all who stand elsewhere
-pub wildcard : Claim (λ t x y. PlainContexts x y × NamesWithout dollar x y × TerminationsApart x y × ContextsApart t x y) → ⊥
+pub wildcard : Claim (λ t x y. PlainContexts x y × NamesWithout dollar x y × TerminationsApart (fitted t) x y × ContextsApart t x y) → ⊥
 wildcard =
-    refute (λ t x y. PlainContexts x y × NamesWithout dollar x y × TerminationsApart x y × ContextsApart t x y) start x y (unfold tests in refl) (unfold tests alike? in refl)
-    (plain-contexts x y (unfold tests in refl), without x y dollar (unfold tests in refl) (unfold tests in refl), terminations-apart-is x y .0 (unfold tests in refl), contexts-apart-is start x y .0 (unfold tests in refl))
+    refute (λ t x y. PlainContexts x y × NamesWithout dollar x y × TerminationsApart (fitted t) x y × ContextsApart t x y) start x y (unfold tests in refl) (unfold tests alike? in refl)
+    (plain-contexts x y (unfold tests in refl), without x y dollar (unfold tests in refl) (unfold tests in refl), terminations-apart-is (fitted start) x y .0 (unfold tests in refl), contexts-apart-is start x y .0 (unfold tests in refl))
   where
     x : Transaction
     x = read "T=1{C=1{MV=*}}"
@@ -155,10 +155,10 @@ wildcard =
     y = read "T=2{C=2{A=L/3/1}}"
 
 -- contexts may be `$`: two contexts, both chosen
-pub chosen-context : Claim (λ t x y. PlainNames x y × TerminationsApart x y × ContextsApart t x y) → ⊥
+pub chosen-context : Claim (λ t x y. PlainNames x y × TerminationsApart (fitted t) x y × ContextsApart t x y) → ⊥
 chosen-context =
-    refute (λ t x y. PlainNames x y × TerminationsApart x y × ContextsApart t x y) start x y (unfold tests in refl) (unfold tests alike? in refl)
-    (plain-names x y (unfold tests in refl), terminations-apart-is x y .0 (unfold tests in refl), contexts-apart-is start x y .0 (unfold tests in refl))
+    refute (λ t x y. PlainNames x y × TerminationsApart (fitted t) x y × ContextsApart t x y) start x y (unfold tests in refl) (unfold tests alike? in refl)
+    (plain-names x y (unfold tests in refl), terminations-apart-is (fitted start) x y .0 (unfold tests in refl), contexts-apart-is start x y .0 (unfold tests in refl))
   where
     x : Transaction
     x = read "T=1{C=${A=L/3/1}}"

@@ -9,24 +9,24 @@ use native.Mathlib.Omega.{arith}
 use Rattle.base.specs.Pick.{pick}
 use Rattle.base.specs.Lists.{has}
 use Rattle.megaco.specs.Bytes.{star, dollar, capital, capitals}
-use Rattle.megaco.specs.Table.{terminations, lines, channels, ephemerals}
+use Rattle.megaco.specs.Table.{terminations, channels, ephemerals}
 use Rattle.megaco.specs.Names.{within, lineName, ephemeralName, plainName, capitalName, nameOf}
 use Rattle.megaco.specs.declared.Name.{Name}
 use Rattle.megaco.specs.declared.Name.the-variants.{Termination, Root, Unknown}
 use Rattle.base.proofs.TestLaws.{clash, and-left, and-right}
 
-pub data Plain : Name → Type 0 where
-  aTermination : {i : ℕ} → i < terminations → Plain (Termination i)
-  root : Plain Root
-  unknown : Plain Unknown
+pub data Plain (lines : ℕ) : Name → Type 0 where
+  aTermination : {i : ℕ} → i < terminations lines → Plain lines (Termination i)
+  root : Plain lines Root
+  unknown : Plain lines Unknown
 
-pub plain-below : {i : ℕ} → Plain (Termination i) → i < terminations
-plain-below (aTermination h) = h
+pub plain-below : (lines : ℕ) {i : ℕ} → Plain lines (Termination i) → i < terminations lines
+plain-below lines (aTermination h) = h
 
-plain-pick : (b : Bool) (x y : Name) → (b ≡ true → Plain x) → Plain y → Plain (pick b x y)
+plain-pick : (lines : ℕ) (b : Bool) (x y : Name) → (b ≡ true → Plain lines x) → Plain lines y → Plain lines (pick b x y)
 unfolding pick
-plain-pick true x y p q = p refl
-plain-pick false x y p q = q
+plain-pick lines true x y p q = p refl
+plain-pick lines false x y p q = q
 
 -- letters are none of the signs before them
 capital-sign : (b x : ℕ) → b < 65 → eqb (capital x) b ≡ eqb x b
@@ -48,30 +48,31 @@ within-range : (x m : ℕ) → within x m ≡ true → (0 < x) × (x ≤ m)
 unfolding within
 within-range x m e = (ltb-true 0 x (and-left (ltb 0 x) (leb x m) e), leb-true x m (and-right (ltb 0 x) (leb x m) e))
 
-line-plain : (l s : ℕ) → Plain (lineName l s)
-unfolding lineName
-line-plain l s = plain-pick (within l lines && within s channels) _ _ (λ e. aTermination (below e)) unknown
-  where
-    below : within l lines && within s channels ≡ true → channels * (l - 1) + (s - 1) < terminations
-    below e =
-        let q = within-range l lines (and-left (within l lines) (within s channels) e) in
-        let r = within-range s channels (and-right (within l lines) (within s channels) e) in
-        omega arith
+module _ (lines : ℕ) where
+  line-plain : (l s : ℕ) → Plain lines (lineName lines l s)
+  unfolding lineName
+  line-plain l s = plain-pick lines (within l lines && within s channels) _ _ (λ e. aTermination (below e)) unknown
+    where
+      below : within l lines && within s channels ≡ true → channels * (l - 1) + (s - 1) < terminations lines
+      below e =
+          let q = within-range l lines (and-left (within l lines) (within s channels) e) in
+          let r = within-range s channels (and-right (within l lines) (within s channels) e) in
+          omega arith
 
-ephemeral-plain : (n : ℕ) → Plain (ephemeralName n)
-unfolding ephemeralName
-ephemeral-plain n = plain-pick (within n ephemerals) _ _ (λ e. aTermination (let q = within-range n ephemerals e in omega arith)) unknown
+  ephemeral-plain : (k : ℕ) → Plain lines (ephemeralName lines k)
+  unfolding ephemeralName
+  ephemeral-plain k = plain-pick lines (within k ephemerals) _ _ (λ e. aTermination (let q = within-range k ephemerals e in omega arith)) unknown
 
-plainName-plain : (n : List ℕ) → Plain (plainName n)
-unfolding plainName
-plainName-plain n = plain-pick _ _ _ (λ e. line-plain _ _) (plain-pick _ _ _ (λ e. ephemeral-plain _) unknown)
+  plainName-plain : (n : List ℕ) → Plain lines (plainName lines n)
+  unfolding plainName
+  plainName-plain n = plain-pick lines _ _ _ (λ e. line-plain _ _) (plain-pick lines _ _ _ (λ e. ephemeral-plain _) unknown)
 
-capitalName-plain : (n : List ℕ) → has dollar n ≡ false → has star n ≡ false → Plain (capitalName n)
-unfolding capitalName
-capitalName-plain n d s =
-    plain-pick _ _ _ (λ e. root)
-    (plain-pick (has dollar n) _ _ (λ e. absurd (clash (sym e ∙ d))) (plain-pick (has star n) _ _ (λ e. absurd (clash (sym e ∙ s))) (plainName-plain n)))
+  capitalName-plain : (n : List ℕ) → has dollar n ≡ false → has star n ≡ false → Plain lines (capitalName lines n)
+  unfolding capitalName
+  capitalName-plain n d s =
+      plain-pick lines _ _ _ (λ e. root)
+      (plain-pick lines (has dollar n) _ _ (λ e. absurd (clash (sym e ∙ d))) (plain-pick lines (has star n) _ _ (λ e. absurd (clash (sym e ∙ s))) (plainName-plain n)))
 
-pub plain-name : (n : List ℕ) → has star n ≡ false → has dollar n ≡ false → Plain (nameOf n)
-unfolding nameOf
-plain-name n s d = capitalName-plain (capitals n) (has-capitals dollar n (omega arith) ∙ d) (has-capitals star n (omega arith) ∙ s)
+  pub plain-name : (n : List ℕ) → has star n ≡ false → has dollar n ≡ false → Plain lines (nameOf lines n)
+  unfolding nameOf
+  plain-name n s d = capitalName-plain (capitals n) (has-capitals dollar n (omega arith) ∙ d) (has-capitals star n (omega arith) ∙ s)

@@ -11,7 +11,7 @@ use Rattle.base.specs.Pick.{pick}
 use Rattle.base.specs.Lists.{every}
 use Rattle.megaco.specs.Bytes.{star, dollar}
 use Rattle.megaco.specs.Tree.{Command, command, Action, action, Transaction, transaction}
-use Rattle.megaco.specs.Table.{terminations, contexts, words, ctx, get, contextWords, sound}
+use Rattle.megaco.specs.Table.{terminations, contexts, words, fitted, ctx, get, contextWords, sized, sound}
 use Rattle.megaco.specs.Names.{nameOf}
 use Rattle.megaco.specs.Running.{Step, orders, steps, fresh}
 use Rattle.megaco.specs.declared.Context.{Context}
@@ -42,43 +42,43 @@ every-at p (suc k) (x ∷ xs) e (suc i) h l = every-at p k xs (rest (p x) e) i (
     rest true e = e
     rest false e = absurd (clash (sym e))
 
-sound-long : (t : List ℕ) → sound t ≡ true → length t ≡ words
-unfolding sound
-sound-long t e = eqb-true (length t) words (search (and-left, and-right))
+sound-long : (t : List ℕ) → sound t ≡ true → length t ≡ words (fitted t)
+unfolding sound sized
+sound-long t e = eqb-true (length t) (words (fitted t)) (search (and-left, and-right))
 
-sound-low : (t : List ℕ) → sound t ≡ true → (i : ℕ) → i < terminations → get t (ctx i) ≤ contexts
+sound-low : (t : List ℕ) → sound t ≡ true → (i : ℕ) → i < terminations (fitted t) → get t (ctx i) ≤ contexts
 unfolding sound contextWords
-sound-low t e i h = leb-true (getD t i 0) contexts (every-at (λ w. leb w contexts) terminations t (search (and-left, and-right)) i h (rw (sound-long t e) (omega arith)))
+sound-low t e i h = leb-true (getD t i 0) contexts (every-at (λ w. leb w contexts) (terminations (fitted t)) t (search (and-left, and-right)) i h (omega (arith, sound-long t e)))
 
 -- ---- the footprint of a transaction from a table
 
 abbrev Reach : List ℕ → Transaction → ℕ → Type 0
 Reach t x c = (0 < c) × (c ≤ contexts) × Reaches t x c
 
-names-plain : (x : Transaction) → NamesPlain x → (n : List ℕ) → n ∈ namesOf x → Plain (nameOf n)
-names-plain x p n m = plain-name n (has-not star n (p n m .0)) (has-not dollar n (p n m .1))
+names-plain : (lines : ℕ) (x : Transaction) → NamesPlain x → (n : List ℕ) → n ∈ namesOf x → Plain lines (nameOf lines n)
+names-plain lines x p n m = plain-name lines n (has-not star n (p n m .0)) (has-not dollar n (p n m .1))
 
-names-below : (x : Transaction) → NamesPlain x → (i : ℕ) → Names x i → i < terminations
-names-below x p i m = plain-below (subst Plain (m .means) (names-plain x p (m .name) (m .written)))
+names-below : (lines : ℕ) (x : Transaction) → NamesPlain x → (i : ℕ) → Names lines x i → i < terminations lines
+names-below lines x p i m = plain-below lines (subst (Plain lines) (m .means) (names-plain lines x p (m .name) (m .written)))
 
-foot : (t : List ℕ) (x : Transaction) → NamesPlain x → Foot (Names x) (Reach t x)
-foot t x p = record { small = names-below x p; above = λ c r. r .0; below = λ c r. r .1 }
+foot : (t : List ℕ) (x : Transaction) → NamesPlain x → Foot (fitted t) (Names (fitted t) x) (Reach t x)
+foot t x p = record { small = names-below (fitted t) x p; above = λ c r. r .0; below = λ c r. r .1 }
 
-closed : (t : List ℕ) (x : Transaction) → sound t ≡ true → NamesPlain x → Closed (Names x) (Reach t x) t
-closed t x e p = record { long = sound-long t e; home = λ i m h. (h, sound-low t e i (names-below x p i m), stands i m refl) }
+closed : (t : List ℕ) (x : Transaction) → sound t ≡ true → NamesPlain x → Closed (fitted t) (Names (fitted t) x) (Reach t x) t
+closed t x e p = record { long = sound-long t e; home = λ i m h. (h, sound-low t e i (names-below (fitted t) x p i m), stands i m refl) }
 
 -- ---- each step of a transaction is one of its footprint
 
-module _ (N K : ℕ → Type 0) where
-  named-orders : (cs : List Command) (rest : List (List ℕ)) (ss : List Step) → ((n : List ℕ) → n ∈ namesThen cs rest → Means N K (nameOf n))
-      → (((n : List ℕ) → n ∈ rest → Means N K (nameOf n)) → Each (Named N K) ss) → Each (Named N K) (orders cs ss)
+module _ (lines : ℕ) (N K : ℕ → Type 0) where
+  named-orders : (cs : List Command) (rest : List (List ℕ)) (ss : List Step) → ((n : List ℕ) → n ∈ namesThen cs rest → Means lines N K (nameOf lines n))
+      → (((n : List ℕ) → n ∈ rest → Means lines N K (nameOf lines n)) → Each (Named lines N K) ss) → Each (Named lines N K) (orders cs ss)
   unfolding namesThen orders
   named-orders [] rest ss f g = g f
   named-orders (command o w word name items ∷ cs) rest ss f g =
       (f name (List·Memᴰ·head refl), named-orders cs rest ss (λ n m. f n (List·Memᴰ·tail m)) g)
 
-  named-steps : (acts : List Action) → ((c : Context) → c ∈ contextsIn acts → Seat N K c) → ((n : List ℕ) → n ∈ namesIn acts → Means N K (nameOf n))
-      → Each (Named N K) (steps acts)
+  named-steps : (acts : List Action) → ((c : Context) → c ∈ contextsIn acts → Seat lines N K c) → ((n : List ℕ) → n ∈ namesIn acts → Means lines N K (nameOf lines n))
+      → Each (Named lines N K) (steps acts)
   unfolding contextsIn namesIn steps
   named-steps [] f g = tt
   named-steps (action c ps cs ∷ acts) f g =
@@ -87,17 +87,17 @@ module _ (N K : ℕ → Type 0) where
 abbrev pub stepsOf : Transaction → List Step
 stepsOf (transaction id acts) = steps acts
 
-named : (t : List ℕ) (x : Transaction) → ContextsPlain x → NamesPlain x → Each (Named (Names x) (Reach t x)) (stepsOf x)
-named t (transaction id acts) p q = named-steps (Names x) (Reach t x) acts (λ c m. seat c m (p c m)) (λ n m. means n m (nameOf n) refl (names-plain x q n m))
+named : (t : List ℕ) (x : Transaction) → ContextsPlain x → NamesPlain x → Each (Named (fitted t) (Names (fitted t) x) (Reach t x)) (stepsOf x)
+named t (transaction id acts) p q = named-steps (fitted t) (Names (fitted t) x) (Reach t x) acts (λ c m. seat c m (p c m)) (λ n m. means n m (nameOf (fitted t) n) refl (names-plain (fitted t) x q n m))
   where
     x : Transaction
     x = transaction id acts
 
-    seat : (c : Context) → c ∈ contextsIn acts → ByNumberOrNull c → Seat (Names x) (Reach t x) c
+    seat : (c : Context) → c ∈ contextsIn acts → ByNumberOrNull c → Seat (fitted t) (Names (fitted t) x) (Reach t x) c
     seat _ m (by-number {c = c}) = λ e. (known-above c e, known-below c e, writes m)
     seat _ m null-one = tt
 
-    means : (n : List ℕ) → n ∈ namesIn acts → (y : Name) → nameOf n ≡ y → Plain y → Means (Names x) (Reach t x) y
+    means : (n : List ℕ) → n ∈ namesIn acts → (y : Name) → nameOf (fitted t) n ≡ y → Plain (fitted t) y → Means (fitted t) (Names (fitted t) x) (Reach t x) y
     means n m _ e (aTermination h) = record { name = n; written = m; means = e }
     means n m _ e root = tt
     means n m _ e unknown = tt
@@ -109,7 +109,7 @@ abbrev pub outset : List ℕ → Both
 outset t = record { table = t; one = fresh; two = fresh }
 
 module _ (t : List ℕ) (e : sound t ≡ true) (x y : Transaction) (A : Apart t x y) where
-  disjoint : Disjoint (Names x) (Reach t x) (Names y) (Reach t y)
+  disjoint : Disjoint (fitted t) (Names (fitted t) x) (Reach t x) (Names (fitted t) y) (Reach t y)
   disjoint =
       record {
         one = foot t x (A .names-one);
@@ -118,15 +118,15 @@ module _ (t : List ℕ) (e : sound t ≡ true) (x y : Transaction) (A : Apart t 
         apart-contexts = λ c a b. A .contexts c (a .0) (a .2) (b .2);
       }
 
-  ready : Ready (Names x) (Reach t x) (Names y) (Reach t y) (outset t)
+  ready : Ready (fitted t) (Names (fitted t) x) (Reach t x) (Names (fitted t) y) (Reach t y) (outset t)
   ready = record { one-closed = closed t x e (A .names-one); two-closed = closed t y e (A .names-two); one-seats = tt; two-seats = tt }
 
   pub orders-alike : run-one (stepsOf x) (run-two (stepsOf y) (outset t)) ≡ run-two (stepsOf y) (run-one (stepsOf x) (outset t))
   orders-alike =
-      exchange (Names x) (Reach t x) (Names y) (Reach t y) disjoint (stepsOf x) (stepsOf y) (outset t)
+      exchange (fitted t) (Names (fitted t) x) (Reach t x) (Names (fitted t) y) (Reach t y) disjoint (stepsOf x) (stepsOf y) (outset t)
       (named t x (A .contexts-one) (A .names-one)) (named t y (A .contexts-two) (A .names-two)) ready
 
   pub mixture-alike : (z : Mixture (stepsOf x) (stepsOf y)) → mixed z (outset t) ≡ run-two (stepsOf y) (run-one (stepsOf x) (outset t))
   mixture-alike z =
-      one-after-other (Names x) (Reach t x) (Names y) (Reach t y) disjoint z (outset t)
+      one-after-other (fitted t) (Names (fitted t) x) (Reach t x) (Names (fitted t) y) (Reach t y) disjoint z (outset t)
       (named t x (A .contexts-one) (A .names-one)) (named t y (A .contexts-two) (A .names-two)) ready

@@ -12,7 +12,7 @@ use Rattle.megaco.specs.declared.Judged.{Judged}
 use Rattle.megaco.specs.declared.Judged.the-variants.{Wrong, Right}
 use Rattle.megaco.specs.declared.Values.{Values}
 use Rattle.megaco.specs.Tree.{Items, Command, command, Transaction, transaction, Message, wellFormed, fault400, fault403, fault406}
-use Rattle.megaco.specs.Table.{apply}
+use Rattle.megaco.specs.Table.{fitted, apply}
 use Rattle.megaco.specs.Names.{nameOf}
 use Rattle.megaco.specs.Items.{given?}
 use Rattle.megaco.specs.Reply.{Acted}
@@ -26,7 +26,7 @@ use Rattle.laws.specs.Values.{Fair, FairItems, right, items-fair}
 -- P is kept of the table, and G holds of the record that the running action gives to `$`
 pub record Keeps (P : List ℕ → Type 0) (G : ℕ → Type 0) : Type 0 where
   pub orders : (op : Op) (name : List ℕ) (given : ℕ) (vs : Values) (items : Bool) (at : Context) (t : List ℕ) → P t → G given → Fair vs → barred op at ≡ false
-      → lost op at (seen (numberOf at) t .held) ≡ false → P (aimed op name given vs (aim op at items (nameOf name) t) at t .table)
+      → lost op at (seen (numberOf at) t .held) ≡ false → P (aimed op name given vs (aim op at items (nameOf (fitted t) name) t) at t .table)
   pub starts : (c : Context) (ps : List Property) (alone : Bool) (t : List ℕ) → P t → P (apply (started c ps alone (seen (numberOf c) t .held) .writes) t)
   pub gives : (c : Context) (ps : List Property) (alone : Bool) (held : ℕ) → G (started c ps alone held .acted .given)
 
@@ -94,11 +94,11 @@ module _ (P : List ℕ → Type 0) (G : ℕ → Type 0) (K : Keeps P G) where
   message-keeps (fault403 id) t p = p
   message-keeps fault406 t p = p
 
-  pub call-keeps : (m t own o : List ℕ) → P t → P (call m t own o .table)
+  pub call-keeps : (n : ℕ) (m t own o : List ℕ) → P t → P (call n m t own o .table)
   unfolding call taken replied written
-  call-keeps m t own o p =
-      pick-of (λ (x : Called). P (x .table)) _ (λ _. p) (λ _. pick-of (λ (x : Called). P (x .table)) _ (λ _. p) (λ _. pick-of (λ (x : Called). P (x .table)) _ (λ _. p)
-      (λ _. pick-of (λ (x : Called). P (x .table)) _ (λ _. p) (λ _. message-keeps (messageR m) t p))))
+  call-keeps n m t own o p =
+      pick-of (λ (x : Called). P (x .table)) _ (λ _. p) (λ _. pick-of (λ (x : Called). P (x .table)) _ (λ _. p) (λ _. pick-of (λ (x : Called). P (x .table)) _ (λ _. p) (λ _. pick-of (λ (x : Called). P (x .table)) _ (λ _. p)
+      (λ _. pick-of (λ (x : Called). P (x .table)) _ (λ _. p) (λ _. message-keeps (messageR m) t p)))))
 
 -- ---- the length
 
@@ -119,7 +119,7 @@ length-aimed op name given vs (meets wild is) at t = length-tries op wild name g
 pub length-kept : (n : ℕ) → Keeps (λ t. length t ≡ n) (λ _. Unit {0})
 length-kept n =
     record {
-      orders = λ op name given vs items at t l _ _ _ _. length-aimed op name given vs (aim op at items (nameOf name) t) at t ∙ l;
+      orders = λ op name given vs items at t l _ _ _ _. length-aimed op name given vs (aim op at items (nameOf (fitted t) name) t) at t ∙ l;
       starts = λ c ps alone t l. length-apply _ t ∙ l;
       gives = λ c ps alone held. tt;
     }
@@ -134,5 +134,5 @@ run-length ss x = run-keeps (λ t. length t ≡ length (x .table)) (λ _. Unit {
 pub message-length : (m : Message) (t : List ℕ) → length (runMessage m t .table) ≡ length t
 message-length m t = message-keeps (λ u. length u ≡ length t) (λ _. Unit {0}) (length-kept (length t)) m t refl
 
-pub call-length : (m t own o : List ℕ) → length (call m t own o .table) ≡ length t
-call-length m t own o = call-keeps (λ u. length u ≡ length t) (λ _. Unit {0}) (length-kept (length t)) m t own o refl
+pub call-length : (n : ℕ) (m t own o : List ℕ) → length (call n m t own o .table) ≡ length t
+call-length n m t own o = call-keeps (λ u. length u ≡ length t) (λ _. Unit {0}) (length-kept (length t)) n m t own o refl

@@ -5,14 +5,15 @@ use mathlib.Core.Bool.{Bool, true, false, not, _&&_}
 use mathlib.Core.List.{List, [], _∷_}
 use lib.ListN.{length, replicate, getD, drop, length-take, length-drop}
 use lib.Seq.{getD-take, getD-drop}
-use lib.Dec.{leb, eqb}
-use borrow.Author.Tests.{eqb-true, eqb-false, eq-eqb, ne-eqb, leb-true, le-leb, not-true, not-false}
+use lib.Dec.{ltb, leb, eqb}
+use borrow.Author.Tests.{eqb-true, eqb-false, eq-eqb, ne-eqb, ltb-true, lt-ltb, leb-true, le-leb, not-true, not-false}
 use native.Mathlib.Nat.{add-zero}
 use native.Mathlib.Omega.{arith}
 use Rattle.base.specs.Pick.{pick}
 use Rattle.base.specs.Lists.{every, count}
-use Rattle.megaco.specs.Table.{lineTerminations, ephemerals, terminations, contexts, words, most, prop, rec, ctx, cell, get, contextWords, propertyWords, recordWords, ephemeralContexts, ephemeralProperties, members, modeOf, stateOf, isPropertyWord, absentAreZero, recordIsSound, recordsAreSound, sound}
-use Rattle.base.proofs.TestLaws.{and-both, both-and, pick-both, both-pick, pick-other, other-pick}
+use Rattle.megaco.specs.Table.{lineTerminations, ephemerals, terminations, contexts, words, mostLines, fitted, Sized, most, prop, rec, ctx, cell, get, contextWords, propertyWords, recordWords, ephemeralContexts, ephemeralProperties, members, modeOf, stateOf, isPropertyWord, absentAreZero, recordIsSound, recordsAreSound, sized, sound}
+use Rattle.base.proofs.TestLaws.{and-both, both-and, pick-both, both-pick, pick-other, other-pick, below, below-at}
+use Rattle.megaco.proofs.Sizes.{sized-is, is-sized}
 
 -- ---- facts
 
@@ -28,12 +29,14 @@ pub record SoundRecord (r m : ℕ) : Type 0 where
   pub room : m ≤ most
 
 pub record Whole (t : List ℕ) : Type 0 where
-  pub long : length t ≡ words
+  pub some : 0 < fitted t
+  pub few : fitted t ≤ mostLines
+  pub long : length t ≡ words (fitted t)
   -- "each context word at most 128"
-  pub place : (i : ℕ) → i < terminations → get t (ctx i) ≤ contexts
-  pub word : (i : ℕ) → i < terminations → SoundWord (get t (cell (prop i)))
+  pub place : (i : ℕ) → i < terminations (fitted t) → get t (ctx i) ≤ contexts
+  pub word : (i : ℕ) → i < terminations (fitted t) → SoundWord (get t (cell (prop i)))
   -- "an absent ephemeral's property 0"
-  pub absent : (i : ℕ) → lineTerminations ≤ i → i < terminations → get t (ctx i) ≡ 0 → get t (cell (prop i)) ≡ 0
+  pub absent : (i : ℕ) → lineTerminations (fitted t) ≤ i → i < terminations (fitted t) → get t (ctx i) ≡ 0 → get t (cell (prop i)) ≡ 0
   pub held : (c : ℕ) → 0 < c → c ≤ contexts → SoundRecord (get t (cell (rec c))) (members c t)
 
 -- a context has a record exactly when some termination stands in it
@@ -128,12 +131,12 @@ at-records cs c (r ∷ rs) f =
 
 -- ---- the parts of a table
 
-module _ (t : List ℕ) (l : length t ≡ words) where
-  pub context-words : length (contextWords t) ≡ terminations
+module _ (t : List ℕ) (l : length t ≡ words (fitted t)) where
+  pub context-words : length (contextWords t) ≡ terminations (fitted t)
   unfolding contextWords
   context-words = simp length-take (omega arith)
 
-  pub property-words : length (propertyWords t) ≡ terminations
+  pub property-words : length (propertyWords t) ≡ terminations (fitted t)
   unfolding propertyWords
   property-words = simp (length-take, length-drop) (omega arith)
 
@@ -149,33 +152,33 @@ module _ (t : List ℕ) (l : length t ≡ words) where
   unfolding ephemeralProperties
   ephemeral-properties = simp length-drop (omega (arith, property-words))
 
-pub context-at : (t : List ℕ) (i : ℕ) → i < terminations → getD (contextWords t) i 0 ≡ get t (ctx i)
+pub context-at : (t : List ℕ) (i : ℕ) → i < terminations (fitted t) → getD (contextWords t) i 0 ≡ get t (ctx i)
 unfolding contextWords
-context-at t i h = getD-take terminations t i 0 h
+context-at t i h = getD-take (terminations (fitted t)) t i 0 h
 
-pub property-at : (t : List ℕ) (i : ℕ) → i < terminations → getD (propertyWords t) i 0 ≡ get t (cell (prop i))
+pub property-at : (t : List ℕ) (i : ℕ) → i < terminations (fitted t) → getD (propertyWords t) i 0 ≡ get t (cell (prop i))
 unfolding propertyWords
-property-at t i h = getD-take terminations (drop terminations t) i 0 h ∙ getD-drop terminations t i 0
+property-at t i h = getD-take (terminations (fitted t)) (drop (terminations (fitted t)) t) i 0 h ∙ getD-drop (terminations (fitted t)) t i 0
 
 pub record-at : (t : List ℕ) (k : ℕ) → k < contexts → getD (recordWords t) k 0 ≡ get t (cell (rec (1 + k)))
 unfolding recordWords
 record-at t k h =
-    let n : terminations + (terminations + (1 + k - 1)) ≡ terminations + terminations + k = omega arith in
-    rw n (getD-take contexts (drop (terminations + terminations) t) k 0 h ∙ getD-drop (terminations + terminations) t k 0)
+    let n : terminations (fitted t) + (terminations (fitted t) + (1 + k - 1)) ≡ terminations (fitted t) + terminations (fitted t) + k = omega arith in
+    rw n (getD-take contexts (drop (terminations (fitted t) + terminations (fitted t)) t) k 0 h ∙ getD-drop (terminations (fitted t) + terminations (fitted t)) t k 0)
 
-pub ephemeral-context-at : (t : List ℕ) (k : ℕ) → k < ephemerals → getD (ephemeralContexts t) k 0 ≡ get t (ctx (lineTerminations + k))
+pub ephemeral-context-at : (t : List ℕ) (k : ℕ) → k < ephemerals → getD (ephemeralContexts t) k 0 ≡ get t (ctx (lineTerminations (fitted t) + k))
 unfolding ephemeralContexts
-ephemeral-context-at t k h = getD-drop lineTerminations (contextWords t) k 0 ∙ context-at t (lineTerminations + k) (omega arith)
+ephemeral-context-at t k h = getD-drop (lineTerminations (fitted t)) (contextWords t) k 0 ∙ context-at t (lineTerminations (fitted t) + k) (omega arith)
 
-pub ephemeral-property-at : (t : List ℕ) (k : ℕ) → k < ephemerals → getD (ephemeralProperties t) k 0 ≡ get t (cell (prop (lineTerminations + k)))
+pub ephemeral-property-at : (t : List ℕ) (k : ℕ) → k < ephemerals → getD (ephemeralProperties t) k 0 ≡ get t (cell (prop (lineTerminations (fitted t) + k)))
 unfolding ephemeralProperties
-ephemeral-property-at t k h = getD-drop lineTerminations (propertyWords t) k 0 ∙ property-at t (lineTerminations + k) (omega arith)
+ephemeral-property-at t k h = getD-drop (lineTerminations (fitted t)) (propertyWords t) k 0 ∙ property-at t (lineTerminations (fitted t) + k) (omega arith)
 
 -- ---- the test of a table
 
 -- the five tests of `sound`, one by one
 record FiveTests (t : List ℕ) : Type 0 where
-  long : eqb (length t) words ≡ true
+  size : sized t ≡ true
   places : every (λ w. leb w contexts) (contextWords t) ≡ true
   properties : every isPropertyWord (propertyWords t) ≡ true
   absents : absentAreZero (ephemeralContexts t) (ephemeralProperties t) ≡ true
@@ -188,34 +191,37 @@ sound-tests t e =
     let b₂ = and-both _ _ (b₁ .0) in
     let b₃ = and-both _ _ (b₂ .0) in
     let b₄ = and-both _ _ (b₃ .0) in
-    record { long = b₄ .0; places = b₄ .1; properties = b₃ .1; absents = b₂ .1; records = b₁ .1 }
+    record { size = b₄ .0; places = b₄ .1; properties = b₃ .1; absents = b₂ .1; records = b₁ .1 }
 
 tests-sound : (t : List ℕ) → FiveTests t → sound t ≡ true
 unfolding sound
-tests-sound t s = rw (s .long, s .places, s .properties, s .absents, s .records)
+tests-sound t s = rw (s .size, s .places, s .properties, s .absents, s .records)
 
 pub sound-whole : (t : List ℕ) → sound t ≡ true → Whole t
 unfolding members
-sound-whole t e = record { long = long; place = place; word = word; absent = absent; held = held }
+sound-whole t e = record { some = size .some; few = size .few; long = long; place = place; word = word; absent = absent; held = held }
   where
     s : FiveTests t
     s = sound-tests t e
 
-    long : length t ≡ words
-    long = eqb-true (length t) words (s .long)
+    size : Sized t
+    size = sized-is t (s .size)
 
-    place : (i : ℕ) → i < terminations → get t (ctx i) ≤ contexts
+    long : length t ≡ words (fitted t)
+    long = size .long
+
+    place : (i : ℕ) → i < terminations (fitted t) → get t (ctx i) ≤ contexts
     place i h =
         rw (context-at t i h) at (leb-true (getD (contextWords t) i 0) contexts (every-at (λ w. leb w contexts) (contextWords t) (s .places) i (omega (arith, context-words t long))))
 
-    word : (i : ℕ) → i < terminations → SoundWord (get t (cell (prop i)))
+    word : (i : ℕ) → i < terminations (fitted t) → SoundWord (get t (cell (prop i)))
     word i h =
         rw (property-at t i h) at (word-sound (getD (propertyWords t) i 0) (every-at isPropertyWord (propertyWords t) (s .properties) i (omega (arith, property-words t long))))
 
-    absent : (i : ℕ) → lineTerminations ≤ i → i < terminations → get t (ctx i) ≡ 0 → get t (cell (prop i)) ≡ 0
+    absent : (i : ℕ) → lineTerminations (fitted t) ≤ i → i < terminations (fitted t) → get t (ctx i) ≡ 0 → get t (cell (prop i)) ≡ 0
     absent i k h z =
-        let j : ℕ = i - lineTerminations in
-        let n : i ≡ lineTerminations + j = omega arith in
+        let j : ℕ = i - (lineTerminations (fitted t)) in
+        let n : i ≡ lineTerminations (fitted t) + j = omega arith in
         let b : j < ephemerals = omega arith in
         let f = absent-at (ephemeralContexts t) (ephemeralProperties t) (s .absents) j (omega (arith, ephemeral-contexts t long)) (omega (arith, ephemeral-properties t long)) in
         rw n (sym (ephemeral-property-at t j b) ∙ f (ephemeral-context-at t j b ∙ rw (← n) z))
@@ -232,7 +238,7 @@ unfolding members
 whole-sound t w =
     tests-sound t
     (record {
-      long = eq-eqb (length t) words (w .long);
+      size = is-sized t (record { some = w .some; few = w .few; long = w .long });
       places = at-every (λ x. leb x contexts) (contextWords t) place;
       properties = at-every isPropertyWord (propertyWords t) word;
       absents = at-absent (ephemeralContexts t) (ephemeralProperties t) absent;
@@ -241,25 +247,31 @@ whole-sound t w =
   where
     place : (i : ℕ) → i < length (contextWords t) → leb (getD (contextWords t) i 0) contexts ≡ true
     place i h =
-        let b : i < terminations = omega (arith, context-words t (w .long)) in
+        let b : i < terminations (fitted t) = omega (arith, context-words t (w .long)) in
         rw (context-at t i b) (le-leb (get t (ctx i)) contexts (w .place i b))
 
     word : (i : ℕ) → i < length (propertyWords t) → isPropertyWord (getD (propertyWords t) i 0) ≡ true
     word i h =
-        let b : i < terminations = omega (arith, property-words t (w .long)) in
+        let b : i < terminations (fitted t) = omega (arith, property-words t (w .long)) in
         rw (property-at t i b) (sound-word (get t (cell (prop i))) (w .word i b))
 
     absent : (i : ℕ) → i < length (ephemeralContexts t) → i < length (ephemeralProperties t) → getD (ephemeralContexts t) i 0 ≡ 0 → getD (ephemeralProperties t) i 0 ≡ 0
     absent i h k z =
         let b : i < ephemerals = omega (arith, ephemeral-contexts t (w .long)) in
-        ephemeral-property-at t i b ∙ w .absent (lineTerminations + i) (omega arith) (omega arith) (sym (ephemeral-context-at t i b) ∙ z)
+        ephemeral-property-at t i b ∙ w .absent (lineTerminations (fitted t) + i) (omega arith) (omega arith) (sym (ephemeral-context-at t i b) ∙ z)
 
     held : (i : ℕ) → i < length (recordWords t) → SoundRecord (getD (recordWords t) i 0) (count (1 + i) (contextWords t))
     held i h =
         let b : i < contexts = omega (arith, record-words t (w .long)) in
         rw (record-at t i b) (w .held (1 + i) (omega arith) (omega arith))
 
--- "All zero is the fresh table"
-pub fresh-sound : sound (replicate words 0) ≡ true
-unfolding sound contextWords propertyWords recordWords ephemeralContexts ephemeralProperties every isPropertyWord absentAreZero recordIsSound recordsAreSound count pick
-fresh-sound = refl
+-- "All zero is the fresh table", of any count of lines: one test computed over all of them
+fresh-all : below (λ k. sound (replicate (words (k + 1)) 0)) mostLines ≡ true
+unfolding below fitted sized sound contextWords propertyWords recordWords ephemeralContexts ephemeralProperties every isPropertyWord absentAreZero recordIsSound recordsAreSound count pick
+fresh-all = refl
+
+pub fresh-sound : (n : ℕ) → 0 < n → n ≤ mostLines → sound (replicate (words n) 0) ≡ true
+fresh-sound n p q =
+    let k : ℕ = n - 1 in
+    let e : n ≡ k + 1 = omega arith in
+    rw e (below-at (λ j. sound (replicate (words (j + 1)) 0)) mostLines k fresh-all (omega arith))

@@ -1,11 +1,11 @@
 -- A step acts in its footprint only, and by what it sees of its footprint only.
 use Prim.Native.Nat.{ℕ}
-use mathlib.Core.Path.{_≡_, refl, sym, ap, _∙_}
+use mathlib.Core.Path.{_≡_, refl, sym, ap, _∙_, subst}
 use mathlib.Core.Bool.{Bool, true, false, _&&_, _||_}
 use mathlib.Core.List.{List, [], _∷_, _++_}
 use mathlib.Core.Option.{Option, none, some}
 use Rattle.base.specs.Pick.{pick}
-use Rattle.megaco.specs.Table.{ctx, get, Write, apply, exists}
+use Rattle.megaco.specs.Table.{fitted, ctx, get, Write, apply, exists}
 use Rattle.megaco.specs.Tree.{Items, Command, command}
 use Rattle.megaco.specs.Names.{nameOf}
 use Rattle.megaco.specs.Items.{judgeItems, given?}
@@ -20,6 +20,7 @@ use Rattle.megaco.specs.declared.Judged.{Judged}
 use Rattle.megaco.specs.declared.Judged.the-variants.{Wrong, Right}
 use Rattle.megaco.specs.declared.Values.{Values}
 use Rattle.megaco.specs.declared.Seen.{Seen}
+use Rattle.megaco.proofs.Sizes.{fitted-is, fitted-same}
 use Rattle.laws.specs.Frame.{AllOurs, nothing, Foot, Closed, Agree}
 use Rattle.laws.specs.Views.{Seat, seat-same, look-same}
 use Rattle.laws.specs.Written.{seat-home, seat-above, Lies, effect-lies, started-lies}
@@ -46,7 +47,7 @@ root-nobody : (op : Op) (w : Context) (items : Bool) → Nobody (aimRoot op w it
 unfolding aimRoot
 root-nobody op w items = nobody-pick _ _ _ missing (nobody-pick _ _ _ missing (nobody-pick _ _ _ missing itself))
 
-module _ (N K : ℕ → Type 0) where
+module _ (lines : ℕ) (N K : ℕ → Type 0) where
   -- a name that means a termination of the footprint, or none
   abbrev pub Means : Name → Type 0
   Means (Termination i) = N i
@@ -58,13 +59,13 @@ module _ (N K : ℕ → Type 0) where
   Means Unknown = Unit {0}
 
   abbrev pub Named : Step → Type 0
-  Named (start w ps alone) = Seat N K w
-  Named (order (command o wild word name items)) = Means (nameOf name)
+  Named (start w ps alone) = Seat lines N K w
+  Named (order (command o wild word name items)) = Means (nameOf lines name)
 
   -- the running action stands in null or in a context of the footprint
   abbrev pub Seats : List Acted → Type 0
   Seats [] = Unit {0}
-  Seats (a ∷ acts) = Seat N K (a .at)
+  Seats (a ∷ acts) = Seat lines N K (a .at)
 
   -- ---- a command that is local: what it writes and reports is the same on every table that the footprint takes for t
 
@@ -73,12 +74,12 @@ module _ (N K : ℕ → Type 0) where
     reports : List Report
     at : Context
     going : Bool
-    all : AllOurs N K writes
-    seat : Seat N K at
-    on : (u : List ℕ) → Agree N K t u → f u ≡ outcome (apply writes u) reports at going
+    all : AllOurs lines N K writes
+    seat : Seat lines N K at
+    on : (u : List ℕ) → Agree lines N K t u → f u ≡ outcome (apply writes u) reports at going
 
   -- it may first read what the footprint tells
-  local-reads : {A : Type 0} (t : List ℕ) (r : List ℕ → A) (f : A → List ℕ → Outcome) → ((u : List ℕ) → Agree N K t u → r t ≡ r u)
+  local-reads : {A : Type 0} (t : List ℕ) (r : List ℕ → A) (f : A → List ℕ → Outcome) → ((u : List ℕ) → Agree lines N K t u → r t ≡ r u)
       → Local (f (r t)) t → Local (λ u. f (r u) u) t
   local-reads t r f e l =
       record {
@@ -98,26 +99,29 @@ module _ (N K : ℕ → Type 0) where
   local-pick t false f g p q = q refl
 
   -- it writes nothing
-  local-still : (t : List ℕ) (rs : List Report) (w : Context) (g : Bool) → Seat N K w → Local (λ u. outcome u rs w g) t
+  local-still : (t : List ℕ) (rs : List Report) (w : Context) (g : Bool) → Seat lines N K w → Local (λ u. outcome u rs w g) t
   unfolding apply
   local-still t rs w g s = record { writes = []; reports = rs; at = w; going = g; all = nothing; seat = s; on = λ u a. refl }
 
-  local-missed : (t : List ℕ) (op : Op) (name : List ℕ) (code : ℕ) (w : Context) → Seat N K w → Local (λ u. missed op name code w u) t
+  local-missed : (t : List ℕ) (op : Op) (name : List ℕ) (code : ℕ) (w : Context) → Seat lines N K w → Local (λ u. missed op name code w u) t
   unfolding missed
   local-missed t op name code w s = local-still t _ w _ s
 
-  local-error : (t : List ℕ) (code : ℕ) (w : Context) → Seat N K w → Local (λ u. actionError code w u) t
+  local-error : (t : List ℕ) (code : ℕ) (w : Context) → Seat lines N K w → Local (λ u. actionError code w u) t
   unfolding actionError
   local-error t code w s = local-still t _ w _ s
 
-  module _ (F : Foot N K) (t : List ℕ) (c : Closed N K t) where
+  module _ (F : Foot lines N K) (t : List ℕ) (c : Closed lines N K t) where
+    fit : fitted t ≡ lines
+    fit = fitted-is lines t (c .long)
+
     -- one attempt, in a context that exists
-    local-try : (op : Op) (name : List ℕ) (given : ℕ) (vs : Values) (i : ℕ) (w : Context) → Seat N K w → N i → barred op w ≡ false
+    local-try : (op : Op) (name : List ℕ) (given : ℕ) (vs : Values) (i : ℕ) (w : Context) → Seat lines N K w → N i → barred op w ≡ false
         → lost op w (seen (numberOf w) t .held) ≡ false → Local (λ u. tries op false name given vs (i ∷ []) w u) t
     unfolding tries
     local-try op name given vs i w s m b l =
         local-reads t (look w i) (λ v u. let e = effect op false name given vs i w v in outcome (apply (e .writes) u) (e .report ∷ []) (e .at) (e .good && true))
-        (λ u a. look-same N K F t u a w i c s m)
+        (λ u a. look-same lines N K F t u a fit w i c s m)
         (record {
           writes = e .writes;
           reports = e .report ∷ [];
@@ -131,10 +135,10 @@ module _ (N K : ℕ → Type 0) where
         e : Effect
         e = effect op false name given vs i w (look w i t)
 
-        lies : Lies N K F e
-        lies = effect-lies N K F op false name given vs i w (look w i t) s m (unfold look in c .home i m) (seat-home N K op w t s l) (λ x. seat-above N K op w t s x b l)
+        lies : Lies lines N K F e
+        lies = effect-lies lines N K F op false name given vs i w (look w i t) s m (unfold look in c .home i m) (seat-home lines N K op w t s l) (λ x. seat-above lines N K op w t s x b l)
 
-    module _ (op : Op) (name : List ℕ) (given : ℕ) (w : Context) (s : Seat N K w) (b : barred op w ≡ false) (l : lost op w (seen (numberOf w) t .held) ≡ false) where
+    module _ (op : Op) (name : List ℕ) (given : ℕ) (w : Context) (s : Seat lines N K w) (b : barred op w ≡ false) (l : lost op w (seen (numberOf w) t .held) ≡ false) where
       -- a name that means nobody to try
       local-nobody : (vs : Values) (x : Aim) → Nobody x → Local (λ u. aimed op name given vs x w u) t
       unfolding aimed
@@ -150,8 +154,8 @@ module _ (N K : ℕ → Type 0) where
       local-aimed : (items : Bool) (vs : Values) (n : Name) → Means n → Local (λ u. aimed op name given vs (aim op w items n u) w u) t
       unfolding aim
       local-aimed items vs (Termination i) m =
-          local-reads t (λ u. exists i (get u (ctx i))) (λ b u. aimed op name given vs (pick b (meets false (i ∷ [])) (misses 430)) w u)
-          (λ u a. ap (exists i) (a .same (ctx i) (F .small i m) m)) (local-met vs i m (exists i (get t (ctx i))))
+          local-reads t (λ u. exists (fitted u) i (get u (ctx i))) (λ b u. aimed op name given vs (pick b (meets false (i ∷ [])) (misses 430)) w u)
+          (λ u a j. exists (fitted-same t u (a .long) j) i (a .same (ctx i) (F .small i m) m j)) (local-met vs i m (exists (fitted t) i (get t (ctx i))))
       local-aimed items vs Root m = local-nobody vs _ (root-nobody op w items)
       local-aimed items vs Chosen m = absurd m
       local-aimed items vs Unchosen m = absurd m
@@ -159,17 +163,19 @@ module _ (N K : ℕ → Type 0) where
       local-aimed items vs Unmatched m = absurd m
       local-aimed items vs Unknown m = local-nobody vs (misses 430) missing
 
-      local-named : (items : Bool) (j : Judged) → Means (nameOf name) → Local (λ u. named op name given items j w u) t
+      local-named : (items : Bool) (j : Judged) → Means (nameOf lines name) → Local (λ u. named op name given items j w u) t
       unfolding named
       local-named items (Wrong code) m = local-missed t op name code w s
-      local-named items (Right vs) m = local-aimed items vs (nameOf name) m
+      local-named items (Right vs) m =
+          local-reads t (λ u. nameOf (fitted u) name) (λ n u. aimed op name given vs (aim op w items n u) w u) (λ u a. ap (λ (k : ℕ). nameOf k name) (fitted-same t u (a .long)))
+          (local-aimed items vs (nameOf (fitted t) name) (subst (λ (k : ℕ). Means (nameOf k name)) (sym fit) m))
 
-    local-tested : (op : Op) (name : List ℕ) (items : Items) (given : ℕ) (w : Context) → Seat N K w → barred op w ≡ false → Means (nameOf name)
+    local-tested : (op : Op) (name : List ℕ) (items : Items) (given : ℕ) (w : Context) → Seat lines N K w → barred op w ≡ false → Means (nameOf lines name)
         → Local (λ u. tested op name items given w u) t
     unfolding tested
     local-tested op name items given w s b m =
         local-reads t (λ u. seen (numberOf w) u .held) (λ h u. pick (lost op w h) (missed op name 411 w u) (named op name given (given? items) (judgeItems (isSubtract op) items) w u))
-        (λ u a. ap (λ (x : Seen). x .held) (seat-same N K F t u a w s))
+        (λ u a. ap (λ (x : Seen). x .held) (seat-same lines N K F t u a fit w s))
         (local-pick t (lost op w (seen (numberOf w) t .held)) _ _ (local-missed t op name 411 w s)
         (λ l. local-named op name given w s b l (given? items) (judgeItems (isSubtract op) items) m))
 
@@ -186,14 +192,14 @@ module _ (N K : ℕ → Type 0) where
           on = λ u a. ap (unlessOptional o) (l .on u a);
         }
 
-    local-ordered : (o : Bool) (op : Option Op) (name : List ℕ) (items : Items) (given : ℕ) (w : Context) → Seat N K w → Means (nameOf name)
+    local-ordered : (o : Bool) (op : Option Op) (name : List ℕ) (items : Items) (given : ℕ) (w : Context) → Seat lines N K w → Means (nameOf lines name)
         → Local (λ u. ordered o op name items given w u) t
     unfolding ordered
     local-ordered o none name items given w s m = local-error t 443 w s
     local-ordered o (some op) name items given w s m =
         local-pick t (barred op w) _ _ (local-error t 421 w s) (λ b. local-optional o _ (local-tested op name items given w s b m))
 
-    local-command : (x : Command) (given : ℕ) (w : Context) → Seat N K w → Named (order x) → Local (λ u. runCommand x given w u) t
+    local-command : (x : Command) (given : ℕ) (w : Context) → Seat lines N K w → Named (order x) → Local (λ u. runCommand x given w u) t
     unfolding runCommand
     local-command (command o wild word name items) given w s m = local-ordered o (opOf wild word) name items given w s m
 
@@ -201,25 +207,25 @@ module _ (N K : ℕ → Type 0) where
 
   pub record Acts (f : List ℕ → State) (t : List ℕ) : Type 0 where
     pub change : Change
-    pub all : AllOurs N K (change .writes)
+    pub all : AllOurs lines N K (change .writes)
     pub seats : Seats (change .next .acts)
-    pub on : (u : List ℕ) → Agree N K t u → f u ≡ enact change u
+    pub on : (u : List ℕ) → Agree lines N K t u → f u ≡ enact change u
 
   acts-still : (t : List ℕ) (p : Progress) → Seats (p .acts) → Acts (λ u. state u p) t
   unfolding apply
   acts-still t p s = record { change = record { writes = []; next = p }; all = nothing; seats = s; on = λ u a. refl }
 
-  module _ (F : Foot N K) (t : List ℕ) (c : Closed N K t) where
+  module _ (F : Foot lines N K) (t : List ℕ) (c : Closed lines N K t) where
     acts-proceed : (s : Step) (acts : List Acted) → Named s → Seats acts → Acts (λ u. proceed s u acts) t
     unfolding proceed begin advance
     acts-proceed (start w ps alone) acts m h =
-        let lies = started-lies N K F w ps alone t m in
+        let lies = started-lies lines N K F w ps alone t m in
         let x = started w ps alone (seen (numberOf w) t .held) in
         record {
           change = record { writes = x .writes; next = progress (x .going) (x .acted ∷ acts) };
           all = lies .all;
           seats = lies .seat;
-          on = λ u a. ap (λ (y : Seen). begin (started w ps alone (y .held)) u acts) (sym (seat-same N K F t u a w m));
+          on = λ u a. ap (λ (y : Seen). begin (started w ps alone (y .held)) u acts) (sym (seat-same lines N K F t u a (fitted-is lines t (c .long)) w m));
         }
     acts-proceed (order x) [] m h = acts-still t (progress true []) tt
     acts-proceed (order x) (a ∷ acts) m h =

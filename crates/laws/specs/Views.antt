@@ -6,12 +6,13 @@ use mathlib.Core.List.{List}
 use lib.Dec.{eqb, leb, ltb}
 use borrow.Author.Tests.{leb-true, ltb-true}
 use Rattle.base.specs.Pick.{pick}
-use Rattle.megaco.specs.Table.{terminations, contexts, prop, rec, ctx, cell, get, known, members, contextWords}
+use Rattle.megaco.specs.Table.{terminations, contexts, fitted, prop, rec, ctx, cell, get, known, members, contextWords}
 use Rattle.megaco.specs.Running.{unseen, seen, numberOf, freeAt, look}
 use Rattle.megaco.specs.declared.Context.{Context}
 use Rattle.megaco.specs.declared.Context.the-variants.{Null, Numbered, Choose, All}
 use Rattle.megaco.specs.declared.Seen.{Seen}
 use Rattle.base.proofs.TestLaws.{clash, and-left, and-right}
+use Rattle.megaco.proofs.Sizes.{fitted-same}
 use Rattle.laws.specs.Counting.{count-agree}
 use Rattle.laws.specs.Frame.{Foot, Closed, Agree}
 
@@ -32,7 +33,7 @@ held-known c t = by (known c)
     by true e = refl
     by false e = absurd (clash e)
 
-module _ (N K : ℕ → Type 0) where
+module _ (lines : ℕ) (N K : ℕ → Type 0) where
   -- a context that a step stands in
   abbrev pub Seat : Context → Type 0
   Seat Null = Unit {0}
@@ -48,9 +49,13 @@ module _ (N K : ℕ → Type 0) where
   seat-known Choose s e = absurd s
   seat-known All s e = absurd s
 
-  module _ (F : Foot N K) (t u : List ℕ) (a : Agree N K t u) where
+  module _ (F : Foot lines N K) (t u : List ℕ) (a : Agree lines N K t u) (f : fitted t ≡ lines) where
+    members-alike : (c : ℕ) → K c → members c t ≡ members c u
+    unfolding members contextWords
+    members-alike c k = rw (f, sym (fitted-same t u (a .long)) ∙ f) (count-agree (terminations lines) c t u (a .long) (a .stand c k))
+
     seen-same : (c : ℕ) → (known c ≡ true → K c) → seen c t ≡ seen c u
-    unfolding seen members contextWords pick
+    unfolding seen pick
     seen-same c s = by (known c) refl
       where
         by : (x : Bool) → known c ≡ x
@@ -60,7 +65,7 @@ module _ (N K : ℕ → Type 0) where
         by true e =
             λ j. record {
               held = a .same (cell (rec c)) (F .above c (s e), F .below c (s e)) (s e) j;
-              members = count-agree terminations c t u (a .long) (a .stand c (s e)) j;
+              members = members-alike c (s e) j;
             }
         by false e = refl
 
@@ -75,12 +80,12 @@ module _ (N K : ℕ → Type 0) where
     free-same Choose s = absurd s
     free-same All s = absurd s
 
-    pub look-same : (w : Context) (i : ℕ) → Closed N K t → Seat w → N i → look w i t ≡ look w i u
+    pub look-same : (w : Context) (i : ℕ) → Closed lines N K t → Seat w → N i → look w i t ≡ look w i u
     unfolding look
     look-same w i c s m =
-        let b : i < terminations = F .small i m in
+        let b : i < terminations lines = F .small i m in
         let p : get t (ctx i) ≡ get u (ctx i) = a .same (ctx i) b m in
         let q : get t (cell (prop i)) ≡ get u (cell (prop i)) = a .same (cell (prop i)) b m in
         let y : seen (get t (ctx i)) t ≡ seen (get t (ctx i)) u = seen-same (get t (ctx i)) (λ e. c .home i m (known-above (get t (ctx i)) e)) in
         let z : seen (get t (ctx i)) t ≡ seen (get u (ctx i)) u = y ∙ ap (λ (d : ℕ). seen d u) p in
-        λ j. record { here = p j; word = q j; there = seat-same w s j; from = z j; free = free-same w s j }
+        λ j. record { here = p j; word = q j; there = seat-same w s j; from = z j; free = free-same w s j; lines = fitted-same t u (a .long) j }

@@ -33,9 +33,9 @@ firstOf fault406 = transaction 0 []
 abbrev pub read : String → Transaction
 read s = firstOf (messageR (message s))
 
--- the fresh table with words written
+-- the fresh table of eight lines with words written
 unfoldable pub with-words : List (ℕ × ℕ) → List ℕ
-with-words [] = replicate words 0
+with-words [] = replicate (words 8) 0
 with-words (w ∷ ws) = set (with-words ws) (w .0) (w .1)
 
 -- every test, opened

@@ -29,24 +29,24 @@ Passed (check b code ∷ cs) = (b ≡ false) × Passed cs
 nonzero : (x : ℕ) → (x ≡ 0 → ⊥) → 0 < x
 nonzero x h = omega arith
 
-module _ (N K : ℕ → Type 0) where
+module _ (lines : ℕ) (N K : ℕ → Type 0) where
   pub data Good : Result → Type 0 where
     fails : {code : ℕ} → Good (refused code)
-    does : {ws : List Write} → AllOurs N K ws → Good (done ws)
+    does : {ws : List Write} → AllOurs lines N K ws → Good (done ws)
 
-  judge-good : (cs : List Check) (ws : List Write) → (Passed cs → AllOurs N K ws) → Good (judge cs ws)
+  judge-good : (cs : List Check) (ws : List Write) → (Passed cs → AllOurs lines N K ws) → Good (judge cs ws)
   unfolding judge pick
   judge-good [] ws h = does (h tt)
   judge-good (check true code ∷ cs) ws h = fails
   judge-good (check false code ∷ cs) ws h = judge-good cs ws (λ p. h (refl, p))
 
-  pick-all : (b : Bool) (vs ws : List Write) → (b ≡ true → AllOurs N K vs) → AllOurs N K ws → AllOurs N K (pick b vs ws)
+  pick-all : (b : Bool) (vs ws : List Write) → (b ≡ true → AllOurs lines N K vs) → AllOurs lines N K ws → AllOurs lines N K (pick b vs ws)
   unfolding pick
   pick-all true vs ws p q = p refl
   pick-all false vs ws p q = q
 
   -- a context that exists now: null, or one of the footprint
-  pub seat-home : (op : Op) (w : Context) (t : List ℕ) → Seat N K w → lost op w (seen (numberOf w) t .held) ≡ false → 0 < numberOf w → K (numberOf w)
+  pub seat-home : (op : Op) (w : Context) (t : List ℕ) → Seat lines N K w → lost op w (seen (numberOf w) t .held) ≡ false → 0 < numberOf w → K (numberOf w)
   unfolding lost numberOf
   seat-home op Null t s e h = absurd (omega arith)
   seat-home op (Numbered c) t s e h = s (held-known c t e)
@@ -54,7 +54,7 @@ module _ (N K : ℕ → Type 0) where
   seat-home op All t s e h = absurd s
 
   -- a numbered one, but for a Modify
-  pub seat-above : (op : Op) (w : Context) (t : List ℕ) → Seat N K w → isModify op ≡ false → barred op w ≡ false → lost op w (seen (numberOf w) t .held) ≡ false
+  pub seat-above : (op : Op) (w : Context) (t : List ℕ) → Seat lines N K w → isModify op ≡ false → barred op w ≡ false → lost op w (seen (numberOf w) t .held) ≡ false
       → 0 < numberOf w
   unfolding lost numberOf barred isNull
   seat-above op Null t s x b e = absurd (clash (rw x at b))
@@ -62,37 +62,37 @@ module _ (N K : ℕ → Type 0) where
   seat-above op Choose t s x b e = absurd s
   seat-above op All t s x b e = absurd s
 
-  module _ (F : Foot N K) where
+  module _ (F : Foot lines N K) where
     -- one law for each kind of slot
-    ours-ctx : (i v : ℕ) → N i → (0 < v → K v) → Ours N K (ctx i) v
+    ours-ctx : (i v : ℕ) → N i → (0 < v → K v) → Ours lines N K (ctx i) v
     ours-ctx i v m k = record { valid = F .small i m; mine = m; fits = k }
 
-    ours-prop : (i v : ℕ) → N i → Ours N K (cell (prop i)) v
+    ours-prop : (i v : ℕ) → N i → Ours lines N K (cell (prop i)) v
     ours-prop i v m = record { valid = F .small i m; mine = m; fits = tt }
 
-    ours-rec : (c v : ℕ) → K c → Ours N K (cell (rec c)) v
+    ours-rec : (c v : ℕ) → K c → Ours lines N K (cell (rec c)) v
     ours-rec c v k = record { valid = (F .above c k, F .below c k); mine = k; fits = tt }
 
-    placed-all : (i c word : ℕ) → N i → (0 < c → K c) → AllOurs N K (placed i c word)
+    placed-all : (i c word : ℕ) → N i → (0 < c → K c) → AllOurs lines N K (placed i c word)
     unfolding placed
     placed-all i c word m k = also (ours-ctx i c m k) (also (ours-prop i word m) nothing)
 
     -- no context is made where none is chosen
-    joining-all : (w : Context) (given : ℕ) (v : View) (i word : ℕ) → Seat N K w → N i → (0 < numberOf w → K (numberOf w))
-        → AllOurs N K (joining w given v (placed i (target w v) word))
+    joining-all : (w : Context) (given : ℕ) (v : View) (i word : ℕ) → Seat lines N K w → N i → (0 < numberOf w → K (numberOf w))
+        → AllOurs lines N K (joining w given v (placed i (target w v) word))
     unfolding joining target isChoose pick
     joining-all Null given v i word s m k = placed-all i _ word m k
     joining-all (Numbered c) given v i word s m k = placed-all i _ word m k
     joining-all Choose given v i word s m k = absurd s
     joining-all All given v i word s m k = absurd s
 
-    leaving-all : (v : View) (ws : List Write) → K (v .here) → AllOurs N K ws → AllOurs N K (leaving v ws)
+    leaving-all : (v : View) (ws : List Write) → K (v .here) → AllOurs lines N K ws → AllOurs lines N K (leaving v ws)
     unfolding leaving
     leaving-all v ws k a = pick-all (leb (v .from .members) 1) _ ws (λ e. also (ours-rec (v .here) 0 k) a) a
 
     -- an attempt that passes its tests, in a context that exists
-    changes-all : (op : Op) (w : Context) (given i : ℕ) (vs : Values) (v : View) → Seat N K w → N i → (0 < v .here → K (v .here))
-        → (0 < numberOf w → K (numberOf w)) → (isModify op ≡ false → 0 < numberOf w) → Passed (checks op w v) → AllOurs N K (changes op w given i vs v)
+    changes-all : (op : Op) (w : Context) (given i : ℕ) (vs : Values) (v : View) → Seat lines N K w → N i → (0 < v .here → K (v .here))
+        → (0 < numberOf w → K (numberOf w)) → (isModify op ≡ false → 0 < numberOf w) → Passed (checks op w v) → AllOurs lines N K (changes op w given i vs v)
     unfolding checks changes isModify
     changes-all Add w given i vs v s m h k z p = joining-all w given v i _ s m k
     changes-all Modify w given i vs v s m h k z p = also (ours-prop i _ m) nothing
@@ -104,22 +104,22 @@ module _ (N K : ℕ → Type 0) where
 
     -- what an attempt writes, and where its action stands after it
     pub record Lies (e : Effect) : Type 0 where
-      pub all : AllOurs N K (e .writes)
-      pub seat : Seat N K (e .at)
+      pub all : AllOurs lines N K (e .writes)
+      pub seat : Seat lines N K (e .at)
 
-    seat-settled : (w : Context) (v : View) → Seat N K w → Seat N K (settled w v)
+    seat-settled : (w : Context) (v : View) → Seat lines N K w → Seat lines N K (settled w v)
     unfolding settled isChoose pick
     seat-settled Null v s = s
     seat-settled (Numbered c) v s = s
     seat-settled Choose v s = absurd s
     seat-settled All v s = absurd s
 
-    concluded-lies : (op : Op) (wild : Bool) (name : List ℕ) (i : ℕ) (w : Context) (v : View) (r : Result) → Seat N K w → Good r → Lies (concluded op wild name i w v r)
+    concluded-lies : (op : Op) (wild : Bool) (name : List ℕ) (i : ℕ) (w : Context) (v : View) (r : Result) → Seat lines N K w → Good r → Lies (concluded op wild name i w v r)
     unfolding concluded
     concluded-lies op wild name i w v (refused code) s fails = record { all = nothing; seat = s }
     concluded-lies op wild name i w v (done ws) s (does g) = record { all = g; seat = seat-settled w v s }
 
-    pub effect-lies : (op : Op) (wild : Bool) (name : List ℕ) (given : ℕ) (vs : Values) (i : ℕ) (w : Context) (v : View) → Seat N K w → N i
+    pub effect-lies : (op : Op) (wild : Bool) (name : List ℕ) (given : ℕ) (vs : Values) (i : ℕ) (w : Context) (v : View) → Seat lines N K w → N i
         → (0 < v .here → K (v .here)) → (0 < numberOf w → K (numberOf w)) → (isModify op ≡ false → 0 < numberOf w)
         → Lies (effect op wild name given vs i w v)
     unfolding effect attempt
@@ -130,16 +130,16 @@ module _ (N K : ℕ → Type 0) where
 
     -- what it writes, and where its action stands
     pub record StartLies (x : Start) : Type 0 where
-      pub all : AllOurs N K (x .writes)
-      pub seat : Seat N K (x .acted .at)
+      pub all : AllOurs lines N K (x .writes)
+      pub seat : Seat lines N K (x .acted .at)
 
-    startedBy-lies : (w : Context) (ps : List Property) (alone : Bool) (held : ℕ) (r : Result) → Seat N K w → Good r → StartLies (startedBy w ps alone held r)
+    startedBy-lies : (w : Context) (ps : List Property) (alone : Bool) (held : ℕ) (r : Result) → Seat lines N K w → Good r → StartLies (startedBy w ps alone held r)
     unfolding startedBy
     startedBy-lies w ps alone held (refused code) s fails = record { all = nothing; seat = s }
     startedBy-lies w ps alone held (done ws) s (does g) = record { all = g; seat = s }
 
-    writes-all : (w : Context) (ps : List Property) (alone : Bool) (t : List ℕ) → Seat N K w
-        → Passed (startChecks w ps alone (seen (numberOf w) t .held)) → AllOurs N K (startWrites w ps (seen (numberOf w) t .held))
+    writes-all : (w : Context) (ps : List Property) (alone : Bool) (t : List ℕ) → Seat lines N K w
+        → Passed (startChecks w ps alone (seen (numberOf w) t .held)) → AllOurs lines N K (startWrites w ps (seen (numberOf w) t .held))
     unfolding startChecks startWrites numberOf
     writes-all Null ps alone t s p = nothing
     writes-all (Numbered c) ps alone t s p =
@@ -147,6 +147,6 @@ module _ (N K : ℕ → Type 0) where
     writes-all Choose ps alone t s p = absurd s
     writes-all All ps alone t s p = absurd s
 
-    pub started-lies : (w : Context) (ps : List Property) (alone : Bool) (t : List ℕ) → Seat N K w → StartLies (started w ps alone (seen (numberOf w) t .held))
+    pub started-lies : (w : Context) (ps : List Property) (alone : Bool) (t : List ℕ) → Seat lines N K w → StartLies (started w ps alone (seen (numberOf w) t .held))
     unfolding started
     started-lies w ps alone t s = startedBy-lies w ps alone _ _ s (judge-good _ _ (writes-all w ps alone t s))

@@ -11,11 +11,11 @@ use Rattle.gateway.specs.Answers.{refusalOf, sizeOf, Answered}
 use Rattle.gateway.specs.declared.Outcome.{Outcome}
 use Rattle.gateway.specs.declared.Outcome.the-variants.{Taken}
 use Rattle.sessions.specs.Lines.{lineEnd}
-use Rattle.sessions.specs.Listing.{refusedText}
+use Rattle.sessions.specs.Listing.{lines, refusedText}
 use Rattle.sessions.specs.Session.{ownMid, answerRoom, Answers}
 use Rattle.sessions.proofs.AnswerLaws.{answers-reply, answers-refused}
 
-module _ (m t o : List ℕ) (a : Outcome) (t′ o₁ o′ : List ℕ) (r : ℕ) (room : answerRoom ≤ length o) (got : Answered (call m t (text "[10.0.0.9]") o) t′ o₁ a) where
+module _ (m t o : List ℕ) (a : Outcome) (t′ o₁ o′ : List ℕ) (r : ℕ) (room : answerRoom ≤ length o) (got : Answered (call lines m t (text "[10.0.0.9]") o) t′ o₁ a) where
   pub line-taken : (n : ℕ) → a ≡ Taken n → Appended o₁ n (lineEnd ∷ []) o′ r → Answers m t o t′ o′ r
   unfolding ownMid refusalOf sizeOf
   line-taken n e f =

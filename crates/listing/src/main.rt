@@ -23,13 +23,14 @@ fn answer_line(message: &[u8], table: &mut [u32], out: &mut [u8]) -> usize
     requires { ⌜ answerRoom ≤ length (now out) ⌝ }
     ensures { λ r. ⌜ Answers (now (message .entry)) (now (table .entry)) (now (out .entry)) (now (table .exit)) (now (out .exit)) r ⌝ }
 {
-    let a = gateway::answer(message, table, b"[10.0.0.9]", out);
+    let a = gateway::answer(8, message, table, b"[10.0.0.9]", out);
     match a {
         Outcome::Taken(n) => sessions::put_line_end(out, n),
         Outcome::MessageUnfit => sessions::put_refused(out, 0, 1),
         Outcome::TableUnsound => sessions::put_refused(out, 0, 2),
         Outcome::ReplyTooShort => sessions::put_refused(out, 0, 3),
         Outcome::MidUnfit => sessions::put_refused(out, 0, 4),
+        Outcome::LinesUnfit => sessions::put_refused(out, 0, 8),
     }
 }
 

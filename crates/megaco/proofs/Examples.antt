@@ -1,5 +1,6 @@
 -- Document 01's fourteen examples ('Proof owed'): the six lines of the session and the eight short cases that begin with `T`, one table of
--- rows, proved by one computed test over the whole call, bytes to bytes and table to table, for any reply buffer that is long enough.
+-- rows, proved by one computed test over the whole call, bytes to bytes and table to table, for any reply buffer that is long enough. Four rows more
+-- stand on one, eight and sixteen lines (document 02, CR 10).
 use Prim.Native.Nat.{ℕ, _≤_}
 use mathlib.Core.Path.{_≡_, refl, sym, ap, _∙_}
 use mathlib.Core.Bool.{Bool, true, false, not, _&&_, _||_}
@@ -12,16 +13,17 @@ use Rattle.base.specs.Lists.{same}
 use Rattle.base.specs.Bytes.{text, _then_}
 use Rattle.megaco.specs.Tokens.{isMid}
 use Rattle.megaco.specs.Reading.{messageR}
-use Rattle.megaco.specs.Table.{sound}
+use Rattle.megaco.specs.Table.{mostLines, words, sound}
+use Rattle.megaco.specs.Names.{within}
 use Rattle.megaco.specs.Reply.{headerText}
 use Rattle.megaco.specs.Running.{Ran, ran, runMessage}
 use Rattle.megaco.specs.Call.{written, replied, taken, call}
 use Rattle.base.proofs.TestLaws.{and-both, same-is}
 use Rattle.megaco.proofs.Opened.{opened}
 
--- a table, a message, the reply to it and the table after it
+-- the count of lines, a table, a message, the reply to it and the table after it
 pub data Row : Type 0 where
-  row : (before message reply after : List ℕ) → Row
+  row : (lines : ℕ) (before message reply after : List ℕ) → Row
 
 -- the gateway's own mId
 abbrev pub own : List ℕ
@@ -30,7 +32,7 @@ own = text "[10.0.0.9]"
 -- ---- the tables of the session
 
 abbrev pub fresh : List ℕ
-fresh = replicate 752 0
+fresh = replicate (words 8) 0
 
 -- L/1/5 and R/1 in context 1
 abbrev pub called : List ℕ
@@ -52,20 +54,38 @@ ended = set alone 316 3
 
 pub examples : List Row
 examples =
-    row fresh (text "!/1 [10.0.0.1] T=7{C=${A=L/1/5,A=$}}") (text "!/1 [10.0.0.9] P=7{C=1{A=L/1/5,A=R/1}}") called
-    ∷ row called (text "!/1 [10.0.0.1] T=8{C=1{A=L/1/5}}") (text "!/1 [10.0.0.9] P=8{C=1{A=L/1/5{ER=433{}}}}") called
-    ∷ row called (text "!/1 [10.0.0.1] T=9{C=${MV=L/1/5}}") (text "!/1 [10.0.0.9] P=9{C=2{MV=L/1/5}}") moved
-    ∷ row moved (text "!/1 [10.0.0.1] T=10{C=1{S=*,A=L/2/1}}") (text "!/1 [10.0.0.9] P=10{C=1{S=R/1,A=L/2/1{ER=411{}}}}") alone
-    ∷ row alone (text "!/1 [10.0.0.1] T=11{C=2{O-S=L/8/31,MF=L/1/5{M{O{MO=SR}}}}}") (text "!/1 [10.0.0.9] P=11{C=2{S=L/8/31{ER=435{}},MF=L/1/5}}") ended
-    ∷ row ended (text "!/1 [10.0.0.1] T=12{C=2{S=L/8/31,S=L/1/5}}") (text "!/1 [10.0.0.9] P=12{C=2{S=L/8/31{ER=435{}}}}") ended
-    ∷ row fresh (text "!/1 [10.0.0.1] T=1{C=5{}}") (text "!/1 [10.0.0.9] P=1{ER=403{}}") fresh
-    ∷ row fresh (text "!/1 [10.0.0.1] T=1{}") (text "!/1 [10.0.0.9] P=1{ER=403{}}") fresh
-    ∷ row fresh (text "!/1 [10.0.0.1] T=1{C=5{S=*") (text "!/1 [10.0.0.9] P=1{ER=403{}}") fresh
-    ∷ row fresh (text "!/1 [10.0.0.1] T=1{C=1{PR=16}}") (text "!/1 [10.0.0.9] P=1{C=1{ER=449{}}}") fresh
-    ∷ row fresh (text "!/1 [10.0.0.1] T=1{C=5{PR=3}}") (text "!/1 [10.0.0.9] P=1{C=5{ER=411{}}}") fresh
-    ∷ row fresh (text "!/1 [10.0.0.1] T=1{C=-{A=$}}") (text "!/1 [10.0.0.9] P=1{C=-{ER=421{}}}") fresh
-    ∷ row fresh (text "!/1 [10.0.0.1] T=1{C=${A=R/1}}") (text "!/1 [10.0.0.9] P=1{C=${A=R/1{ER=430{}}}}") fresh
-    ∷ row fresh (text "!/1 [10.0.0.1] T=1{C=-{MF=*}}") (text "!/1 [10.0.0.9] P=1{ER=533{}}") fresh
+    row 8 fresh (text "!/1 [10.0.0.1] T=7{C=${A=L/1/5,A=$}}") (text "!/1 [10.0.0.9] P=7{C=1{A=L/1/5,A=R/1}}") called
+    ∷ row 8 called (text "!/1 [10.0.0.1] T=8{C=1{A=L/1/5}}") (text "!/1 [10.0.0.9] P=8{C=1{A=L/1/5{ER=433{}}}}") called
+    ∷ row 8 called (text "!/1 [10.0.0.1] T=9{C=${MV=L/1/5}}") (text "!/1 [10.0.0.9] P=9{C=2{MV=L/1/5}}") moved
+    ∷ row 8 moved (text "!/1 [10.0.0.1] T=10{C=1{S=*,A=L/2/1}}") (text "!/1 [10.0.0.9] P=10{C=1{S=R/1,A=L/2/1{ER=411{}}}}") alone
+    ∷ row 8 alone (text "!/1 [10.0.0.1] T=11{C=2{O-S=L/8/31,MF=L/1/5{M{O{MO=SR}}}}}") (text "!/1 [10.0.0.9] P=11{C=2{S=L/8/31{ER=435{}},MF=L/1/5}}") ended
+    ∷ row 8 ended (text "!/1 [10.0.0.1] T=12{C=2{S=L/8/31,S=L/1/5}}") (text "!/1 [10.0.0.9] P=12{C=2{S=L/8/31{ER=435{}}}}") ended
+    ∷ row 8 fresh (text "!/1 [10.0.0.1] T=1{C=5{}}") (text "!/1 [10.0.0.9] P=1{ER=403{}}") fresh
+    ∷ row 8 fresh (text "!/1 [10.0.0.1] T=1{}") (text "!/1 [10.0.0.9] P=1{ER=403{}}") fresh
+    ∷ row 8 fresh (text "!/1 [10.0.0.1] T=1{C=5{S=*") (text "!/1 [10.0.0.9] P=1{ER=403{}}") fresh
+    ∷ row 8 fresh (text "!/1 [10.0.0.1] T=1{C=1{PR=16}}") (text "!/1 [10.0.0.9] P=1{C=1{ER=449{}}}") fresh
+    ∷ row 8 fresh (text "!/1 [10.0.0.1] T=1{C=5{PR=3}}") (text "!/1 [10.0.0.9] P=1{C=5{ER=411{}}}") fresh
+    ∷ row 8 fresh (text "!/1 [10.0.0.1] T=1{C=-{A=$}}") (text "!/1 [10.0.0.9] P=1{C=-{ER=421{}}}") fresh
+    ∷ row 8 fresh (text "!/1 [10.0.0.1] T=1{C=${A=R/1}}") (text "!/1 [10.0.0.9] P=1{C=${A=R/1{ER=430{}}}}") fresh
+    ∷ row 8 fresh (text "!/1 [10.0.0.1] T=1{C=-{MF=*}}") (text "!/1 [10.0.0.9] P=1{ER=533{}}") fresh
+    ∷ []
+
+-- ---- other counts of lines
+
+-- one line: L/1/31 is termination 30, R/1 is 31, of 95
+abbrev pub onOne : List ℕ
+onOne = set (set (set (replicate (words 1) 0) 30 1) 31 1) 190 1
+
+-- sixteen lines: L/16/31 is termination 495, R/1 is 496, of 560
+abbrev pub onSixteen : List ℕ
+onSixteen = set (set (set (replicate (words 16) 0) 495 1) 496 1) 1120 1
+
+pub shelves : List Row
+shelves =
+    row 8 fresh (text "!/1 [10.0.0.1] T=1{C=${A=L/9/1}}") (text "!/1 [10.0.0.9] P=1{C=${A=L/9/1{ER=430{}}}}") fresh
+    ∷ row 1 (replicate (words 1) 0) (text "!/1 [10.0.0.1] T=1{C=${A=L/1/31,A=$,A=L/2/1}}") (text "!/1 [10.0.0.9] P=1{C=1{A=L/1/31,A=R/1,A=L/2/1{ER=430{}}}}") onOne
+    ∷ row 16 (replicate (words 16) 0) (text "!/1 [10.0.0.1] T=1{C=${A=L/16/31,A=$,A=L/17/1}}") (text "!/1 [10.0.0.9] P=1{C=1{A=L/16/31,A=R/1,A=L/17/1{ER=430{}}}}") onSixteen
+    ∷ row 16 onSixteen (text "!/1 [10.0.0.1] T=1{C=1{O-MF=L/16/*,O-MF=L/17/*,MF=L/016/31}}") (text "!/1 [10.0.0.9] P=1{C=1{MF=L/16/31,MF=L/17/*{ER=431{}},MF=L/016/31{ER=430{}}}}") onSixteen
     ∷ []
 
 -- ---- the test of a row, and what it tells
@@ -77,11 +97,14 @@ computed m t own = let x = runMessage (messageR m) t in ran (x .table) (headerTe
 fits : Ran → List ℕ → List ℕ → Bool
 fits x a u = same (x .table) u && same (x .text) a
 
-admitted : List ℕ → List ℕ → Bool
-admitted t m = sound t && not (eqb (length m) 0 || ltb 4096 (length m))
+fitting : ℕ → List ℕ → Bool
+fitting n t = within n mostLines && (eqb (length t) (words n) && sound t)
+
+admitted : ℕ → List ℕ → List ℕ → Bool
+admitted n t m = fitting n t && not (eqb (length m) 0 || ltb 4096 (length m))
 
 holds : Row → Bool
-holds (row t m a u) = admitted t m && fits (computed m t own) a u
+holds (row n t m a u) = admitted n t m && fits (computed m t own) a u
 
 all-hold : List Row → Bool
 all-hold [] = true
@@ -89,7 +112,7 @@ all-hold (r ∷ rs) = holds r && all-hold rs
 
 -- a call with a long enough buffer answers, writes and leaves exactly what the row says
 abbrev pub Answers : Row → Type 0
-Answers (row t m a u) = (o : List ℕ) → 16640 ≤ length o → call m t own o ≡ written u a o
+Answers (row n t m a u) = (o : List ℕ) → 16640 ≤ length o → call n m t own o ≡ written u a o
 
 abbrev pub Hold : List Row → Type 0
 Hold [] = Unit {0}
@@ -104,9 +127,9 @@ not-true true e = sym e
 not-true false e = refl
 
 -- a call that nothing turns down
-taken-is : (m t o : List ℕ) → 16640 ≤ length o → sound t ≡ true → (eqb (length m) 0 || ltb 4096 (length m)) ≡ false → call m t own o ≡ taken m t own o
-unfolding call pick
-taken-is m t o h s e = rw (le-ltb (length o) 16640 h, s, own-is, e)
+taken-is : (n : ℕ) (m t o : List ℕ) → 16640 ≤ length o → fitting n t ≡ true → (eqb (length m) 0 || ltb 4096 (length m)) ≡ false → call n m t own o ≡ taken m t own o
+unfolding call fitting pick
+taken-is n m t o h s e = let p = and-both (within n mostLines) (eqb (length t) (words n) && sound t) s in rw (p .0, le-ltb (length o) 16640 h, p .1, own-is, e)
 
 computed-is : (m t : List ℕ) → computed m t own ≡ record { table = runMessage (messageR m) t .table; text = headerText own then runMessage (messageR m) t .text }
 unfolding computed
@@ -114,14 +137,14 @@ computed-is m t = refl
 
 row-answers : (r : Row) → holds r ≡ true → Answers r
 unfolding holds admitted fits taken replied
-row-answers (row t m a u) e =
+row-answers (row n t m a u) e =
     λ o h.
-    let p = and-both (admitted t m) (fits (computed m t own) a u) e in
-    let q = and-both (sound t) (not (eqb (length m) 0 || ltb 4096 (length m))) (p .0) in
+    let p = and-both (admitted n t m) (fits (computed m t own) a u) e in
+    let q = and-both (fitting n t) (not (eqb (length m) 0 || ltb 4096 (length m))) (p .0) in
     let r = and-both (same (computed m t own .table) u) (same (computed m t own .text) a) (p .1) in
     let x : computed m t own .table ≡ u = same-is (computed m t own .table) u (r .0) in
     let y : computed m t own .text ≡ a = same-is (computed m t own .text) a (r .1) in
-    taken-is m t o h (q .0) (not-true _ (q .1))
+    taken-is n m t o h (q .0) (not-true _ (q .1))
     ∙ ap (λ (z : Ran). written (z .table) (z .text) o) (sym (computed-is m t))
     ∙ (λ i. written (x i) (y i) o)
 
@@ -133,13 +156,22 @@ rows-answer (r ∷ rs) e =
     (row-answers r (p .0), rows-answer rs (p .1))
 
 examples-compute : all-hold examples ≡ true
-unfolding examples all-hold holds admitted fits computed opened
+unfolding examples all-hold holds admitted fitting fits computed opened
 examples-compute = refl
 
 -- the fourteen examples
 pub examples-hold : Hold examples
 unfolding examples
 examples-hold = rows-answer examples examples-compute
+
+-- on one, eight and sixteen lines
+shelves-compute : all-hold shelves ≡ true
+unfolding shelves all-hold holds admitted fitting fits computed opened
+shelves-compute = refl
+
+pub shelves-hold : Hold shelves
+unfolding shelves
+shelves-hold = rows-answer shelves shelves-compute
 
 -- "Word 4 is then 2, word 316 is 3, word 625 is 1, all others 0"
 pub session-ends : ended ≡ set (set (set (replicate 752 0) 4 2) 316 3) 625 1

@@ -10,7 +10,7 @@ use Rattle.base.specs.Bytes.{text, _then_}
 use Rattle.megaco.specs.Keywords.{spells}
 use Rattle.megaco.specs.declared.Token.the-variants.{AddToken, ModifyToken, SubtractToken, MoveToken}
 use Rattle.megaco.specs.Tree.{Items, Command, command, Action, action, Transaction, transaction, Message, wellFormed, fault400, fault403, fault406}
-use Rattle.megaco.specs.Table.{prop, rec, ctx, cell, Write, write, get, apply, most, lineTerminations, contextWords, isEphemeral, exists, known, members, freeContext, freeEphemeral, stateOf, priorityOf, emergencyOf}
+use Rattle.megaco.specs.Table.{prop, rec, ctx, cell, Write, write, get, apply, most, lineTerminations, fitted, contextWords, isEphemeral, exists, known, members, freeContext, freeEphemeral, stateOf, priorityOf, emergencyOf}
 use Rattle.megaco.specs.Names.{inRange, nameOf, nameText}
 use Rattle.megaco.specs.Items.{update, judgeItems, given?}
 use Rattle.megaco.specs.Reply.{Report, tried, failed, standing, Acted, errorText, replyText, transactionText}
@@ -58,7 +58,7 @@ freeAt at t = elim at [ Null ↦ 0 | Numbered c ↦ 0 | Choose ↦ freeContext t
 
 unfoldable pub look : Context → ℕ → List ℕ → View
 look at i t =
-    record { here = get t (ctx i); word = get t (cell (prop i)); there = seen (numberOf at) t; from = seen (get t (ctx i)) t; free = freeAt at t }
+    record { here = get t (ctx i); word = get t (cell (prop i)); there = seen (numberOf at) t; from = seen (get t (ctx i)) t; free = freeAt at t; lines = fitted t }
 
 -- ---- one attempt: tests 5 and 6, and what it changes
 unfoldable pub isChoose : Context → Bool
@@ -91,18 +91,18 @@ unfoldable pub placed : ℕ → ℕ → ℕ → List Write
 placed i c word = write (ctx i) c ∷ write (cell (prop i)) word ∷ []
 
 -- "Add makes an ephemeral with property 0"
-unfoldable pub added : ℕ → ℕ → ℕ
-added i word = pick (isEphemeral i) 0 word
+unfoldable pub added : ℕ → ℕ → ℕ → ℕ
+added n i word = pick (isEphemeral n i) 0 word
 
 -- "Subtract removes an ephemeral; a line returns to null with mode 0, its state kept"
-unfoldable pub subtracted : ℕ → ℕ → ℕ
-subtracted i word = pick (isEphemeral i) 0 (8 * stateOf word)
+unfoldable pub subtracted : ℕ → ℕ → ℕ → ℕ
+subtracted n i word = pick (isEphemeral n i) 0 (8 * stateOf word)
 
 -- "Add, Modify and Move then set the values given"
 unfoldable pub changes : Op → Context → ℕ → ℕ → Values → View → List Write
-changes Add at given i vs v = joining at given v (placed i (target at v) (update vs (added i (v .word))))
+changes Add at given i vs v = joining at given v (placed i (target at v) (update vs (added (v .lines) i (v .word))))
 changes Modify at given i vs v = write (cell (prop i)) (update vs (v .word)) ∷ []
-changes Subtract at given i vs v = leaving v (placed i 0 (subtracted i (v .word)))
+changes Subtract at given i vs v = leaving v (placed i 0 (subtracted (v .lines) i (v .word)))
 changes Move at given i vs v = leaving v (joining at given v (placed i (target at v) (update vs (v .word))))
 
 unfoldable pub attempt : Op → Context → ℕ → ℕ → Values → View → Result
@@ -121,8 +121,8 @@ pub record Effect : Type 0 where
 
 -- "A success, and an attempt of a wildcard, bears the full name with capital letters; other failures the bytes received"
 unfoldable pub concluded : Op → Bool → List ℕ → ℕ → Context → View → Result → Effect
-concluded op wild name i at v (refused code) = record { writes = []; report = tried op (pick wild (nameText i) name) code; at = at; good = false }
-concluded op wild name i at v (done ws) = record { writes = ws; report = tried op (nameText i) 0; at = settled at v; good = true }
+concluded op wild name i at v (refused code) = record { writes = []; report = tried op (pick wild (nameText (v .lines) i) name) code; at = at; good = false }
+concluded op wild name i at v (done ws) = record { writes = ws; report = tried op (nameText (v .lines) i) 0; at = settled at v; good = true }
 
 unfoldable pub effect : Op → Bool → List ℕ → ℕ → Values → ℕ → Context → View → Effect
 effect op wild name given vs i at v = concluded op wild name i at v (attempt op at given i vs v)
@@ -159,13 +159,13 @@ unfoldable pub wanted : Op → ℕ → ℕ → Bool
 wanted op c word = elim op [ Add ↦ eqb word 0 | Modify ↦ eqb word c | Subtract ↦ eqb word c | Move ↦ not (eqb word 0) && not (eqb word c) ]
 
 -- "A wildcard matches existing terminations only", "tried in ascending number": from number i on, with the rest of the context words
-unfoldable pub matchesFrom : Op → ℕ → Range → ℕ → List ℕ → List ℕ
-matchesFrom op c r i [] = []
-matchesFrom op c r i (x ∷ xs) = let m = matchesFrom op c r (i + 1) xs in pick (inRange r i && exists i x && wanted op c x) (i ∷ m) m
+unfoldable pub matchesFrom : ℕ → Op → ℕ → Range → ℕ → List ℕ → List ℕ
+matchesFrom n op c r i [] = []
+matchesFrom n op c r i (x ∷ xs) = let m = matchesFrom n op c r (i + 1) xs in pick (inRange n r i && exists n i x && wanted op c x) (i ∷ m) m
 
 -- "The matches are fixed before the first attempt"
 unfoldable pub matches : Op → Context → Range → List ℕ → List ℕ
-matches op at r t = matchesFrom op (numberOf at) r 0 (contextWords t)
+matches op at r t = matchesFrom (fitted t) op (numberOf at) r 0 (contextWords t)
 
 -- whom a command's name means: nobody, with a code; the gateway itself; the terminations to try
 pub data Aim : Type 0 where
@@ -190,8 +190,8 @@ unfoldable pub aimRoot : Op → Context → Bool → Aim
 aimRoot op at items = pick (not (isModify op)) (misses 410) (pick (not (isNull at)) (misses 435) (pick items (misses 447) gateway))
 
 -- "choose the lowest absent ephemeral, 432 if none"
-unfoldable pub aimFree : ℕ → Aim
-aimFree n = pick (eqb n 0) (misses 432) (meets false ((lineTerminations + (n - 1)) ∷ []))
+unfoldable pub aimFree : ℕ → ℕ → Aim
+aimFree n k = pick (eqb k 0) (misses 432) (meets false ((lineTerminations n + (k - 1)) ∷ []))
 
 -- "431 if nothing matches"
 unfoldable pub aimMatches : List ℕ → Aim
@@ -201,11 +201,11 @@ aimMatches (i ∷ is) = meets true (i ∷ is)
 -- test 4
 unfoldable pub aim : Op → Context → Bool → Name → List ℕ → Aim
 aim op at items Root t = aimRoot op at items
-aim op at items Chosen t = let m = aimFree (freeEphemeral t) in pick (not (isAdd op)) (misses 410) m
+aim op at items Chosen t = let m = aimFree (fitted t) (freeEphemeral t) in pick (not (isAdd op)) (misses 410) m
 aim op at items Unchosen t = pick (not (isAdd op)) (misses 410) (misses 432)
 aim op at items (Wildcard r) t = aimMatches (matches op at r t)
 aim op at items Unmatched t = misses 431
-aim op at items (Termination i) t = pick (exists i (get t (ctx i))) (meets false (i ∷ [])) (misses 430)
+aim op at items (Termination i) t = pick (exists (fitted t) i (get t (ctx i))) (meets false (i ∷ [])) (misses 430)
 aim op at items Unknown t = misses 430
 
 -- tests 5 and 6, for each that the name means
@@ -234,7 +234,7 @@ lost op at held = elim at [ Null ↦ false | Numbered c ↦ eqb held 0 | Choose 
 -- test 4 after test 3
 unfoldable pub named : Op → List ℕ → ℕ → Bool → Judged → Context → List ℕ → Outcome
 named op name given items (Wrong code) at t = missed op name code at t
-named op name given items (Right vs) at t = aimed op name given vs (aim op at items (nameOf name) t) at t
+named op name given items (Right vs) at t = aimed op name given vs (aim op at items (nameOf (fitted t) name) t) at t
 
 -- tests 2 to 6
 unfoldable pub tested : Op → List ℕ → Items → ℕ → Context → List ℕ → Outcome

@@ -120,11 +120,12 @@ pub struct Seen {
 }
 
 // What an attempt sees: where the termination stands, its property word, the action's context, the context that it stands in, and
-// the lowest number absent.
+// the lowest number absent, and how many lines are fitted.
 pub struct View {
     pub here: u32,
     pub word: u32,
     pub there: Seen,
     pub from: Seen,
     pub free: u32,
+    pub lines: u32,
 }

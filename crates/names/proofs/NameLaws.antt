@@ -15,7 +15,7 @@ use Rattle.base.specs.Lists.{same, has, before, behind}
 use Rattle.base.specs.Bytes.{text}
 use Rattle.base.proofs.PickLaws.{pick-ind}
 use Rattle.megaco.specs.Bytes.{slash, star, dollar, isDigit, capital, capitals}
-use Rattle.megaco.specs.Table.{lines, channels, lineTerminations, ephemerals}
+use Rattle.megaco.specs.Table.{channels, lineTerminations, ephemerals}
 use Rattle.megaco.specs.Names.{numeral, within, lineName, ephemeralName, plainName, lineRange, wildcardName, capitalName, nameOf}
 use Rattle.megaco.specs.declared.Range.the-variants.{ChannelsOf}
 use Rattle.megaco.specs.declared.Name.{Name}
@@ -173,21 +173,21 @@ numeral-none (a ∷ b ∷ c ∷ n) h k = refl
 
 -- ---- forms of names
 
-pub line-yes : (l s a b : ℕ) (x y : Bool) → x ≡ within l lines → y ≡ within s channels → (x && y) ≡ true → a ≡ l - 1 → b ≡ s - 1 → Termination (channels * a + b) ≡ lineName l s
+pub line-yes : (lines l s a b : ℕ) (x y : Bool) → x ≡ within l lines → y ≡ within s channels → (x && y) ≡ true → a ≡ l - 1 → b ≡ s - 1 → Termination (channels * a + b) ≡ lineName lines l s
 unfolding lineName pick
-line-yes l s a b x y e f t g h = rw (← e, ← f, t, g, h)
+line-yes lines l s a b x y e f t g h = rw (← e, ← f, t, g, h)
 
-pub line-no : (l s : ℕ) (x y : Bool) → x ≡ within l lines → y ≡ within s channels → (x && y) ≡ false → Unknown ≡ lineName l s
+pub line-no : (lines l s : ℕ) (x y : Bool) → x ≡ within l lines → y ≡ within s channels → (x && y) ≡ false → Unknown ≡ lineName lines l s
 unfolding lineName pick
-line-no l s x y e f t = rw (← e, ← f, t)
+line-no lines l s x y e f t = rw (← e, ← f, t)
 
-pub ephemeral-yes : (n a : ℕ) (x : Bool) → x ≡ within n ephemerals → x ≡ true → a ≡ n - 1 → Termination (lineTerminations + a) ≡ ephemeralName n
+pub ephemeral-yes : (lines n a b : ℕ) (x : Bool) → x ≡ within n ephemerals → x ≡ true → a ≡ n - 1 → b ≡ lineTerminations lines → Termination (b + a) ≡ ephemeralName lines n
 unfolding ephemeralName pick
-ephemeral-yes n a x e t g = rw (← e, t, g)
+ephemeral-yes lines n a b x e t g h = rw (← e, t, g, h)
 
-pub ephemeral-no : (n : ℕ) (x : Bool) → x ≡ within n ephemerals → x ≡ false → Unknown ≡ ephemeralName n
+pub ephemeral-no : (lines n : ℕ) (x : Bool) → x ≡ within n ephemerals → x ≡ false → Unknown ≡ ephemeralName lines n
 unfolding ephemeralName pick
-ephemeral-no n x e t = rw (← e, t)
+ephemeral-no lines n x e t = rw (← e, t)
 
 pub two-yes : (a b p q : ℕ) (x y : Bool) → x ≡ isDigit a → y ≡ isDigit b → (x && y && not (eqb a 48)) ≡ true → p ≡ a - 48 → q ≡ b - 48
     → 10 * p + q ≡ twoDigits a b
@@ -200,7 +200,7 @@ two-no a b x y e f t = rw (← e, ← f, t)
 
 -- ---- whole names: the parts of a name in capital letters are its parts
 
-module _ (n tail head : List ℕ) (rest-is : tail ≡ behind slash n) (head-is : head ≡ before slash n) where
+module _ (lines : ℕ) (n tail head : List ℕ) (rest-is : tail ≡ behind slash n) (head-is : head ≡ before slash n) where
   head-capitals : before slash (capitals n) ≡ capitals head
   head-capitals = before-capitals slash n (omega arith) ∙ ap capitals (sym head-is)
 
@@ -214,19 +214,19 @@ module _ (n tail head : List ℕ) (rest-is : tail ≡ behind slash n) (head-is :
   numeral-behind m a e f = rw (tail-capitals, behind-capitals slash tail (omega arith), ← e, numeral-capitals m, ← f)
 
   pub plain-line : (x : Bool) (m k : List ℕ) (a b : ℕ) (r : Name) → x ≡ same (capitals head) (text "L") → x ≡ true
-      → m ≡ before slash tail → a ≡ numeral m → k ≡ behind slash tail → b ≡ numeral k → r ≡ lineName a b → r ≡ plainName (capitals n)
+      → m ≡ before slash tail → a ≡ numeral m → k ≡ behind slash tail → b ≡ numeral k → r ≡ lineName lines a b → r ≡ plainName lines (capitals n)
   unfolding plainName pick
   plain-line x m k a b r e t f g h i j = rw (head-capitals, ← e, t, numeral-before m a f g, numeral-behind k b h i) j
 
   pub plain-ephemeral : (x y : Bool) (head′ : List ℕ) (a : ℕ) (r : Name) → x ≡ same (capitals head) (text "L") → x ≡ false
-      → head′ ≡ before slash n → y ≡ same (capitals head′) (text "R") → y ≡ true → a ≡ numeral tail → r ≡ ephemeralName a → r ≡ plainName (capitals n)
+      → head′ ≡ before slash n → y ≡ same (capitals head′) (text "R") → y ≡ true → a ≡ numeral tail → r ≡ ephemeralName lines a → r ≡ plainName lines (capitals n)
   unfolding plainName pick
   plain-ephemeral x y head′ a r e t d f u g h =
       let same-head : head ≡ head′ = head-is ∙ sym d in
       rw (head-capitals, ← e, t, same-head, ← f, u, tail-capitals, numeral-capitals tail, ← g) h
 
   pub plain-none : (x y : Bool) (head′ : List ℕ) → x ≡ same (capitals head) (text "L") → x ≡ false
-      → head′ ≡ before slash n → y ≡ same (capitals head′) (text "R") → y ≡ false → Unknown ≡ plainName (capitals n)
+      → head′ ≡ before slash n → y ≡ same (capitals head′) (text "R") → y ≡ false → Unknown ≡ plainName lines (capitals n)
   unfolding plainName pick
   plain-none x y head′ e t d f u =
       let same-head : head ≡ head′ = head-is ∙ sym d in
@@ -234,25 +234,25 @@ module _ (n tail head : List ℕ) (rest-is : tail ≡ behind slash n) (head-is :
 
   range-by : (m k : List ℕ) (l : ℕ) (x y z : Bool) → m ≡ before slash tail → l ≡ numeral m → k ≡ behind slash tail
       → x ≡ same (capitals head) (text "L") → y ≡ same (capitals k) (text "*") → z ≡ within l lines
-      → lineRange (capitals n) ≡ pick (x && y && z) (Wildcard (ChannelsOf l)) Unmatched
+      → lineRange lines (capitals n) ≡ pick (x && y && z) (Wildcard (ChannelsOf l)) Unmatched
   unfolding lineRange
   range-by m k l x y z f g h e d c =
       rw (numeral-before m l f g, head-capitals, tail-capitals, behind-capitals slash tail (omega arith), ← h, ← e, ← d, ← c)
 
   module _ (m k : List ℕ) (l : ℕ) (x y z : Bool) (f : m ≡ before slash tail) (g : l ≡ numeral m) (h : k ≡ behind slash tail)
       (e : x ≡ same (capitals head) (text "L")) (d : y ≡ same (capitals k) (text "*")) (c : z ≡ within l lines) where
-    pub range-yes : (x && y && z) ≡ true → Wildcard (ChannelsOf l) ≡ lineRange (capitals n)
+    pub range-yes : (x && y && z) ≡ true → Wildcard (ChannelsOf l) ≡ lineRange lines (capitals n)
     unfolding pick
     range-yes t = sym (range-by m k l x y z f g h e d c ∙ rw t)
 
-    pub range-no : (x && y && z) ≡ false → Unmatched ≡ lineRange (capitals n)
+    pub range-no : (x && y && z) ≡ false → Unmatched ≡ lineRange lines (capitals n)
     unfolding pick
     range-no t = sym (range-by m k l x y z f g h e d c ∙ rw t)
 
 -- ---- the meaning of a name
 
-module _ (n : List ℕ) (x : Bool) (e : x ≡ same (capitals n) (text "ROOT")) where
-  pub name-root : x ≡ true → Root ≡ nameOf n
+module _ (lines : ℕ) (n : List ℕ) (x : Bool) (e : x ≡ same (capitals n) (text "ROOT")) where
+  pub name-root : x ≡ true → Root ≡ nameOf lines n
   unfolding nameOf capitalName pick
   name-root t = rw (← e, t)
 
@@ -260,18 +260,18 @@ module _ (n : List ℕ) (x : Bool) (e : x ≡ same (capitals n) (text "ROOT")) w
     dollars : has dollar (capitals n) ≡ y
     dollars = has-capitals dollar n (omega arith) ∙ sym f
 
-    pub name-chosen : (z w : Bool) → y ≡ true → z ≡ same (capitals n) (text "$") → w ≡ same (capitals n) (text "R/$") → (z || w) ≡ true → Chosen ≡ nameOf n
+    pub name-chosen : (z w : Bool) → y ≡ true → z ≡ same (capitals n) (text "$") → w ≡ same (capitals n) (text "R/$") → (z || w) ≡ true → Chosen ≡ nameOf lines n
     unfolding nameOf capitalName pick
     name-chosen z w t g h u = rw (← e, no, dollars, t, ← g, ← h, u)
 
-    pub name-unchosen : (z w : Bool) → y ≡ true → z ≡ same (capitals n) (text "$") → w ≡ same (capitals n) (text "R/$") → (z || w) ≡ false → Unchosen ≡ nameOf n
+    pub name-unchosen : (z w : Bool) → y ≡ true → z ≡ same (capitals n) (text "$") → w ≡ same (capitals n) (text "R/$") → (z || w) ≡ false → Unchosen ≡ nameOf lines n
     unfolding nameOf capitalName pick
     name-unchosen z w t g h u = rw (← e, no, dollars, t, ← g, ← h, u)
 
-    pub name-wild : (z : Bool) (r : Name) → y ≡ false → z ≡ has star n → z ≡ true → r ≡ wildcardName (capitals n) → r ≡ nameOf n
+    pub name-wild : (z : Bool) (r : Name) → y ≡ false → z ≡ has star n → z ≡ true → r ≡ wildcardName lines (capitals n) → r ≡ nameOf lines n
     unfolding nameOf capitalName pick
     name-wild z r t g u h = rw (← e, no, dollars, t, has-capitals star n (omega arith), ← g, u) h
 
-    pub name-plain : (z : Bool) (r : Name) → y ≡ false → z ≡ has star n → z ≡ false → r ≡ plainName (capitals n) → r ≡ nameOf n
+    pub name-plain : (z : Bool) (r : Name) → y ≡ false → z ≡ has star n → z ≡ false → r ≡ plainName lines (capitals n) → r ≡ nameOf lines n
     unfolding nameOf capitalName pick
     name-plain z r t g u h = rw (← e, no, dollars, t, has-capitals star n (omega arith), ← g, u) h

@@ -1,37 +1,19 @@
 -- The full name of every termination reads back as its number: one computed test, and the law that turns it into the statement.
-use Prim.Native.Nat.{ℕ, zero, suc, _<_}
+use Prim.Native.Nat.{ℕ, _<_, _≤_}
 use mathlib.Core.Path.{_≡_, refl, sym, ap}
 use mathlib.Core.Bool.{Bool, true, false, true≢false}
-use native.Mathlib.Nat.{eq-or-lt-of-le}
 use native.Mathlib.Omega.{arith}
-use mathlib.Core.Logic.{⊎-elim}
 use lib.Dec.{eqb}
 use borrow.Author.Tests.{eqb-true}
 use Rattle.base.specs.Pick.{pick}
 use Rattle.base.specs.Lists.{same, has, before, behind}
 use Rattle.base.specs.Bytes.{_then_, decimalF, decimal}
+use Rattle.base.proofs.TestLaws.{below, below-at}
 use Rattle.megaco.specs.Bytes.{isDigit, capital, capitals}
-use Rattle.megaco.specs.Table.{terminations, isEphemeral}
+use Rattle.megaco.specs.Table.{mostLines, terminations, isEphemeral}
 use Rattle.megaco.specs.Names.{numeral, within, lineName, ephemeralName, plainName, capitalName, nameOf, nameText}
 use Rattle.megaco.specs.declared.Name.{Name}
 use Rattle.megaco.specs.declared.Name.the-variants.{Termination, Root, Chosen, Unchosen, Wildcard, Unmatched, Unknown}
-
--- a test of every number below a bound
-below : (ℕ → Bool) → ℕ → Bool
-below p zero = true
-below p (suc n) = let r = below p n in pick (p n) r false
-
-both : (a b : Bool) → pick a b false ≡ true → (a ≡ true) × (b ≡ true)
-unfolding pick
-both true b e = (refl, e)
-both false b e = absurd (true≢false (sym e))
-
-at : (p : ℕ → Bool) (n i : ℕ) → below p n ≡ true → i < n → p i ≡ true
-unfolding below
-at p zero i e h = absurd (omega arith)
-at p (suc n) i e h =
-    let b = both (p n) (below p n) e in
-    ⊎-elim (λ l. rw l (b .0)) (λ l. at p n i (b .1) l) (eq-or-lt-of-le {n = i} {m = n} (omega arith))
 
 isNumber : ℕ → Name → Bool
 isNumber i (Termination k) = eqb k i
@@ -52,13 +34,17 @@ is-number i (Wildcard r) e = absurd (true≢false (sym e))
 is-number i Unmatched e = absurd (true≢false (sym e))
 is-number i Unknown e = absurd (true≢false (sym e))
 
-readsBack : ℕ → Bool
-readsBack i = isNumber i (nameOf (nameText i))
+readsBack : ℕ → ℕ → Bool
+readsBack lines i = isNumber i (nameOf lines (nameText lines i))
 
-all : below readsBack terminations ≡ true
-unfolding below isNumber readsBack pick same has before behind _then_ decimalF decimal isDigit capital capitals isEphemeral numeral within lineName ephemeralName plainName capitalName nameOf nameText
+allRead : ℕ → Bool
+allRead lines = below (readsBack lines) (terminations lines)
+
+all : below allRead 17 ≡ true
+unfolding below isNumber readsBack allRead pick same has before behind _then_ decimalF decimal isDigit capital capitals isEphemeral numeral within lineName ephemeralName plainName capitalName nameOf nameText
 all = refl
 
-pub name-reads-back : (i : ℕ) → i < terminations → nameOf (nameText i) ≡ Termination i
-unfolding readsBack
-name-reads-back i h = is-number i (nameOf (nameText i)) (at readsBack terminations i all h)
+pub name-reads-back : (lines i : ℕ) → lines ≤ mostLines → i < terminations lines → nameOf lines (nameText lines i) ≡ Termination i
+unfolding readsBack allRead
+name-reads-back lines i k h =
+    is-number i (nameOf lines (nameText lines i)) (below-at (readsBack lines) (terminations lines) i (below-at allRead 17 lines all (omega arith)) h)

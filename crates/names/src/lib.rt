@@ -3,8 +3,6 @@ use megaco::Name;
 use megaco::Range;
 use table::CHANNELS;
 use table::EPHEMERALS;
-use table::LINE_TERMINATIONS;
-use table::LINES;
 ghost use mathlib.Core.Path.{_≡_};
 ghost use Prim.Native.Nat.{_-_, _≤_};
 ghost use lib.ListN.{length};
@@ -13,9 +11,9 @@ ghost use Rattle.megaco.specs.Bytes.{slash, capitals};
 ghost use Rattle.megaco.specs.Names.{numeral, within, lineName, ephemeralName, plainName, lineRange, wildcardName, nameOf, inRange};
 ghost use Rattle.names.specs.Digits.{oneDigit, twoDigits};
 
-// The meaning of a name of any bytes.
-pub fn name_of(n: &[u8]) -> Name
-    ensures { λ r. ⌜ r ≡ nameOf (now (n .entry)) ⌝ }
+// The meaning of a name of any bytes, on so many lines.
+pub fn name_of(lines: u32, n: &[u8]) -> Name
+    ensures { λ r. ⌜ r ≡ nameOf lines (now (n .entry)) ⌝ }
 {
     if text::is_word(n, b"ROOT") {
         return Name::Root;
@@ -27,28 +25,28 @@ pub fn name_of(n: &[u8]) -> Name
         return Name::Unchosen;
     }
     if has_byte(n, b'*') {
-        return wildcard_name(n);
+        return wildcard_name(lines, n);
     }
-    plain_name(n)
+    plain_name(lines, n)
 }
 
 // Whether a wildcard's range takes in a termination.
-pub fn in_range(r: Range, i: usize) -> bool
-    ensures { λ q. ⌜ q ≡ inRange r i ⌝ }
+pub fn in_range(lines: u32, r: Range, i: usize) -> bool
+    ensures { λ q. ⌜ q ≡ inRange lines r i ⌝ }
 {
     match r {
         Range::Everyone => true,
-        Range::EveryLine => !(LINE_TERMINATIONS <= i),
-        Range::EveryEphemeral => LINE_TERMINATIONS <= i,
-        Range::ChannelsOf(l) => (i / CHANNELS + 1 == l as usize) & !(LINE_TERMINATIONS <= i),
+        Range::EveryLine => !table::is_ephemeral(lines, i),
+        Range::EveryEphemeral => table::is_ephemeral(lines, i),
+        Range::ChannelsOf(l) => (i / CHANNELS + 1 == l as usize) & !table::is_ephemeral(lines, i),
     }
 }
 
 // ---- forms of names
 
 // A form with `*` and no `$`.
-fn wildcard_name(n: &[u8]) -> Name
-    ensures { λ r. ⌜ r ≡ wildcardName (capitals (now (n .entry))) ⌝ }
+fn wildcard_name(lines: u32, n: &[u8]) -> Name
+    ensures { λ r. ⌜ r ≡ wildcardName lines (capitals (now (n .entry))) ⌝ }
 {
     if text::is_word(n, b"*") {
         return Name::Wildcard(Range::Everyone);
@@ -59,18 +57,18 @@ fn wildcard_name(n: &[u8]) -> Name
     if text::is_word(n, b"R/*") {
         return Name::Wildcard(Range::EveryEphemeral);
     }
-    line_range(n)
+    line_range(lines, n)
 }
 
 // `L/l/*`, or another name with `*`.
-fn line_range(n: &[u8]) -> Name
-    ensures { λ r. ⌜ r ≡ lineRange (capitals (now (n .entry))) ⌝ }
+fn line_range(lines: u32, n: &[u8]) -> Name
+    ensures { λ r. ⌜ r ≡ lineRange lines (capitals (now (n .entry))) ⌝ }
 {
     let tail = behind_slash(n);
     let l = numeral(before_slash(tail));
     if text::is_word(before_slash(n), b"L")
         & text::is_word(behind_slash(tail), b"*")
-        & within(l, LINES)
+        & within(l, lines)
     {
         return Name::Wildcard(Range::ChannelsOf(l));
     }
@@ -78,35 +76,39 @@ fn line_range(n: &[u8]) -> Name
 }
 
 // A name without `*` and `$`.
-fn plain_name(n: &[u8]) -> Name
-    ensures { λ r. ⌜ r ≡ plainName (capitals (now (n .entry))) ⌝ }
+fn plain_name(lines: u32, n: &[u8]) -> Name
+    ensures { λ r. ⌜ r ≡ plainName lines (capitals (now (n .entry))) ⌝ }
 {
     let tail = behind_slash(n);
     if text::is_word(before_slash(n), b"L") {
-        return line_name(numeral(before_slash(tail)), numeral(behind_slash(tail)));
+        return line_name(
+            lines,
+            numeral(before_slash(tail)),
+            numeral(behind_slash(tail)),
+        );
     }
     if text::is_word(before_slash(n), b"R") {
-        return ephemeral_name(numeral(tail));
+        return ephemeral_name(lines, numeral(tail));
     }
     Name::Unknown
 }
 
 // `L/l/s`
-fn line_name(l: u32, s: u32) -> Name
-    ensures { λ r. ⌜ r ≡ lineName l s ⌝ }
+fn line_name(lines: u32, l: u32, s: u32) -> Name
+    ensures { λ r. ⌜ r ≡ lineName lines l s ⌝ }
 {
-    if within(l, LINES) & within(s, CHANNELS as u32) {
+    if within(l, lines) & within(s, CHANNELS as u32) {
         return Name::Termination(CHANNELS * less(l, 1) as usize + less(s, 1) as usize);
     }
     Name::Unknown
 }
 
 // `R/n`
-fn ephemeral_name(n: u32) -> Name
-    ensures { λ r. ⌜ r ≡ ephemeralName n ⌝ }
+fn ephemeral_name(lines: u32, n: u32) -> Name
+    ensures { λ r. ⌜ r ≡ ephemeralName lines n ⌝ }
 {
     if within(n, EPHEMERALS) {
-        return Name::Termination(LINE_TERMINATIONS + less(n, 1) as usize);
+        return Name::Termination(table::line_terminations(lines) + less(n, 1) as usize);
     }
     Name::Unknown
 }

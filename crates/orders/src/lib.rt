@@ -1,7 +1,6 @@
 // What a command's word, its context, its items and its name come to.
 ghost use mathlib.Core.Path.{_≡_};
-ghost use lib.ListN.{length};
-ghost use Rattle.megaco.specs.Table.{words};
+ghost use Rattle.megaco.specs.Table.{Sized};
 ghost use Rattle.megaco.specs.Running.{opOf, lost, barred, named};
 ghost use Rattle.megaco.specs.declared.Judged.the-variants.{Right};
 ghost use Rattle.attempt.specs.Judging.{Fair};
@@ -83,10 +82,10 @@ fn run_named(
     table: &mut [u32],
     out: &mut [u8],
 ) -> Went
-    requires { ⌜ (length (now table) ≡ words) × Fair values ⌝ }
+    requires { ⌜ (Sized (now table)) × Fair values ⌝ }
     ensures { λ r. ⌜ Did (named op (now (name .entry)) (turn .given) items (Right values) (turn .at) (now (table .entry))) (turn .first) (now (out .entry)) (turn .next) (now (table .exit)) (now (out .exit)) r ⌝ }
 {
-    let n = names::name_of(name);
+    let n = names::name_of(table::lines(table), name);
     let at = turn.at;
     let x = aims::target_of(op, at, items, n, table);
     tries::run_target(op, name, values, x, turn, table, out)
@@ -102,7 +101,7 @@ pub fn run_judged(
     table: &mut [u32],
     out: &mut [u8],
 ) -> Went
-    requires { ⌜ (length (now table) ≡ words) × FairJudged judged ⌝ }
+    requires { ⌜ (Sized (now table)) × FairJudged judged ⌝ }
     ensures { λ r. ⌜ Did (named op (now (name .entry)) (turn .given) items judged (turn .at) (now (table .entry))) (turn .first) (now (out .entry)) (turn .next) (now (table .exit)) (now (out .exit)) r ⌝ }
 {
     match judged {

@@ -1,5 +1,6 @@
 // The reports of a reply, written into a lent buffer: what was tried and how it went.
 ghost use mathlib.Core.Path.{_≡_};
+ghost use Prim.Native.Nat.{_<_};
 ghost use Rattle.base.specs.Out.{Appended};
 ghost use Rattle.megaco.specs.Table.{priorityOf};
 ghost use Rattle.megaco.specs.Names.{nameText};
@@ -9,9 +10,6 @@ use megaco::Op;
 
 // Speech channels of a line.
 const CHANNELS: usize = 31;
-
-// The terminations of all lines; ephemerals have the numbers after them.
-const LINE_TERMINATIONS: usize = 248;
 
 // `ER=code{}`
 pub fn put_error(out: &mut [u8], at: usize, code: u32) -> usize
@@ -47,12 +45,14 @@ fn put_op(out: &mut [u8], at: usize, op: Op) -> usize
 }
 
 // A termination's full name.
-pub fn put_name(out: &mut [u8], at: usize, i: usize) -> usize
-    ensures { λ r. ⌜ Appended (now (out .entry)) at (nameText i) (now (out .exit)) r ⌝ }
+pub fn put_name(out: &mut [u8], at: usize, lines: u32, i: usize) -> usize
+    requires { ⌜ 0 < lines ⌝ }
+    ensures { λ r. ⌜ Appended (now (out .entry)) at (nameText lines i) (now (out .exit)) r ⌝ }
 {
-    if LINE_TERMINATIONS <= i {
+    let first = CHANNELS * lines as usize;
+    if first <= i {
         let p = writer::put_bytes(out, at, b"R/");
-        return writer::put_count(out, p, i - LINE_TERMINATIONS + 1);
+        return writer::put_count(out, p, i - first + 1);
     }
     let p = writer::put_bytes(out, at, b"L/");
     let q = writer::put_count(out, p, i / CHANNELS + 1);
@@ -71,12 +71,13 @@ pub fn put_tried(out: &mut [u8], at: usize, op: Op, name: &[u8], code: u32) -> u
 }
 
 // An attempt under the termination's full name.
-pub fn put_named(out: &mut [u8], at: usize, op: Op, i: usize, code: u32) -> usize
-    ensures { λ r. ⌜ Appended (now (out .entry)) at (reportText (tried op (nameText i) code)) (now (out .exit)) r ⌝ }
+pub fn put_named(out: &mut [u8], at: usize, op: Op, lines: u32, i: usize, code: u32) -> usize
+    requires { ⌜ 0 < lines ⌝ }
+    ensures { λ r. ⌜ Appended (now (out .entry)) at (reportText (tried op (nameText lines i) code)) (now (out .exit)) r ⌝ }
 {
     let p = put_op(out, at, op);
     let q = writer::put_byte(out, p, b'=');
-    let u = put_name(out, q, i);
+    let u = put_name(out, q, lines, i);
     put_code(out, u, code)
 }
 

@@ -10,6 +10,7 @@ use Rattle.base.specs.Lists.{isAt}
 use Rattle.base.proofs.PickLaws.{pick-ind}
 use Rattle.megaco.specs.Bytes.{comma}
 use Rattle.megaco.specs.Items.{judgeItems, given?}
+use Rattle.megaco.specs.Table.{fitted}
 use Rattle.megaco.specs.Names.{nameOf}
 use Rattle.megaco.specs.Tree.{Items, Command, command}
 use Rattle.megaco.specs.Running.{Outcome, outcome, Aim, misses, gateway, meets, tries, missed, actionError, aimRoot, aimFree, aimMatches, matches, aim, aimed, named, tested, unlessOptional, ordered, opOf, isSubtract, runCommand}
@@ -63,7 +64,7 @@ aimed-tells op name given vs _ at t somebody = there
 named-tells : (op : Op) (name : List ℕ) (given : ℕ) (items : Bool) (j : Judged) (at : Context) (t : List ℕ) → Tells (named op name given items j at t)
 unfolding named missed
 named-tells op name given items (Wrong code) at t = there
-named-tells op name given items (Right vs) at t = aimed-tells op name given vs (aim op at items (nameOf name) t) at t (peopled op at items (nameOf name) t)
+named-tells op name given items (Right vs) at t = aimed-tells op name given vs (aim op at items (nameOf (fitted t) name) t) at t (peopled op at items (nameOf (fitted t) name) t)
 
 tested-tells : (op : Op) (name : List ℕ) (items : Items) (given : ℕ) (at : Context) (t : List ℕ) → Tells (tested op name items given at t)
 unfolding tested missed

@@ -10,7 +10,7 @@ use native.Mathlib.Omega.{arith}
 use Rattle.base.specs.Pick.{pick}
 use Rattle.base.specs.Out.{Appended}
 use Rattle.base.proofs.TestLaws.{and-both}
-use Rattle.megaco.specs.Table.{words, contexts, sound, known, cell, rec, get, Write, apply}
+use Rattle.megaco.specs.Table.{Sized, contexts, sound, known, cell, rec, get, Write, apply}
 use Rattle.megaco.specs.Reading.{isProperty, wordHere}
 use Rattle.megaco.specs.Tree.{Command, action}
 use Rattle.megaco.specs.Reply.{standing, failed, reportsText}
@@ -156,5 +156,5 @@ held-small c t h = by (known (numberOf c)) refl
         rw (e, heldAt, seen) q
     by false e = rw (e, heldAt, seen) (omega arith)
 
-pub sound-long : (t : List ℕ) → sound t ≡ true → length t ≡ words
-sound-long t h = sound-whole t h .long
+pub sound-sized : (t : List ℕ) → sound t ≡ true → Sized t
+sound-sized t h = let W = sound-whole t h in record { some = W .some; few = W .few; long = W .long }

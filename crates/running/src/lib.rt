@@ -3,7 +3,7 @@ ghost use mathlib.Core.Path.{_≡_};
 ghost use mathlib.Core.Bool.{true, false};
 ghost use Prim.Native.Nat.{_≤_};
 ghost use lib.ListN.{length, take};
-ghost use Rattle.megaco.specs.Table.{words, sound};
+ghost use Rattle.megaco.specs.Table.{Sized, sound};
 ghost use mathlib.Core.List.{[], _∷_};
 ghost use Rattle.base.specs.Out.{Appended};
 ghost use Rattle.megaco.specs.Reply.{standing, reportsText};
@@ -35,7 +35,7 @@ pub struct Written {
 
 // The commands of an action, in order, until one stops the transaction.
 fn run_commands(s: &[u8], from: usize, turn: Turn, table: &mut [u32], out: &mut [u8]) -> Passed
-    requires { ⌜ length (now table) ≡ words ⌝ }
+    requires { ⌜ Sized (now table) ⌝ }
     ensures { λ r. ⌜ Did (runCommands (commandsOf (now (s .entry)) from) (turn .given) (turn .at) (now (table .entry))) (turn .first) (now (out .entry)) (turn .next) (now (table .exit)) (now (out .exit)) (r .went) × (r .end ≡ commandsEnd (now (s .entry)) from) ⌝ }
 {
     let mut i = from;
@@ -86,7 +86,7 @@ fn run_inner(
     table: &mut [u32],
     out: &mut [u8],
 ) -> Passed
-    requires { ⌜ (length (now table) ≡ words) × (heldAt c (now table) ≤ 32) ⌝ }
+    requires { ⌜ (Sized (now table)) × (heldAt c (now table) ≤ 32) ⌝ }
     ensures { λ r. ⌜ Did (runAction (action c (propertiesIn (now (s .entry)) body) (commandsIn (now (s .entry)) rest)) (now (table .entry))) true (now (out .entry)) 0 (now (table .exit)) (now (out .exit)) (r .went) × (r .end ≡ bodyEnd (now (s .entry)) rest) ⌝ }
 {
     let held = orders::held_at(table, c);

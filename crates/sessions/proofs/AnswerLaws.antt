@@ -2,7 +2,7 @@
 use Prim.Native.Nat.{ℕ, _≤_, _<_}
 use mathlib.Core.Path.{_≡_, refl, sym, _∙_}
 use mathlib.Core.Logic.{_≢_}
-use mathlib.Core.Bool.{Bool, true, false, not, _||_}
+use mathlib.Core.Bool.{Bool, true, false, not, _&&_, _||_}
 use mathlib.Core.List.{List, [], _∷_}
 use native.Mathlib.Omega.{arith}
 use lib.ListN.{length, take, replicate, length-take, length-replicate}
@@ -16,13 +16,16 @@ use Rattle.base.proofs.TextLaws.{length-then, length-decimal}
 use Rattle.base.proofs.OutLaws.{_▸_, chosen-yes, chosen-no}
 use Rattle.laws.specs.Bounds.{replyTo, call-ind, call-bounded, refusal-keeps, call-taken}
 use Rattle.laws.specs.Kept.{call-sound}
+use Rattle.laws.specs.Runs.{call-length}
 use Rattle.megaco.proofs.Opened.{opened}
-use Rattle.megaco.specs.Table.{sound}
+use Rattle.megaco.specs.Table.{words, sound}
+use Rattle.megaco.specs.Names.{within}
 use Rattle.megaco.specs.Tokens.{isMid}
 use Rattle.megaco.specs.Call.{Called, turnedDown, written, replied, taken, call}
 use Rattle.sessions.specs.Lines.{lineEnd}
-use Rattle.sessions.specs.Listing.{refusedText}
-use Rattle.sessions.specs.Session.{ownMid, answered, answerText, answerRoom, Answers}
+use Rattle.sessions.specs.Listing.{lines, refusedText}
+use Rattle.base.proofs.TestLaws.{and-both}
+use Rattle.sessions.specs.Session.{ownMid, ready, answered, answerText, answerRoom, Answers}
 
 -- the refusal of one of four calls, chosen by three tests
 refusal-of : (x y z : Bool) (a b c d : Called)
@@ -35,42 +38,42 @@ refusal-of false false false a b c d = refl
 
 -- what a call answers does not depend on the buffer, if that is long enough
 refusal-is : (m t own o : List ℕ) → 16640 ≤ length o
-    → call m t own o .refusal ≡ pick (not (sound t)) 2 (pick (not (isMid own)) 4 (pick (eqb (length m) 0 || ltb 4096 (length m)) 1 0))
-unfolding call taken replied written pick
+    → call lines m t own o .refusal ≡ pick (not (eqb (length t) (words lines) && sound t)) 2 (pick (not (isMid own)) 4 (pick (eqb (length m) 0 || ltb 4096 (length m)) 1 0))
+unfolding call within taken replied written pick
 refusal-is m t own o h =
     rw (le-ltb (length o) 16640 h)
-    (refusal-of (not (sound t)) (not (isMid own)) (eqb (length m) 0 || ltb 4096 (length m)) (turnedDown 2 t o) (turnedDown 4 t o) (turnedDown 1 t o) (taken m t own o))
+    (refusal-of (not (eqb (length t) (words lines) && sound t)) (not (isMid own)) (eqb (length m) 0 || ltb 4096 (length m)) (turnedDown 2 t o) (turnedDown 4 t o) (turnedDown 1 t o) (taken m t own o))
 
-reply-is : (m t own o : List ℕ) → call m t own o .refusal ≡ 0 → call m t own o .reply ≡ put o 0 (replyTo m t own)
+reply-is : (m t own o : List ℕ) → call lines m t own o .refusal ≡ 0 → call lines m t own o .reply ≡ put o 0 (replyTo m t own)
 unfolding taken replied written
-reply-is m t own o = call-ind (λ c. c .refusal ≡ 0 → c .reply ≡ put o 0 (replyTo m t own)) m t own o (λ n p h. absurd (omega arith)) (λ a b c d e h. refl)
+reply-is m t own o = call-ind (λ c. c .refusal ≡ 0 → c .reply ≡ put o 0 (replyTo m t own)) lines m t own o (λ n p h. absurd (omega arith)) (λ w a l b c d e h. refl)
 
 module _ (m t o : List ℕ) (room : 16640 ≤ length o) where
-  same-refusal : call m t ownMid o .refusal ≡ answered m t .refusal
+  same-refusal : call lines m t ownMid o .refusal ≡ answered m t .refusal
   unfolding answered
   same-refusal = refusal-is m t ownMid o room ∙ sym (refusal-is m t ownMid (replicate 16640 0) (omega (arith, length-replicate {A = ℕ} 16640 0)))
 
   -- a reply and a line end
-  pub answers-reply : (n : ℕ) (t′ o₁ o′ : List ℕ) (r : ℕ) → call m t ownMid o .refusal ≡ 0 → n ≡ call m t ownMid o .size → t′ ≡ call m t ownMid o .table
-      → o₁ ≡ call m t ownMid o .reply → Appended o₁ n (lineEnd ∷ []) o′ r → Answers m t o t′ o′ r
+  pub answers-reply : (n : ℕ) (t′ o₁ o′ : List ℕ) (r : ℕ) → call lines m t ownMid o .refusal ≡ 0 → n ≡ call lines m t ownMid o .size → t′ ≡ call lines m t ownMid o .table
+      → o₁ ≡ call lines m t ownMid o .reply → Appended o₁ n (lineEnd ∷ []) o′ r → Answers m t o t′ o′ r
   unfolding answered answerText
   answers-reply n t′ o₁ o′ r e s x y f =
       let z : answered m t .refusal ≡ 0 = sym same-refusal ∙ e in
-      let a = call-taken m t ownMid o e in
-      let b = call-taken m t ownMid (replicate 16640 0) z in
+      let a = call-taken lines m t ownMid o e in
+      let b = call-taken lines m t ownMid (replicate 16640 0) z in
       let g : Appended o 0 (replyTo m t ownMid) o₁ n =
-      record { text = y ∙ reply-is m t ownMid o e; next = omega (arith, a .size, call-bounded m t ownMid o .fits) } in
+      record { text = y ∙ reply-is m t ownMid o e; next = omega (arith, a .size, call-bounded lines m t ownMid o .fits) } in
       record { put = chosen-yes _ _ _ _ _ _ _ (eq-eqb _ _ z) (rw (b .whole) (g ▸ f)); table = x ∙ a .table ∙ sym (b .table) }
 
   -- `refused n`
-  pub answers-refused : (n : ℕ) (t′ o₁ o′ : List ℕ) (r : ℕ) → call m t ownMid o .refusal ≡ n → 0 < n → t′ ≡ call m t ownMid o .table
-      → o₁ ≡ call m t ownMid o .reply → Appended o₁ 0 (refusedText n) o′ r → Answers m t o t′ o′ r
+  pub answers-refused : (n : ℕ) (t′ o₁ o′ : List ℕ) (r : ℕ) → call lines m t ownMid o .refusal ≡ n → 0 < n → t′ ≡ call lines m t ownMid o .table
+      → o₁ ≡ call lines m t ownMid o .reply → Appended o₁ 0 (refusedText n) o′ r → Answers m t o t′ o′ r
   unfolding answered answerText
   answers-refused n t′ o₁ o′ r e h x y f =
-      let z : call m t ownMid (replicate 16640 0) .refusal ≡ n = sym same-refusal ∙ e in
-      let a = refusal-keeps m t ownMid o (λ q. omega arith) in
-      let k : call m t ownMid (replicate 16640 0) .refusal ≢ 0 = λ q. omega arith in
-      let b = refusal-keeps m t ownMid (replicate 16640 0) k in
+      let z : call lines m t ownMid (replicate 16640 0) .refusal ≡ n = sym same-refusal ∙ e in
+      let a = refusal-keeps lines m t ownMid o (λ q. omega arith) in
+      let k : call lines m t ownMid (replicate 16640 0) .refusal ≢ 0 = λ q. omega arith in
+      let b = refusal-keeps lines m t ownMid (replicate 16640 0) k in
       record { put = chosen-no _ _ _ _ _ _ _ (ne-eqb _ _ k) (rw z (rw (y ∙ a .reply) at f)); table = x ∙ a .table ∙ sym (b .table) }
 
 -- ---- what holds of every answer
@@ -86,31 +89,34 @@ unfolding opened ownMid
 own-is = refl
 
 -- "`refused 1`" is the only refusal, and only of a line of 0 or over 4,096 bytes
-pub refused-one : (m t : List ℕ) → sound t ≡ true → answered m t .refusal ≡ pick (eqb (length m) 0 || ltb 4096 (length m)) 1 0
-unfolding answered pick
+pub refused-one : (m t : List ℕ) → ready t ≡ true → answered m t .refusal ≡ pick (eqb (length m) 0 || ltb 4096 (length m)) 1 0
+unfolding answered ready pick
 refused-one m t k = refusal-is m t ownMid (replicate 16640 0) (omega (arith, length-replicate {A = ℕ} 16640 0)) ∙ rw (k, own-is)
 
 -- a reply or `refused n`, with its line end, is no longer than the buffer
-refusal-small : (m t own o : List ℕ) → call m t own o .refusal ≤ 4
+refusal-small : (m t own o : List ℕ) → call lines m t own o .refusal ≤ 8
 unfolding call taken replied written
 refusal-small m t own o =
+    pick-ind small _ _ _ (λ e. omega arith) λ w.
     pick-ind small _ _ _ (λ e. omega arith) λ a.
     pick-ind small _ _ _ (λ e. omega arith) λ b.
     pick-ind small _ _ _ (λ e. omega arith) λ d.
     pick-ind small _ _ _ (λ e. omega arith) (λ e. omega arith)
   where
     small : Called → Type 0
-    small c = c .refusal ≤ 4
+    small c = c .refusal ≤ 8
 
 pub answer-fits : (m t : List ℕ) → length (answerText (answered m t)) ≤ answerRoom
 unfolding answered answerText refusedText
 answer-fits m t =
-    let c = call m t ownMid (replicate 16640 0) in
+    let c = call lines m t ownMid (replicate 16640 0) in
     pick-ind (λ l. length l ≤ answerRoom) (eqb (c .refusal) 0) (take (c .size) (c .reply) then (lineEnd ∷ [])) (refusedText (c .refusal))
-    (λ e. simp (length-then, length-take) (omega (arith, call-bounded m t ownMid (replicate 16640 0) .fits)))
+    (λ e. simp (length-then, length-take) (omega (arith, call-bounded lines m t ownMid (replicate 16640 0) .fits)))
     (λ e. simp length-then (omega (arith, length-decimal (c .refusal) (omega (arith, refusal-small m t ownMid (replicate 16640 0))))))
 
--- a line leaves a sound table sound
-pub answered-sound : (m t : List ℕ) → sound t ≡ true → sound (answered m t .table) ≡ true
-unfolding answered
-answered-sound m t k = call-sound m t ownMid (replicate 16640 0) k
+-- a line leaves a sound table of eight lines such a table
+pub answered-ready : (m t : List ℕ) → ready t ≡ true → ready (answered m t .table) ≡ true
+unfolding answered ready
+answered-ready m t k =
+    let b = and-both (eqb (length t) (words lines)) (sound t) k in
+    rw (call-length lines m t ownMid (replicate 16640 0), b .0) (call-sound lines m t ownMid (replicate 16640 0) (b .1))

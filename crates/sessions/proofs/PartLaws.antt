@@ -7,8 +7,8 @@ use lib.ListN.{length, take, drop, length-drop}
 use lib.Seq.{take-nil, drop-nil}
 use Rattle.base.specs.Out.{Appended}
 use Rattle.base.proofs.OutLaws.{_▸_}
-use Rattle.megaco.specs.Table.{terminations, contexts, words, contextWords, recordWords}
-use Rattle.sessions.specs.Listing.{present, countLine, contextLines, partsText, reportText}
+use Rattle.megaco.specs.Table.{terminations, contexts, words}
+use Rattle.sessions.specs.Listing.{lines, present, countLine, contextLines, partsText, reportText}
 
 -- a list taken or dropped up to a place, or to its end if that comes first
 take-reach : (k : ℕ) (l : List ℕ) (n : ℕ) → n ≡ min k (length l) → take n l ≡ take k l
@@ -27,12 +27,12 @@ module _ (o : List ℕ) (at : ℕ) (o′ : List ℕ) (r : ℕ) where
   unfolding partsText
   parts-are ws rs n o₁ p e f g = (rw e at f) ▸ g
 
-  pub contexts-are : (t : List ℕ) (a b e : ℕ) → a ≡ min terminations (length t) → b ≡ min (terminations + terminations) (length t) → e ≡ min words (length t)
-      → Appended o at (partsText (take (a - 0) (drop 0 t)) (take (e - b) (drop b t))) o′ r → Appended o at (reportText t) o′ r
-  unfolding reportText contextWords recordWords
+  pub contexts-are : (t : List ℕ) (a b e : ℕ) → a ≡ min (terminations lines) (length t) → b ≡ min (terminations lines + terminations lines) (length t)
+      → e ≡ min (words lines) (length t) → Appended o at (partsText (take (a - 0) (drop 0 t)) (take (e - b) (drop b t))) o′ r → Appended o at (reportText t) o′ r
+  unfolding reportText
   contexts-are t a b e l m n f =
-      let x : take (a - 0) t ≡ contextWords t = take-reach terminations t (a - 0) (omega arith) in
-      let y : drop b t ≡ drop (terminations + terminations) t = drop-reach (terminations + terminations) t b m in
-      let z : take (e - b) (drop (terminations + terminations) t) ≡ recordWords t =
-      take-reach contexts (drop (terminations + terminations) t) (e - b) (omega (arith, length-drop (terminations + terminations) t)) in
+      let k : ℕ = terminations lines + terminations lines in
+      let x : take (a - 0) t ≡ take (terminations lines) t = take-reach (terminations lines) t (a - 0) (omega arith) in
+      let y : drop b t ≡ drop k t = drop-reach k t b m in
+      let z : take (e - b) (drop k t) ≡ take contexts (drop k t) = take-reach contexts (drop k t) (e - b) (omega (arith, length-drop k t)) in
       rw (sym x, sym z, sym y) f

@@ -13,11 +13,10 @@ use Rattle.base.specs.Out.{Appended}
 use Rattle.base.proofs.OutLaws.{none, take-put, same-length-by}
 use Rattle.base.proofs.TextLaws.{none-then}
 use Rattle.laws.specs.Sound.{fresh-sound}
-use Rattle.megaco.specs.Table.{sound}
 use Rattle.sessions.specs.Lines.{lineEnd, linesOf, Unended, nothing, lineFrom, lineEndAt}
-use Rattle.sessions.specs.Listing.{reportText}
-use Rattle.sessions.specs.Session.{answered, answerText, sessionText, restText, lineRoom, answerRoom, Answers, Holds, Turned, Finished, freshTable, printedText, joined, Run, turn, read, end}
-use Rattle.sessions.proofs.AnswerLaws.{long-alike, answer-fits, answered-sound}
+use Rattle.sessions.specs.Listing.{lines, reportText}
+use Rattle.sessions.specs.Session.{ready, answered, answerText, sessionText, restText, lineRoom, answerRoom, Answers, Holds, Turned, Finished, freshTable, printedText, joined, Run, turn, read, end}
+use Rattle.sessions.proofs.AnswerLaws.{long-alike, answer-fits, answered-ready}
 use Rattle.sessions.proofs.FitLaws.{report-fits}
 use Rattle.sessions.proofs.LineLaws.{unended-before, unended-append, unended-take, fronted, lines-fronted, firstOf, fronted-is, lines-ended, chunk-ended, chunk-open}
 
@@ -100,7 +99,7 @@ module _ (s : List ℕ) (from e : ℕ) (is : e ≡ lineEndAt s from) (line : Lis
       record {
         on = omega arith;
         holds = holds-none line′ (on .room);
-        kept = λ k. rw (a .table) (answered-sound (take (h - 0) line′) t k);
+        kept = λ k. rw (a .table) (answered-ready (take (h - 0) line′) t k);
         said = answerText (answered (take (h - 0) line′) t);
         put = a .put;
         fits = omega (arith, answer-fits (take (h - 0) line′) t);
@@ -137,7 +136,7 @@ pub finish-last : (line : List ℕ) (held : ℕ) (t o t′ o′ : List ℕ) (n :
     → Answers (take (held - 0) (drop 0 line)) t o t′ o′ n → Finished line held t o t′ o′ n
 finish-last line held t o t′ o′ n hold h w a =
     record {
-      kept = λ k. rw (a .table) (answered-sound (take (held - 0) line) t k);
+      kept = λ k. rw (a .table) (answered-ready (take (held - 0) line) t k);
       said = answerText (answered (take (held - 0) line) t);
       put = a .put;
       fits = omega (arith, answer-fits (take (held - 0) line) t);
@@ -151,7 +150,7 @@ shown : (o x o′ : List ℕ) (n : ℕ) → Appended o 0 x o′ n → length x �
 shown o x o′ n f h = let e : n ≡ length x = omega (arith, f .next) in rw (f .text, e) (take-put o x h)
 
 -- what a run prints is what the session prints for the rest of the input, wherever that is cut
-run-prints : {line : List ℕ} {held : ℕ} {t s : List ℕ} {from : ℕ} {ss : List (List ℕ)} {x : List ℕ} → sound t ≡ true → Run line held t s from ss x
+run-prints : {line : List ℕ} {held : ℕ} {t s : List ℕ} {from : ℕ} {ss : List (List ℕ)} {x : List ℕ} → ready t ≡ true → Run line held t s from ss x
     → x ≡ restText (take held line) t (drop from s ++ joined ss)
 unfolding joined
 run-prints g (turn a r) = rw (shown _ _ _ _ (a .put) (a .fits)) (ap (λ (y : List ℕ). a .said then y) (run-prints (a .kept g) r) ∙ sym (a .rest _))
@@ -159,6 +158,10 @@ run-prints {s = s} g (read h r) = rw (drop-of-length-le s h) (run-prints g r)
 run-prints {s = s} g (end {t′ = t′} h a w f) =
     rw (shown _ _ _ _ (a .put) (a .fits), shown _ _ _ _ f (omega (arith, report-fits t′ (a .kept g))), drop-of-length-le s h) (sym (a .rest))
 
+fresh-ready : ready freshTable ≡ true
+unfolding ready freshTable
+fresh-ready = rw (fresh-sound lines (omega arith) (omega arith))
+
 pub session-prints : (line : List ℕ) (ss : List (List ℕ)) (x : List ℕ) → Run line 0 freshTable [] 0 ss x → x ≡ printedText (joined ss)
 unfolding printedText freshTable
-session-prints line ss x r = run-prints fresh-sound r
+session-prints line ss x r = run-prints fresh-ready r

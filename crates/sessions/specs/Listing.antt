@@ -1,12 +1,17 @@
 -- What the listing program prints (document 01, 'Sessions to check').
 use Prim.Native.Nat.{ℕ, _+_}
 use mathlib.Core.List.{List, [], _∷_}
+use lib.ListN.{take, drop}
 use lib.Dec.{eqb}
 use Rattle.base.specs.Pick.{pick}
 use Rattle.base.specs.Bytes.{text, decimal, _then_}
-use Rattle.megaco.specs.Table.{contextWords, recordWords, priorityOf, emergencyOf}
+use Rattle.megaco.specs.Table.{terminations, contexts, priorityOf, emergencyOf}
 use Rattle.megaco.specs.Names.{nameText}
 use Rattle.sessions.specs.Lines.{lineEnd}
+
+-- the listing program stays at eight lines
+abbrev pub lines : ℕ
+lines = 8
 
 -- the texts of a row's elements one after another, each made of its number, counted from n, and the element
 unfoldable pub each : (ℕ → ℕ → List ℕ) → ℕ → List ℕ → List ℕ
@@ -15,7 +20,7 @@ each f n (x ∷ xs) = f n x then each f (n + 1) xs
 
 -- a termination's name, if it stands in the context
 unfoldable pub memberText : ℕ → ℕ → ℕ → List ℕ
-memberText c i word = pick (eqb word c) (text " " then nameText i) []
+memberText c i word = pick (eqb word c) (text " " then nameText lines i) []
 
 -- "member names ascending", from the context words
 abbrev pub membersText : ℕ → List ℕ → List ℕ
@@ -47,7 +52,7 @@ unfoldable pub partsText : List ℕ → List ℕ → List ℕ
 partsText ws rs = countLine (present rs) then contextLines ws rs
 
 unfoldable pub reportText : List ℕ → List ℕ
-reportText t = partsText (contextWords t) (recordWords t)
+reportText t = partsText (take (terminations lines) t) (take contexts (drop (terminations lines + terminations lines) t))
 
 -- "`refused 1`"
 unfoldable pub refusedText : ℕ → List ℕ

@@ -1,7 +1,7 @@
 -- What a whole session prints (document 01, 'Sessions to check').
 use Prim.Native.Nat.{ℕ, _≤_, _<_}
 use mathlib.Core.Path.{_≡_}
-use mathlib.Core.Bool.{true}
+use mathlib.Core.Bool.{Bool, true, _&&_}
 use mathlib.Core.List.{List, [], _∷_, _++_}
 use lib.ListN.{length, take, drop, replicate}
 use lib.Dec.{eqb}
@@ -11,7 +11,7 @@ use Rattle.base.specs.Out.{Appended}
 use Rattle.megaco.specs.Table.{words, sound}
 use Rattle.megaco.specs.Call.{Called, call}
 use Rattle.sessions.specs.Lines.{lineEnd, linesOf, Unended}
-use Rattle.sessions.specs.Listing.{reportText, refusedText}
+use Rattle.sessions.specs.Listing.{lines, reportText, refusedText}
 
 -- "own mId `[10.0.0.9]`"
 unfoldable pub ownMid : List ℕ
@@ -19,11 +19,15 @@ ownMid = text "[10.0.0.9]"
 
 -- "from a fresh table": "All zero is the fresh table"
 unfoldable pub freshTable : List ℕ
-freshTable = replicate words 0
+freshTable = replicate (words lines) 0
+
+-- a sound table of eight lines
+unfoldable pub ready : List ℕ → Bool
+ready t = eqb (length t) (words lines) && sound t
 
 -- the call for a line
 unfoldable pub answered : List ℕ → List ℕ → Called
-answered m t = call m t ownMid (replicate 16640 0)
+answered m t = call lines m t ownMid (replicate 16640 0)
 
 -- "Per line it prints the reply or `refused 1`"
 unfoldable pub answerText : Called → List ℕ
@@ -68,7 +72,7 @@ pub record Holds (line : List ℕ) (held : ℕ) : Type 0 where
 pub record Turned (s : List ℕ) (from : ℕ) (line : List ℕ) (held : ℕ) (t o line′ t′ o′ : List ℕ) (next held′ size : ℕ) : Type 0 where
   pub on : from < next
   pub holds : Holds line′ held′
-  pub kept : sound t ≡ true → sound t′ ≡ true
+  pub kept : ready t ≡ true → ready t′ ≡ true
   pub said : List ℕ
   pub put : Appended o 0 said o′ size
   pub fits : length said ≤ length o
@@ -76,7 +80,7 @@ pub record Turned (s : List ℕ) (from : ℕ) (line : List ℕ) (held : ℕ) (t 
 
 -- the input has ended: `said` is to be printed for a line that is still held, and then the contexts
 pub record Finished (line : List ℕ) (held : ℕ) (t o t′ o′ : List ℕ) (size : ℕ) : Type 0 where
-  pub kept : sound t ≡ true → sound t′ ≡ true
+  pub kept : ready t ≡ true → ready t′ ≡ true
   pub said : List ℕ
   pub put : Appended o 0 said o′ size
   pub fits : length said ≤ length o

@@ -11,7 +11,10 @@ ghost use Rattle.sessions.specs.Listing.{memberText, membersText, proper
 // LF.
 const LINE_END: u8 = 10;
 
-// The context words of a table end here, its records start and end here.
+// The lines of the listing program's table.
+const LINES: u32 = 8;
+
+// The context words of a table of eight lines end here, its records start and end here.
 const TERMINATIONS: usize = 312;
 
 const RECORDS: usize = 624;
@@ -69,7 +72,7 @@ fn put_member(out: &mut [u8], at: usize, c: usize, i: usize, word: u32) -> usize
 {
     if word as usize == c {
         let p = writer::put_byte(out, at, b' ');
-        return report::put_name(out, p, i);
+        return report::put_name(out, p, LINES, i);
     }
     at
 }

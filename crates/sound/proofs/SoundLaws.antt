@@ -1,5 +1,5 @@
 -- The laws of the passes over a table, in the form in which `search` uses them.
-use Prim.Native.Nat.{ℕ, zero, suc, _+_, _<_, _≤_}
+use Prim.Native.Nat.{ℕ, zero, suc, _+_, _-_, _<_, _≤_}
 use mathlib.Core.Path.{_≡_, refl, sym, ap, _∙_}
 use mathlib.Core.List.{List, [], _∷_}
 use mathlib.Core.Bool.{Bool, true, false, not, _&&_, and-false, Bool·beq}
@@ -8,15 +8,17 @@ use native.Mathlib.Nat.{zero-add, add-zero, suc-add}
 use native.Mathlib.Omega.{arith}
 use lib.ListN.{length, getD, set, take, drop, replicate, drop-of-length-le, length-set, length-replicate, getD-replicate}
 use lib.Seq.{drop-cons, drop-drop, take-nil, take-all, getD-set-same, getD-set-other}
-use lib.Dec.{leb, eqb}
+use lib.Dec.{ltb, leb, eqb}
 use mir.Syntax.{w32}
 use mir.Val.{Fits}
-use borrow.Author.Tests.{le-leb, lt-leb, eq-eqb, ne-eqb, eqb-true, eqb-false}
+use borrow.Author.Tests.{le-leb, lt-leb, leb-true, leb-false, ltb-true, ltb-false, eq-eqb, ne-eqb, eqb-true, eqb-false}
 use Rattle.base.specs.Pick.{pick}
 use Rattle.base.specs.Lists.{every, count}
-use Rattle.megaco.specs.Table.{lineTerminations, ephemerals, terminations, contexts, words, contextWords, propertyWords, recordWords, ephemeralContexts, ephemeralProperties, isPropertyWord, absentAreZero, recordIsSound, recordsAreSound, sound}
+use Rattle.megaco.proofs.Sizes.{sized-is}
+use Rattle.megaco.specs.Table.{lineTerminations, ephemerals, terminations, contexts, words, mostLines, fitted, Sized, sized, contextWords, propertyWords, recordWords, ephemeralContexts, ephemeralProperties, isPropertyWord, absentAreZero, recordIsSound, recordsAreSound, sound}
 use Rattle.table.proofs.TableLaws.{drop-take}
-use Rattle.sound.specs.Parts.{ephemeralIsSound, recordsMeet}
+use Rattle.sound.specs.Parts.{ephemeralIsSound, recordsMeet, partsAreSound}
+use Rattle.base.proofs.TestLaws.{and-both}
 
 -- ---- a test of each word: b tells of the words passed
 
@@ -198,52 +200,104 @@ every-part p (suc n) m (x ∷ l) = rw (suc-add, every-part p n m l) (and-pick (p
     and-pick false b c = refl
 
 -- the tests in the order of the passes, and in the order of the definition
-arrange : (e r l p z : Bool) → ((e && r) && l && (p && z)) ≡ (true && e && (l && p) && z && r)
+arrange : (e r l p z : Bool) → ((e && r) && l && (p && z)) ≡ (e && (l && p) && z && r)
 arrange false r l p z = refl
-arrange true false l p z = sym (and-false (true && true && (l && p) && z))
+arrange true false l p z = sym (and-false (true && (l && p) && z))
 arrange true true false p z = refl
 arrange true true true false z = refl
 arrange true true true true false = refl
 arrange true true true true true = refl
 
-arranged : (a b c e r l p z w : Bool) → a ≡ (e && r) → b ≡ l → c ≡ (p && z) → w ≡ (l && p) → (a && b && c) ≡ (true && e && w && z && r)
+arranged : (a b c e r l p z w : Bool) → a ≡ (e && r) → b ≡ l → c ≡ (p && z) → w ≡ (l && p) → (a && b && c) ≡ (e && w && z && r)
 arranged a b c e r l p z w f g h k = rw (f, g, h, k) (arrange e r l p z)
 
--- where the properties of ephemerals stand
-abbrev ephemeralPlace : ℕ
-ephemeralPlace = terminations + lineTerminations
+same-low : (m : ℕ) → leb 95 (terminations m) ≡ ltb 0 m
+same-low m = by (ltb 0 m) refl
+  where
+    by : (b : Bool) → ltb 0 m ≡ b → leb 95 (terminations m) ≡ b
+    by true e = le-leb 95 (terminations m) (omega (arith, ltb-true 0 m e))
+    by false e = lt-leb 95 (terminations m) (omega (arith, ltb-false 0 m e))
+
+same-high : (m : ℕ) → leb (terminations m) 560 ≡ leb m mostLines
+same-high m = by (leb m mostLines) refl
+  where
+    by : (b : Bool) → leb m mostLines ≡ b → leb (terminations m) 560 ≡ b
+    by true e = le-leb (terminations m) 560 (omega (arith, leb-true m mostLines e))
+    by false e = lt-leb (terminations m) 560 (omega (arith, leb-false m mostLines e))
 
 module _ (t : List ℕ) where
-  ephemeral-contexts : ephemeralContexts t ≡ take ephemerals (drop lineTerminations t)
-  unfolding ephemeralContexts contextWords
-  ephemeral-contexts = drop-take lineTerminations ephemerals t
+  N : ℕ
+  N = terminations (fitted t)
 
-  ephemeral-properties : ephemeralProperties t ≡ take ephemerals (drop ephemeralPlace t)
-  unfolding ephemeralProperties propertyWords
-  ephemeral-properties = drop-take lineTerminations ephemerals (drop terminations t) ∙ ap (take ephemerals) (drop-drop lineTerminations terminations t)
+  L : ℕ
+  L = lineTerminations (fitted t)
 
-  properties : every isPropertyWord (propertyWords t) ≡ (every isPropertyWord (take lineTerminations (drop terminations t)) && every isPropertyWord (take ephemerals (drop ephemeralPlace t)))
-  unfolding propertyWords
+  ephemeral-contexts : ephemeralContexts t ≡ take ephemerals (drop L t)
+  unfolding ephemeralContexts contextWords L
+  ephemeral-contexts = drop-take (lineTerminations (fitted t)) ephemerals t
+
+  -- the properties of ephemerals stand behind those of lines
+  ephemeral-properties : ephemeralProperties t ≡ take ephemerals (drop (N + L) t)
+  unfolding ephemeralProperties propertyWords L N
+  ephemeral-properties =
+      drop-take (lineTerminations (fitted t)) ephemerals (drop (terminations (fitted t)) t)
+      ∙ ap (take ephemerals) (drop-drop (lineTerminations (fitted t)) (terminations (fitted t)) t)
+
+  properties : every isPropertyWord (propertyWords t) ≡ (every isPropertyWord (take L (drop N t)) && every isPropertyWord (take ephemerals (drop (N + L) t)))
+  unfolding propertyWords L N
   properties =
-      every-part isPropertyWord lineTerminations ephemerals (drop terminations t)
-      ∙ ap (λ (l : List ℕ). every isPropertyWord (take lineTerminations (drop terminations t)) && every isPropertyWord (take ephemerals l)) (drop-drop lineTerminations terminations t)
+      every-part isPropertyWord (lineTerminations (fitted t)) ephemerals (drop (terminations (fitted t)) t)
+      ∙ ap (λ (l : List ℕ). every isPropertyWord (take (lineTerminations (fitted t)) (drop (terminations (fitted t)) t)) && every isPropertyWord (take ephemerals l))
+      (drop-drop (lineTerminations (fitted t)) (terminations (fitted t)) t)
 
-  pub unsound : (length t ≡ words → ⊥) → false ≡ sound t
-  unfolding sound
-  unsound h = rw (ne-eqb (length t) words h)
-
-  pub sound-by : (a b c : Bool) → length t ≡ words
+  parts : (a b c : Bool)
       → a ≡ (every (λ w. leb w contexts) (contextWords t) && recordsAreSound (contextWords t) 1 (recordWords t))
-      → b ≡ every isPropertyWord (take lineTerminations (drop terminations t))
-      → c ≡ (every isPropertyWord (take ephemerals (drop ephemeralPlace t)) && absentAreZero (take ephemerals (drop lineTerminations t)) (take ephemerals (drop ephemeralPlace t)))
-      → (a && b && c) ≡ sound t
-  unfolding sound
-  sound-by a b c h f g k =
-      rw (eq-eqb (length t) words h, ephemeral-contexts, ephemeral-properties)
+      → b ≡ every isPropertyWord (take L (drop N t))
+      → c ≡ (every isPropertyWord (take ephemerals (drop (N + L) t)) && absentAreZero (take ephemerals (drop L t)) (take ephemerals (drop (N + L) t)))
+      → (a && b && c) ≡ partsAreSound t
+  unfolding partsAreSound
+  parts a b c f g k =
+      rw (ephemeral-contexts, ephemeral-properties)
       (arranged a b c
       (every (λ w. leb w contexts) (contextWords t))
       (recordsAreSound (contextWords t) 1 (recordWords t))
-      (every isPropertyWord (take lineTerminations (drop terminations t)))
-      (every isPropertyWord (take ephemerals (drop ephemeralPlace t)))
-      (absentAreZero (take ephemerals (drop lineTerminations t)) (take ephemerals (drop ephemeralPlace t)))
+      (every isPropertyWord (take L (drop N t)))
+      (every isPropertyWord (take ephemerals (drop (N + L) t)))
+      (absentAreZero (take ephemerals (drop L t)) (take ephemerals (drop (N + L) t)))
       (every isPropertyWord (propertyWords t)) f g k properties)
+
+  -- the parts that the code takes of a table with n terminations
+  pub parts-by : (n : ℕ) (a b c : Bool) → n ≡ terminations (fitted t)
+      → a ≡ (every (λ w. leb w contexts) (take (n - 0) (drop 0 t)) && recordsAreSound (take (n - 0) (drop 0 t)) 1 (take (n + n + 128 - (n + n)) (drop (n + n) t)))
+      → b ≡ every isPropertyWord (take (n + (n - 64) - n) (drop n t))
+      → c ≡ (every isPropertyWord (take (n + n - (n + (n - 64))) (drop (n + (n - 64)) t)) && absentAreZero (take (n - (n - 64)) (drop (n - 64) t)) (take (n + n - (n + (n - 64))) (drop (n + (n - 64)) t)))
+      → (a && b && c) ≡ partsAreSound t
+  unfolding contextWords recordWords L N
+  parts-by n a b c e f g h =
+      let l : ℕ = lineTerminations (fitted t) in
+      let m : ℕ = terminations (fitted t) in
+      let e₁ : n - 0 ≡ m = omega arith in
+      let e₂ : n + n + 128 - (n + n) ≡ 128 = omega arith in
+      let e₃ : n + n ≡ m + m = omega arith in
+      let e₄ : n + (n - 64) - n ≡ l = omega arith in
+      let e₅ : n + n - (n + (n - 64)) ≡ 64 = omega arith in
+      let e₆ : n + (n - 64) ≡ m + l = omega arith in
+      let e₇ : n - (n - 64) ≡ 64 = omega arith in
+      let e₈ : n - 64 ≡ l = omega arith in
+      parts a b c (f ∙ rw (e₂, e₁, e₃)) (g ∙ rw (e₄, e)) (h ∙ rw (e₅, e₇, e₆, e₈))
+
+  pub sound-by : (x r : Bool) → x ≡ sized t → x ≡ true → r ≡ partsAreSound t → r ≡ sound t
+  unfolding sound partsAreSound
+  sound-by x r e h k = k ∙ rw (← e, h)
+
+  pub unsound : (x : Bool) → x ≡ sized t → x ≡ false → false ≡ sound t
+  unfolding sound
+  unsound x e h = rw (← e, h)
+
+  -- the size, as the code tests it
+  pub sized-by : (n : ℕ) → n ≡ terminations (fitted t) → (leb 95 n && leb n 560 && eqb (length t) (n + n + 128)) ≡ sized t
+  unfolding sized
+  sized-by n e = let m : ℕ = fitted t in rw (e, same-low m, same-high m)
+
+  pub sized-facts : (x : Bool) → x ≡ sized t → x ≡ true → Sized t
+  sized-facts x e h = sized-is t (sym e ∙ h)

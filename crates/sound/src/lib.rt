@@ -1,38 +1,56 @@
 // Whether a lent table is sound: a pass over the context words, one over the records, one over the lines' properties, one over the ephemerals'.
 // All but the first go on past a word that is wrong: tables are sound but for rare accidents, and without a way out the compiler takes several
 // words at a time.
+use table::CHANNELS;
 use table::CONTEXTS;
-use table::EPHEMERAL_PROPERTIES;
-use table::LINE_TERMINATIONS;
+use table::EPHEMERALS;
 use table::MOST;
-use table::RECORDS;
-use table::TERMINATIONS;
-use table::WORDS;
+use table::MOST_TERMINATIONS;
 ghost use mathlib.Core.Path.{_≡_};
 ghost use mathlib.Core.Bool.{_&&_};
 ghost use Prim.Native.Nat.{_≤_, _<_};
 ghost use lib.ListN.{length};
 ghost use lib.Dec.{leb};
 ghost use Rattle.base.specs.Lists.{every};
-ghost use Rattle.megaco.specs.Table.{contexts, isPropertyWord, absentAreZero, recordIsSound, recordsAreSound, sound};
-ghost use Rattle.sound.specs.Parts.{ephemeralIsSound, recordsMeet};
+ghost use Rattle.megaco.specs.Table.{contexts, isPropertyWord, absentAreZero, recordIsSound, recordsAreSound, Sized, sized, sound};
+ghost use Rattle.sound.specs.Parts.{ephemeralIsSound, recordsMeet, partsAreSound};
 
 // Counters for contexts 0 to 128.
 const COUNTERS: usize = CONTEXTS as usize + 1;
+
+// The terminations of one line and the ephemerals.
+const FEWEST_TERMINATIONS: usize = CHANNELS + EPHEMERALS as usize;
 
 // A table of any length.
 pub fn is_sound(table: &[u32]) -> bool
     ensures { λ r. ⌜ r ≡ sound (now (table .entry)) ⌝ }
 {
-    if table.len() != WORDS {
-        return false;
+    if is_sized(table) {
+        return parts_are_sound(table);
     }
-    contexts_are_sound(&table[0..TERMINATIONS], &table[RECORDS..WORDS])
-        & lines_are_sound(&table[TERMINATIONS..EPHEMERAL_PROPERTIES])
-        & ephemerals_are_sound(
-            &table[LINE_TERMINATIONS..TERMINATIONS],
-            &table[EPHEMERAL_PROPERTIES..RECORDS],
-        )
+    false
+}
+
+// The size of a table of 1 to 16 lines.
+fn is_sized(table: &[u32]) -> bool
+    ensures { λ r. ⌜ r ≡ sized (now (table .entry)) ⌝ }
+{
+    let n = table::terminations(table);
+    (FEWEST_TERMINATIONS <= n)
+        & (n <= MOST_TERMINATIONS)
+        & (table.len() == n + n + CONTEXTS as usize)
+}
+
+fn parts_are_sound(table: &[u32]) -> bool
+    requires { ⌜ Sized (now table) ⌝ }
+    ensures { λ r. ⌜ r ≡ partsAreSound (now (table .entry)) ⌝ }
+{
+    let n = table::terminations(table);
+    let first = n - EPHEMERALS as usize;
+    let records = n + n;
+    contexts_are_sound(&table[0..n], &table[records..records + CONTEXTS as usize])
+        & lines_are_sound(&table[n..n + first])
+        & ephemerals_are_sound(&table[first..n], &table[n + first..records])
 }
 
 // ---- contexts
@@ -47,10 +65,10 @@ fn contexts_are_sound(row: &[u32], records: &[u32]) -> bool
     let mut i: usize = 0;
     while i < row.len() {
         let w = row[i];
-        if CONTEXTS < w {
-            return false;
-        }
         if 0 < w {
+            if CONTEXTS < w {
+                return false;
+            }
             let c = w as usize;
             counters[c] = counters[c] + 1;
             i += 1;

@@ -1,10 +1,10 @@
 -- The laws of the table's words, in the form in which `search` uses them.
-use Prim.Native.Nat.{ℕ, zero, suc, _+_, _<_, _≤_}
+use Prim.Native.Nat.{ℕ, zero, suc, _+_, _-_, _<_, _≤_}
 use mathlib.Core.Path.{_≡_, refl, sym, _∙_}
 use mathlib.Core.List.{List, [], _∷_}
 use mathlib.Core.Bool.{Bool, true, false}
 use native.Mathlib.Numerals.{add-one}
-use native.Mathlib.Nat.{zero-add, suc-add}
+use native.Mathlib.Nat.{zero-add, suc-add, sub-zero}
 use native.Mathlib.Omega.{arith}
 use lib.ListN.{length, getD, set, take, drop, length-take, drop-of-length-le, List·getD-eq-default}
 use lib.Seq.{drop-cons, set-out, take-nil}
@@ -14,6 +14,7 @@ use mir.Val.{Fits, boolByte}
 use borrow.Author.Tests.{eq-eqb, ne-eqb}
 use Rattle.base.specs.Pick.{pick}
 use Rattle.base.specs.Lists.{count, lowestAbsent}
+use Rattle.megaco.specs.Table.{lineTerminations, terminations, fitted, contextWords, recordWords, ephemeralContexts, members, freeContext, freeEphemeral}
 
 -- past the end stands 0, and nothing is stored there
 pub read-past : (t : List ℕ) (k : ℕ) → length t ≤ k → 0 ≡ getD t k 0
@@ -77,10 +78,10 @@ absent-at-most n (x ∷ l) =
     pick-at-most (eqb x 0) n (lowestAbsent (n + 1) l) (n + suc (length l)) (omega arith) r
 
 -- a number that `lowestAbsent` gives of a short row fits a word
-pub absent-fits : (r k a : ℕ) (t : List ℕ) → r ≡ lowestAbsent 1 (take k (drop a t)) → k ≤ 1000 → Fits w32 r
-absent-fits r k a t e h =
-    let s : r ≤ 1 + length (take k (drop a t)) = omega (arith, e, absent-at-most 1 (take k (drop a t))) in
-    record { fits = omega (arith, length-take k (drop a t)) }
+short-fits : (r k : ℕ) (l : List ℕ) → r ≡ lowestAbsent 1 (take k l) → k ≤ 1000 → Fits w32 r
+short-fits r k l e h =
+    let s : r ≤ 1 + length (take k l) = omega (arith, e, absent-at-most 1 (take k l)) in
+    record { fits = omega (arith, length-take k l) }
 
 -- ---- parts of the table
 
@@ -89,3 +90,31 @@ pub drop-take : (n m : ℕ) (l : List ℕ) → drop n (take (n + m) l) ≡ take 
 drop-take zero m l = rw zero-add
 drop-take (suc n) m [] = rw (take-nil, take-nil)
 drop-take (suc n) m (x ∷ l) = rw suc-add (drop-take n m l)
+
+-- a part that the code takes of a table with n terminations
+pub members-part : (t : List ℕ) (c n r : ℕ) → n ≡ terminations (fitted t) → r ≡ count c (take (n - 0) (drop 0 t)) → r ≡ members c t
+unfolding members contextWords
+members-part t c n r e h = h ∙ rw (sub-zero, e)
+
+module _ (t : List ℕ) (n r : ℕ) (e : n ≡ terminations (fitted t)) where
+  -- the records
+  module _ (h : r ≡ lowestAbsent 1 (take (n + n + 128 - (n + n)) (drop (n + n) t))) where
+    pub records-fit : Fits w32 r
+    records-fit = short-fits r (n + n + 128 - (n + n)) (drop (n + n) t) h (omega arith)
+
+    pub records-part : r ≡ freeContext t
+    unfolding freeContext recordWords
+    records-part = let m : n + n + 128 - (n + n) ≡ 128 = omega arith in h ∙ rw (m, e)
+
+  -- the ephemerals
+  module _ (h : r ≡ lowestAbsent 1 (take (n - (n - 64)) (drop (n - 64) t))) where
+    pub ephemerals-fit : Fits w32 r
+    ephemerals-fit = short-fits r (n - (n - 64)) (drop (n - 64) t) h (omega arith)
+
+    pub ephemerals-part : r ≡ freeEphemeral t
+    unfolding freeEphemeral ephemeralContexts contextWords
+    ephemerals-part =
+        let l : ℕ = lineTerminations (fitted t) in
+        let p : n - 64 ≡ l = omega arith in
+        let q : n - l ≡ 64 = omega arith in
+        h ∙ rw (p, q, drop-take l 64)

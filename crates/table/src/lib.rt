@@ -1,11 +1,12 @@
-// The lent table of 752 words, read and written by the number of a termination and by the number of a context.
+// The lent table, whose size tells the lines fitted, read and written by the number of a termination and by the number of a context.
 ghost use mathlib.Core.Path.{_≡_};
+ghost use Prim.Native.Nat.{_+_, _*_, _≤_};
 ghost use lib.ListN.{length, getD, set};
 ghost use Rattle.base.specs.Lists.{count, lowestAbsent};
-ghost use Rattle.megaco.specs.Table.{words, prop, rec, ctx, cell, address, get, write, store, isEphemeral, exists, members, freeContext, freeEphemeral};
+ghost use Rattle.megaco.specs.Table.{lineTerminations, terminations, fitted, Sized, prop, rec, ctx, cell, address, get, write, store, isEphemeral, exists, members, freeContext, freeEphemeral};
 
-// The lines fitted; with the channels, ephemerals and contexts below, it gives the numbers of terminations and of words.
-pub const LINES: u32 = 8;
+// The most lines that can be fitted.
+pub const MOST_LINES: u32 = 16;
 
 // Speech channels of a line.
 pub const CHANNELS: usize = 31;
@@ -17,19 +18,46 @@ pub const CONTEXTS: u32 = 128;
 // The most terminations that a context holds.
 pub const MOST: usize = 8;
 
-// Terminations of lines have the numbers before this one, ephemerals those from it on.
-pub const LINE_TERMINATIONS: usize = CHANNELS * LINES as usize;
+// The most terminations that there can be.
+pub const MOST_TERMINATIONS: usize = CHANNELS * MOST_LINES as usize + EPHEMERALS as usize;
+
+// The words of a table without lines, and those that each line adds.
+const NO_LINES: usize = 2 * EPHEMERALS as usize + CONTEXTS as usize;
+
+const LINE: usize = 2 * CHANNELS;
+
+// ---- sizes
+
+// The lines fitted, as the table's size tells.
+fn count_lines(table: &[u32]) -> usize
+    ensures { λ r. ⌜ (r ≡ fitted (now (table .entry))) × (62 * r ≤ length (now (table .entry))) ⌝ }
+{
+    if table.len() < NO_LINES {
+        return 0;
+    }
+    (table.len() - NO_LINES) / LINE
+}
+
+pub fn lines(table: &[u32]) -> u32
+    requires { ⌜ Sized (now table) ⌝ }
+    ensures { λ r. ⌜ r ≡ fitted (now (table .entry)) ⌝ }
+{
+    count_lines(table) as u32
+}
 
 // All terminations; their properties start at this word.
-pub const TERMINATIONS: usize = LINE_TERMINATIONS + EPHEMERALS as usize;
+pub fn terminations(table: &[u32]) -> usize
+    ensures { λ r. ⌜ (r ≡ terminations (fitted (now (table .entry)))) × (2 * r ≤ 128 + length (now (table .entry))) ⌝ }
+{
+    CHANNELS * count_lines(table) + EPHEMERALS as usize
+}
 
-// The properties of ephemerals start at this word.
-pub const EPHEMERAL_PROPERTIES: usize = TERMINATIONS + LINE_TERMINATIONS;
-
-// The records of the contexts start at this word.
-pub const RECORDS: usize = TERMINATIONS + TERMINATIONS;
-
-pub const WORDS: usize = RECORDS + CONTEXTS as usize;
+// Terminations of lines have the numbers before this one, ephemerals those from it on.
+pub fn line_terminations(lines: u32) -> usize
+    ensures { λ r. ⌜ r ≡ lineTerminations lines ⌝ }
+{
+    CHANNELS * lines as usize
+}
 
 // ---- one word
 
@@ -50,13 +78,14 @@ pub fn put_word(table: &mut [u32], k: usize, v: u32)
 }
 
 // Where the record of a context stands.
-fn record_place(c: u32) -> usize
-    ensures { λ r. ⌜ r ≡ address (cell (rec c)) ⌝ }
+fn record_place(table: &[u32], c: u32) -> usize
+    ensures { λ r. ⌜ r ≡ address (fitted (now (table .entry))) (cell (rec c)) ⌝ }
 {
+    let n = terminations(table);
     if c == 0 {
-        RECORDS
+        n + n
     } else {
-        RECORDS + (c as usize - 1)
+        n + (n + (c as usize - 1))
     }
 }
 
@@ -80,7 +109,8 @@ pub fn property_of(table: &[u32], i: usize) -> u32
     ensures { λ r. ⌜ r ≡ get (now (table .entry)) (cell (prop i)) ⌝ }
 {
     if i < table.len() {
-        word_at(table, TERMINATIONS + i)
+        let n = terminations(table);
+        word_at(table, n + i)
     } else {
         0
     }
@@ -90,7 +120,8 @@ pub fn set_property(table: &mut [u32], i: usize, word: u32)
     ensures { λ _. ⌜ now (table .exit) ≡ store (write (cell (prop i)) word) (now (table .entry)) ⌝ }
 {
     if i < table.len() {
-        put_word(table, TERMINATIONS + i, word);
+        let n = terminations(table);
+        put_word(table, n + i, word);
     }
 }
 
@@ -98,25 +129,28 @@ pub fn set_property(table: &mut [u32], i: usize, word: u32)
 pub fn record_of(table: &[u32], c: u32) -> u32
     ensures { λ r. ⌜ r ≡ get (now (table .entry)) (cell (rec c)) ⌝ }
 {
-    word_at(table, record_place(c))
+    let k = record_place(table, c);
+    word_at(table, k)
 }
 
 pub fn set_record(table: &mut [u32], c: u32, held: u32)
     ensures { λ _. ⌜ now (table .exit) ≡ store (write (cell (rec c)) held) (now (table .entry)) ⌝ }
 {
-    put_word(table, record_place(c), held);
+    let k = record_place(table, c);
+    put_word(table, k, held);
 }
 
 // ---- what the words tell
 
-// How often a number stands in a row of words.
-fn count_in(row: &[u32], c: u32) -> usize
+// How often a number stands in a row of words. Counted in 32 bits, as the words are: the compiler then takes four of them at a time.
+fn count_in(row: &[u32], c: u32) -> u32
+    requires { ⌜ length (now row) ≤ 65536 ⌝ }
     ensures { λ r. ⌜ r ≡ count c (now (row .entry)) ⌝ }
 {
-    let mut n: usize = 0;
+    let mut n: u32 = 0;
     let mut i: usize = 0;
     while i < row.len() {
-        n += (row[i] == c) as usize;
+        n += (row[i] == c) as u32;
         i += 1;
     }
     n
@@ -124,10 +158,11 @@ fn count_in(row: &[u32], c: u32) -> usize
 
 // How many terminations stand in a context.
 pub fn members(table: &[u32], c: u32) -> usize
-    requires { ⌜ length (now table) ≡ words ⌝ }
+    requires { ⌜ Sized (now table) ⌝ }
     ensures { λ r. ⌜ r ≡ members c (now (table .entry)) ⌝ }
 {
-    count_in(&table[0..TERMINATIONS], c)
+    let n = terminations(table);
+    count_in(&table[0..n], c) as usize
 }
 
 // The number of the first 0 in a row of words, counted from 1; 0 if there is none.
@@ -146,29 +181,34 @@ fn lowest_absent(row: &[u32]) -> usize
 
 // The lowest number of no context, 0 if there are 128.
 pub fn free_context(table: &[u32]) -> u32
-    requires { ⌜ length (now table) ≡ words ⌝ }
+    requires { ⌜ Sized (now table) ⌝ }
     ensures { λ r. ⌜ r ≡ freeContext (now (table .entry)) ⌝ }
 {
-    lowest_absent(&table[RECORDS..WORDS]) as u32
+    let n = terminations(table);
+    let a = n + n;
+    let e = a + CONTEXTS as usize;
+    lowest_absent(&table[a..e]) as u32
 }
 
 // The lowest absent ephemeral's n of `R/n`, 0 if there are 64.
 pub fn free_ephemeral(table: &[u32]) -> u32
-    requires { ⌜ length (now table) ≡ words ⌝ }
+    requires { ⌜ Sized (now table) ⌝ }
     ensures { λ r. ⌜ r ≡ freeEphemeral (now (table .entry)) ⌝ }
 {
-    lowest_absent(&table[LINE_TERMINATIONS..TERMINATIONS]) as u32
+    let e = terminations(table);
+    let a = e - EPHEMERALS as usize;
+    lowest_absent(&table[a..e]) as u32
 }
 
-pub fn is_ephemeral(i: usize) -> bool
-    ensures { λ r. ⌜ r ≡ isEphemeral i ⌝ }
+pub fn is_ephemeral(lines: u32, i: usize) -> bool
+    ensures { λ r. ⌜ r ≡ isEphemeral lines i ⌝ }
 {
-    LINE_TERMINATIONS <= i
+    line_terminations(lines) <= i
 }
 
 // Whether a termination exists, by its number and its context word.
-pub fn exists(i: usize, word: u32) -> bool
-    ensures { λ r. ⌜ r ≡ exists i word ⌝ }
+pub fn exists(lines: u32, i: usize, word: u32) -> bool
+    ensures { λ r. ⌜ r ≡ exists lines i word ⌝ }
 {
-    !((LINE_TERMINATIONS <= i) & (word == 0))
+    !((line_terminations(lines) <= i) & (word == 0))
 }

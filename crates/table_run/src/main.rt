@@ -9,7 +9,6 @@ use megaco::Range;
 ghost use mathlib.Core.Path.{_≡_};
 ghost use Prim.Native.Nat.{_≤_};
 ghost use lib.ListN.{length};
-ghost use Rattle.megaco.specs.Table.{words};
 
 fn main() {
     let mut room = [0u32; 753];
@@ -128,7 +127,7 @@ fn put_run(t: &mut [u32], from: usize, to: usize, v: u32) {
 // Eight terminations from a number on in each of contexts 1, 2, ..
 fn put_eights(t: &mut [u32], from: usize) {
     let mut i = from;
-    while i < table::TERMINATIONS {
+    while i < 312 {
         table::put_word(t, i, ((i - from) / 8 + 1) as u32);
         i += 1;
     }
@@ -137,7 +136,7 @@ fn put_eights(t: &mut [u32], from: usize) {
 // A termination or more in each of 128 contexts.
 fn put_spread(t: &mut [u32]) {
     let mut i: usize = 0;
-    while i < table::TERMINATIONS {
+    while i < 312 {
         table::put_word(t, i, (i % 128 + 1) as u32);
         i += 1;
     }
@@ -176,7 +175,7 @@ fn start(t: &mut [u32], base: u32) {
 }
 
 fn table_case(t: &mut [u32], line: &[u8])
-    requires { ⌜ length (now t) ≡ words ⌝ }
+    requires { ⌜ length (now t) ≡ 752 ⌝ }
 {
     start(t, number(line, 1));
     table::put_word(t, number(line, 2) as usize, number(line, 3));
@@ -184,7 +183,7 @@ fn table_case(t: &mut [u32], line: &[u8])
 }
 
 fn report(t: &[u32], c: u32)
-    requires { ⌜ length (now t) ≡ words ⌝ }
+    requires { ⌜ length (now t) ≡ 752 ⌝ }
 {
     say_sound(t);
     say_number(b", members ", table::members(t, c) as u64);
@@ -204,7 +203,7 @@ fn length_case(room: &mut [u32], n: u32) {
 
 // What a name means; of a wildcard, how many its range takes in.
 fn name_case(n: &[u8]) {
-    let r = names::name_of(n);
+    let r = names::name_of(8, n);
     match r {
         Name::Termination(i) => say_number(b": termination ", i as u64),
         Name::Root => say(b": root"),
@@ -219,8 +218,8 @@ fn name_case(n: &[u8]) {
 fn in_all(w: Range) -> u64 {
     let mut n: u64 = 0;
     let mut i: usize = 0;
-    while i < table::TERMINATIONS {
-        n += names::in_range(w, i) as u64;
+    while i < 312 {
+        n += names::in_range(8, w, i) as u64;
         i += 1;
     }
     n

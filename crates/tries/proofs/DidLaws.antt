@@ -18,7 +18,7 @@ use Rattle.megaco.specs.Reply.{Report, tried, reportsText}
 use Rattle.report.specs.Rows.{firstAfter}
 use Rattle.report.proofs.ReportLaws.{reports-split}
 use Rattle.megaco.specs.Running.{Outcome, outcome, effect, concluded, Result, refused, checks, changes, attempt, settled, numberOf, look, tries, wanted, matchesFrom, matches, aimMatches, missed, aimed}
-use Rattle.megaco.specs.Table.{terminations, contextWords, exists, apply}
+use Rattle.megaco.specs.Table.{mostLines, terminations, fitted, Sized, contextWords, exists, apply}
 use Rattle.megaco.specs.Names.{inRange, nameText}
 use Rattle.attempt.specs.Judging.{codeOf}
 use Rattle.attempt.proofs.JudgeLaws.{attempt-done, attempt-refused}
@@ -128,15 +128,20 @@ module _ (op : Op) (wild : Bool) (name : List ℕ) (given : ℕ) (vs : Values) w
 
 -- ---- one attempt
 
+-- the lines that an attempt sees
+pub look-lines : (at : Context) (i : ℕ) (t : List ℕ) (v : View) → v ≡ look at i t → Sized t → 0 < v .lines
+unfolding look
+look-lines at i t v e s = rw e (s .some)
+
 -- the name that a failed attempt bears
-module _ (op : Op) (wild : Bool) (i : ℕ) (name : List ℕ) (code : ℕ) (first : Bool) (o : List ℕ) (p : ℕ) (o′ : List ℕ) (r : ℕ) where
-  pub shown-full : wild ≡ true → Appended o p (reportsText first (tried op (nameText i) code ∷ [])) o′ r
-      → Appended o p (reportsText first (tried op (shown wild i name) code ∷ [])) o′ r
+module _ (op : Op) (wild : Bool) (lines i : ℕ) (name : List ℕ) (code : ℕ) (first : Bool) (o : List ℕ) (p : ℕ) (o′ : List ℕ) (r : ℕ) where
+  pub shown-full : wild ≡ true → Appended o p (reportsText first (tried op (nameText lines i) code ∷ [])) o′ r
+      → Appended o p (reportsText first (tried op (shown lines wild i name) code ∷ [])) o′ r
   unfolding shown pick
   shown-full e a = rw e a
 
   pub shown-received : wild ≡ false → Appended o p (reportsText first (tried op name code ∷ [])) o′ r
-      → Appended o p (reportsText first (tried op (shown wild i name) code ∷ [])) o′ r
+      → Appended o p (reportsText first (tried op (shown lines wild i name) code ∷ [])) o′ r
   unfolding shown pick
   shown-received e a = rw e a
 
@@ -150,14 +155,14 @@ module _ (op : Op) (wild : Bool) (name : List ℕ) (given : ℕ) (vs : Values) (
   tries-one e = rw e
 
   pub attempt-does : (t′ o′ : List ℕ) (n : ℕ) (c : Context) → v ≡ look at i t → code ≡ codeOf (checks op at v) → code ≡ 0
-      → t′ ≡ apply (changes op at given i vs v) t → Appended o p (reportsText first (tried op (nameText i) 0 ∷ [])) o′ n → c ≡ settled at v
+      → t′ ≡ apply (changes op at given i vs v) t → Appended o p (reportsText first (tried op (nameText (v .lines) i) 0 ∷ [])) o′ n → c ≡ settled at v
       → Did (tries op wild name given vs (i ∷ []) at t) first o p t′ o′ (went n c true)
   unfolding concluded
   attempt-does t′ o′ n c e f z g a s =
       rw (tries-one e ∙ ap comes (attempt-done op at given i vs v (sym f ∙ z))) (record { table = g; text = a; place = s; going = refl })
 
   pub attempt-fails : (o′ : List ℕ) (n : ℕ) → v ≡ look at i t → code ≡ codeOf (checks op at v) → (code ≡ 0 → ⊥)
-      → Appended o p (reportsText first (tried op (shown wild i name) code ∷ [])) o′ n
+      → Appended o p (reportsText first (tried op (shown (v .lines) wild i name) code ∷ [])) o′ n
       → Did (tries op wild name given vs (i ∷ []) at t) first o p t o′ (went n at false)
   unfolding concluded shown apply
   attempt-fails o′ n e f z a =
@@ -170,19 +175,19 @@ no-elements [] e = refl
 no-elements (x ∷ xs) e = absurd (omega (arith, e))
 
 -- no more are matched than there are
-matches-from : (op : Op) (c : ℕ) (r : Range) (i : ℕ) (l : List ℕ) → length (matchesFrom op c r i l) ≤ length l
+matches-from : (lines : ℕ) (op : Op) (c : ℕ) (r : Range) (i : ℕ) (l : List ℕ) → length (matchesFrom lines op c r i l) ≤ length l
 unfolding matchesFrom
-matches-from op c r i [] = omega arith
-matches-from op c r i (x ∷ xs) =
-    let h : length (matchesFrom op c r (i + 1) xs) ≤ length xs = matches-from op c r (i + 1) xs in
-    let m : List ℕ = matchesFrom op c r (i + 1) xs in
-    pick-ind (λ l. length l ≤ length (x ∷ xs)) (inRange r i && exists i x && wanted op c x) (i ∷ m) m (λ e. omega arith) (λ e. omega arith)
+matches-from lines op c r i [] = omega arith
+matches-from lines op c r i (x ∷ xs) =
+    let h : length (matchesFrom lines op c r (i + 1) xs) ≤ length xs = matches-from lines op c r (i + 1) xs in
+    let m : List ℕ = matchesFrom lines op c r (i + 1) xs in
+    pick-ind (λ l. length l ≤ length (x ∷ xs)) (inRange lines r i && exists lines i x && wanted op c x) (i ∷ m) m (λ e. omega arith) (λ e. omega arith)
 
-pub matches-few : (op : Op) (at : Context) (r : Range) (t z u : List ℕ) (k : ℕ) → Matched (matches op at r t) z u k → k ≤ terminations
+pub matches-few : (op : Op) (at : Context) (r : Range) (t z u : List ℕ) (k : ℕ) → Matched (matches op at r t) z u k → k ≤ terminations (fitted t)
 unfolding matches contextWords
 matches-few op at r t z u k m =
-    let h : length (matches op at r t) ≤ length (contextWords t) = matches-from op (numberOf at) r 0 (contextWords t) in
-    let w : length (take terminations t) ≤ terminations = simp length-take (omega arith) in
+    let h : length (matches op at r t) ≤ length (contextWords t) = matches-from (fitted t) op (numberOf at) r 0 (contextWords t) in
+    let w : length (take (terminations (fitted t)) t) ≤ terminations (fitted t) = simp length-take (omega arith) in
     omega (arith, m .many)
 
 -- what was noted in a row that is long enough
@@ -233,12 +238,12 @@ module _ (op : Op) (name : List ℕ) (vs : Values) (turn : Turn) (t o t′ o′ 
       rw (no-elements (matches op (turn .at) r t) (sym (m .many) ∙ e)) (record { table = refl; text = a .text; place = a .place; going = a .going })
 
   -- those that were noted are tried
-  pub many-some : (r : Range) (z u : List ℕ) (k : ℕ) (w : Went) → Matched (matches op (turn .at) r t) z u k → (k ≡ 0 → ⊥) → length z ≡ terminations
+  pub many-some : (r : Range) (z u : List ℕ) (k : ℕ) (w : Went) → Matched (matches op (turn .at) r t) z u k → (k ≡ 0 → ⊥) → length z ≡ 560 → fitted t ≤ mostLines
       → Did (tries op true name (turn .given) vs (take k u) (turn .at) t) (turn .first) o (turn .next) t′ o′ w → Did (comes-to (Many r)) (turn .first) o (turn .next) t′ o′ w
   unfolding aimOf
-  many-some r z u k w m n h d =
+  many-some r z u k w m n h b d =
       let ms : List ℕ = matches op (turn .at) r t in
-      let f : k ≤ terminations = matches-few op (turn .at) r t z u k m in
+      let f : k ≤ 560 = omega (arith, matches-few op (turn .at) r t z u k m) in
       let q : take k u ≡ ms = noted z u ms k m (rw h f) in
       by ms (λ z. n (m .many ∙ ap length z)) (subst (λ (l : List ℕ). Did (tries op true name (turn .given) vs l (turn .at) t) (turn .first) o (turn .next) t′ o′ w) q d)
     where

@@ -24,8 +24,8 @@ unfoldable pub joined : Outcome → Outcome → Outcome
 joined x y = outcome (y .table) (x .reports ++ y .reports) (y .at) (x .going && y .going)
 
 -- the name that a failed attempt bears
-unfoldable pub shown : Bool → ℕ → List ℕ → List ℕ
-shown wild i name = pick wild (nameText i) name
+unfoldable pub shown : ℕ → Bool → ℕ → List ℕ → List ℕ
+shown lines wild i name = pick wild (nameText lines i) name
 
 -- a command that fails before any attempt is reported under the bytes received
 pub record Missed (op : Op) (name : List ℕ) (code : ℕ) (turn : Turn) (o o′ : List ℕ) (r : Went) : Type 0 where

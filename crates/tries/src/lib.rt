@@ -2,10 +2,10 @@
 ghost use mathlib.Core.Path.{_≡_};
 ghost use mathlib.Core.Bool.{true, false};
 ghost use mathlib.Core.List.{[], _∷_};
-ghost use Prim.Native.Nat.{min};
-ghost use lib.ListN.{length, take};
+ghost use Prim.Native.Nat.{_<_, min};
+ghost use lib.ListN.{take};
 ghost use Rattle.base.specs.Out.{Appended};
-ghost use Rattle.megaco.specs.Table.{words};
+ghost use Rattle.megaco.specs.Table.{Sized};
 ghost use Rattle.megaco.specs.Names.{nameText};
 ghost use Rattle.megaco.specs.Reply.{tried, reportsText};
 ghost use Rattle.megaco.specs.Running.{tries, aimed};
@@ -18,7 +18,7 @@ use megaco::Context;
 use megaco::Op;
 use megaco::Range;
 use megaco::Values;
-use table::TERMINATIONS;
+use table::MOST_TERMINATIONS;
 
 // Where a transaction stands: the record that its action gives to a context that comes to be, the action's context, whether no report was
 // put in the action yet, and the place for the next.
@@ -47,11 +47,12 @@ fn put_received(out: &mut [u8], turn: Turn, op: Op, name: &[u8], code: u32) -> u
 }
 
 // A report under a termination's full name.
-fn put_full(out: &mut [u8], turn: Turn, op: Op, i: usize, code: u32) -> usize
-    ensures { λ r. ⌜ Appended (now (out .entry)) (turn .next) (reportsText (turn .first) (tried op (nameText i) code ∷ [])) (now (out .exit)) r ⌝ }
+fn put_full(out: &mut [u8], turn: Turn, op: Op, lines: u32, i: usize, code: u32) -> usize
+    requires { ⌜ 0 < lines ⌝ }
+    ensures { λ r. ⌜ Appended (now (out .entry)) (turn .next) (reportsText (turn .first) (tried op (nameText lines i) code ∷ [])) (now (out .exit)) r ⌝ }
 {
     let q = report::put_separator(out, turn.next, turn.first);
-    report::put_named(out, q, op, i, code)
+    report::put_named(out, q, op, lines, i, code)
 }
 
 // The report of an attempt that failed: a wildcard's bears the full name, another the bytes received.
@@ -61,13 +62,15 @@ fn put_refused(
     op: Op,
     wild: bool,
     name: &[u8],
+    lines: u32,
     i: usize,
     code: u32,
 ) -> usize
-    ensures { λ r. ⌜ Appended (now (out .entry)) (turn .next) (reportsText (turn .first) (tried op (shown wild i (now (name .entry))) code ∷ [])) (now (out .exit)) r ⌝ }
+    requires { ⌜ 0 < lines ⌝ }
+    ensures { λ r. ⌜ Appended (now (out .entry)) (turn .next) (reportsText (turn .first) (tried op (shown lines wild i (now (name .entry))) code ∷ [])) (now (out .exit)) r ⌝ }
 {
     if wild {
-        return put_full(out, turn, op, i, code);
+        return put_full(out, turn, op, lines, i, code);
     }
     put_received(out, turn, op, name, code)
 }
@@ -98,7 +101,7 @@ fn try_one(
     table: &mut [u32],
     out: &mut [u8],
 ) -> Went
-    requires { ⌜ (length (now table) ≡ words) × Fair values ⌝ }
+    requires { ⌜ (Sized (now table)) × Fair values ⌝ }
     ensures { λ r. ⌜ Did (tries op wild (now (name .entry)) (turn .given) values (i ∷ []) (turn .at) (now (table .entry))) (turn .first) (now (out .entry)) (turn .next) (now (table .exit)) (now (out .exit)) r ⌝ }
 {
     let at = turn.at;
@@ -106,7 +109,7 @@ fn try_one(
     let code = attempt::judge_attempt(op, at, view);
     if code == 0 {
         attempt::change(table, op, at, turn.given, i, values, view);
-        let n = put_full(out, turn, op, i, 0);
+        let n = put_full(out, turn, op, view.lines, i, 0);
         let c = attempt::settled(at, view);
         return Went {
             next: n,
@@ -114,7 +117,7 @@ fn try_one(
             going: true,
         };
     }
-    let n = put_refused(out, turn, op, wild, name, i, code);
+    let n = put_refused(out, turn, op, wild, name, view.lines, i, code);
     Went {
         next: n,
         at: at,
@@ -138,7 +141,7 @@ fn try_each(
     table: &mut [u32],
     out: &mut [u8],
 ) -> Went
-    requires { ⌜ (length (now table) ≡ words) × Fair values ⌝ }
+    requires { ⌜ (Sized (now table)) × Fair values ⌝ }
     ensures { λ r. ⌜ Did (tries op true (now (name .entry)) (turn .given) values (now (matched .entry)) (turn .at) (now (table .entry))) (turn .first) (now (out .entry)) (turn .next) (now (table .exit)) (now (out .exit)) r ⌝ }
 {
     let mut k: usize = 0;
@@ -182,7 +185,7 @@ fn try_noted(
     table: &mut [u32],
     out: &mut [u8],
 ) -> Went
-    requires { ⌜ (length (now table) ≡ words) × Fair values ⌝ }
+    requires { ⌜ (Sized (now table)) × Fair values ⌝ }
     ensures { λ r. ⌜ Did (tries op true (now (name .entry)) (turn .given) values (take n (now (row .entry))) (turn .at) (now (table .entry))) (turn .first) (now (out .entry)) (turn .next) (now (table .exit)) (now (out .exit)) r ⌝ }
 {
     let e = low(n, row.len());
@@ -199,10 +202,10 @@ fn try_many(
     table: &mut [u32],
     out: &mut [u8],
 ) -> Went
-    requires { ⌜ (length (now table) ≡ words) × Fair values ⌝ }
+    requires { ⌜ (Sized (now table)) × Fair values ⌝ }
     ensures { λ w. ⌜ Did (aimed op (now (name .entry)) (turn .given) values (aimOf (Many r) op (turn .at) (now (table .entry))) (turn .at) (now (table .entry))) (turn .first) (now (out .entry)) (turn .next) (now (table .exit)) (now (out .exit)) w ⌝ }
 {
-    let mut matched = [0u32; TERMINATIONS];
+    let mut matched = [0u32; MOST_TERMINATIONS];
     let at = turn.at;
     let n = view::note_matches(table, op, at, r, &mut matched);
     if n == 0 {
@@ -221,7 +224,7 @@ pub fn run_target(
     table: &mut [u32],
     out: &mut [u8],
 ) -> Went
-    requires { ⌜ (length (now table) ≡ words) × Fair values ⌝ }
+    requires { ⌜ (Sized (now table)) × Fair values ⌝ }
     ensures { λ w. ⌜ Did (aimed op (now (name .entry)) (turn .given) values (aimOf target op (turn .at) (now (table .entry))) (turn .at) (now (table .entry))) (turn .first) (now (out .entry)) (turn .next) (now (table .exit)) (now (out .exit)) w ⌝ }
 {
     match target {

@@ -1,15 +1,18 @@
 -- The laws of what an attempt sees, and of matches noted, in the form in which `search` uses them.
-use Prim.Native.Nat.{ℕ, zero, suc, _+_, _<_, _≤_}
+use Prim.Native.Nat.{ℕ, zero, suc, _+_, _-_, _<_, _≤_}
 use mathlib.Core.Path.{_≡_, refl, sym, ap, _∙_}
 use mathlib.Core.List.{List, [], _∷_}
 use mathlib.Core.Bool.{Bool, true, false}
 use native.Mathlib.Numerals.{add-one}
+use native.Mathlib.Nat.{sub-zero}
 use native.Mathlib.Omega.{arith}
-use lib.ListN.{length, getD, set, drop, length-set, drop-of-length-le}
+use lib.ListN.{length, getD, set, take, drop, length-set, drop-of-length-le}
 use lib.Seq.{drop-cons}
 use Rattle.base.specs.Pick.{pick}
 use Rattle.base.specs.Bytes.{put}
-use Rattle.megaco.specs.Running.{matchesFrom}
+use Rattle.megaco.specs.Table.{terminations, fitted, contextWords}
+use Rattle.megaco.specs.Running.{numberOf, matchesFrom, matches}
+use Rattle.megaco.specs.declared.Context.{Context}
 use Rattle.megaco.specs.declared.Op.{Op}
 use Rattle.megaco.specs.declared.Range.{Range}
 use Rattle.view.specs.Noted.{isMatch, Noted, Matched}
@@ -59,21 +62,27 @@ noting-next is o rest o₁ o₂ n m i false k d =
       small = omega (arith, k .small, d .next);
     }
 
-module _ (op : Op) (c : ℕ) (r : Range) (l is o o₁ : List ℕ) (i n : ℕ) (inv : Noting is o (matchesFrom op c r i (drop i l)) o₁ n i) where
-  here : i < length l → matchesFrom op c r i (drop i l)
-      ≡ pick (isMatch op c r i (getD l i 0)) (i ∷ matchesFrom op c r (i + 1) (drop (i + 1) l)) (matchesFrom op c r (i + 1) (drop (i + 1) l))
+module _ (lines : ℕ) (op : Op) (c : ℕ) (r : Range) (l is o o₁ : List ℕ) (i n : ℕ) (inv : Noting is o (matchesFrom lines op c r i (drop i l)) o₁ n i) where
+  here : i < length l → matchesFrom lines op c r i (drop i l)
+      ≡ pick (isMatch lines op c r i (getD l i 0)) (i ∷ matchesFrom lines op c r (i + 1) (drop (i + 1) l)) (matchesFrom lines op c r (i + 1) (drop (i + 1) l))
   unfolding matchesFrom isMatch
   here h = rw (drop-cons l i 0, add-one)
 
-  pub noting-on : (o₂ : List ℕ) (m : ℕ) (x : Bool) → i < length l → x ≡ isMatch op c r i (getD l i 0) → Noted o₁ n i x o₂ m
-      → Noting is o (matchesFrom op c r (i + 1) (drop (i + 1) l)) o₂ m (i + 1)
+  pub noting-on : (o₂ : List ℕ) (m : ℕ) (x : Bool) → i < length l → x ≡ isMatch lines op c r i (getD l i 0) → Noted o₁ n i x o₂ m
+      → Noting is o (matchesFrom lines op c r (i + 1) (drop (i + 1) l)) o₂ m (i + 1)
   noting-on o₂ m x h e d =
-      let s = matchesFrom op c r (i + 1) (drop (i + 1) l) in
-      let f : matchesFrom op c r i (drop i l) ≡ pick x (i ∷ s) s = here h ∙ ap (λ (t : Bool). pick t (i ∷ s) s) (sym e) in
+      let s = matchesFrom lines op c r (i + 1) (drop (i + 1) l) in
+      let f : matchesFrom lines op c r i (drop i l) ≡ pick x (i ∷ s) s = here h ∙ ap (λ (t : Bool). pick t (i ∷ s) s) (sym e) in
       noting-next is o s o₁ o₂ n m i x (rw f at inv) d
 
   pub noting-end : length l ≤ i → Matched is o o₁ n
   unfolding matchesFrom
   noting-end h =
-      let e : matchesFrom op c r i (drop i l) ≡ [] = rw (drop-of-length-le l h) in
+      let e : matchesFrom lines op c r i (drop i l) ≡ [] = rw (drop-of-length-le l h) in
       record { row = sym (inv .row ∙ ap (put o₁ n) e ∙ put-nothing o₁ n); many = omega (arith, inv .many, ap length e) }
+
+-- the context words of a table with n terminations
+pub matched-part : (t o o′ : List ℕ) (lines n c k : ℕ) (op : Op) (at : Context) (r : Range) → n ≡ terminations (fitted t) → lines ≡ fitted t → c ≡ numberOf at
+    → Matched (matchesFrom lines op c r 0 (take (n - 0) (drop 0 t))) o o′ k → Matched (matches op at r t) o o′ k
+unfolding matches contextWords
+matched-part t o o′ lines n c k op at r e f g m = rw (sub-zero, e, f, g) at m

@@ -13,8 +13,8 @@ use Rattle.megaco.specs.declared.Op.{Op}
 use Rattle.megaco.specs.declared.Range.{Range}
 
 -- a wildcard matches termination i, whose context word is given
-unfoldable pub isMatch : Op → ℕ → Range → ℕ → ℕ → Bool
-isMatch op c r i word = inRange r i && exists i word && wanted op c word
+unfoldable pub isMatch : ℕ → Op → ℕ → Range → ℕ → ℕ → Bool
+isMatch lines op c r i word = inRange lines r i && exists lines i word && wanted op c word
 
 -- a number at place n, if it is to be noted, and the next place
 pub record Noted (o : List ℕ) (n i : ℕ) (yes : Bool) (o′ : List ℕ) (r : ℕ) : Type 0 where

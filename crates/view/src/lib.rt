@@ -7,7 +7,7 @@ use megaco::View;
 ghost use mathlib.Core.Path.{_≡_};
 ghost use Prim.Native.Nat.{_<_};
 ghost use lib.ListN.{length};
-ghost use Rattle.megaco.specs.Table.{words};
+ghost use Rattle.megaco.specs.Table.{Sized};
 ghost use Rattle.megaco.specs.Running.{seen, numberOf, freeAt, look, wanted, matchesFrom, matches};
 ghost use Rattle.view.specs.Noted.{isMatch, Noted, Matched};
 
@@ -25,7 +25,7 @@ pub fn number_of(at: Context) -> u32
 
 // The lowest number absent, asked in `$` alone.
 fn free_at(table: &[u32], at: Context) -> u32
-    requires { ⌜ length (now table) ≡ words ⌝ }
+    requires { ⌜ Sized (now table) ⌝ }
     ensures { λ r. ⌜ r ≡ freeAt at (now (table .entry)) ⌝ }
 {
     match at {
@@ -38,7 +38,7 @@ fn free_at(table: &[u32], at: Context) -> u32
 
 // A context's record and how many stand in it; nothing where there can be no such context.
 fn seen(table: &[u32], c: u32) -> Seen
-    requires { ⌜ length (now table) ≡ words ⌝ }
+    requires { ⌜ Sized (now table) ⌝ }
     ensures { λ r. ⌜ r ≡ seen c (now (table .entry)) ⌝ }
 {
     if (0 < c) & (c <= table::CONTEXTS) {
@@ -56,7 +56,7 @@ fn seen(table: &[u32], c: u32) -> Seen
 
 // What an attempt sees: termination i, the action's context, and the context that i stands in.
 pub fn look(table: &[u32], at: Context, i: usize) -> View
-    requires { ⌜ length (now table) ≡ words ⌝ }
+    requires { ⌜ Sized (now table) ⌝ }
     ensures { λ r. ⌜ r ≡ look at i (now (table .entry)) ⌝ }
 {
     let here = table::context_of(table, i);
@@ -64,12 +64,14 @@ pub fn look(table: &[u32], at: Context, i: usize) -> View
     let there = seen(table, number_of(at));
     let from = seen(table, here);
     let free = free_at(table, at);
+    let lines = table::lines(table);
     View {
         here,
         word,
         there,
         from,
         free,
+        lines,
     }
 }
 
@@ -87,10 +89,10 @@ fn is_wanted(op: Op, c: u32, word: u32) -> bool
     }
 }
 
-fn is_match(op: Op, c: u32, r: Range, i: usize, word: u32) -> bool
-    ensures { λ q. ⌜ q ≡ isMatch op c r i word ⌝ }
+fn is_match(lines: u32, op: Op, c: u32, r: Range, i: usize, word: u32) -> bool
+    ensures { λ q. ⌜ q ≡ isMatch lines op c r i word ⌝ }
 {
-    names::in_range(r, i) & table::exists(i, word) & is_wanted(op, c, word)
+    names::in_range(lines, r, i) & table::exists(lines, i, word) & is_wanted(op, c, word)
 }
 
 // Notes a number at a place, if it is to be noted, and gives the next place.
@@ -107,14 +109,14 @@ fn note(out: &mut [u32], n: usize, i: u32, yes: bool) -> usize
 }
 
 // Notes whom a wildcard matches in a row of context words.
-fn note_row(row: &[u32], op: Op, c: u32, r: Range, out: &mut [u32]) -> usize
+fn note_row(lines: u32, row: &[u32], op: Op, c: u32, r: Range, out: &mut [u32]) -> usize
     requires { ⌜ length (now row) < 65536 ⌝ }
-    ensures { λ n. ⌜ Matched (matchesFrom op c r 0 (now (row .entry))) (now (out .entry)) (now (out .exit)) n ⌝ }
+    ensures { λ n. ⌜ Matched (matchesFrom lines op c r 0 (now (row .entry))) (now (out .entry)) (now (out .exit)) n ⌝ }
 {
     let mut n: usize = 0;
     let mut i: usize = 0;
     while i < row.len() {
-        n = note(out, n, i as u32, is_match(op, c, r, i, row[i]));
+        n = note(out, n, i as u32, is_match(lines, op, c, r, i, row[i]));
         i += 1;
     }
     n
@@ -122,8 +124,10 @@ fn note_row(row: &[u32], op: Op, c: u32, r: Range, out: &mut [u32]) -> usize
 
 // Notes whom a wildcard matches, in ascending number, before anything changes; gives how many.
 pub fn note_matches(table: &[u32], op: Op, at: Context, r: Range, out: &mut [u32]) -> usize
-    requires { ⌜ length (now table) ≡ words ⌝ }
+    requires { ⌜ Sized (now table) ⌝ }
     ensures { λ n. ⌜ Matched (matches op at r (now (table .entry))) (now (out .entry)) (now (out .exit)) n ⌝ }
 {
-    note_row(&table[0..table::TERMINATIONS], op, number_of(at), r, out)
+    let n = table::terminations(table);
+    let lines = table::lines(table);
+    note_row(lines, &table[0..n], op, number_of(at), r, out)
 }

@@ -11,7 +11,7 @@ use std::time::Duration;
 
 use cordafina::answer_word;
 use differential::calls::{reference_word, Call};
-use workloads::{fixed, requests, Workload, OWN};
+use workloads::{counts, fixed, requests, Workload, OWN};
 
 const SIDES: [(&str, Call); 2] = [("archive", answer_word), ("reference", reference_word)];
 /// Measured rounds; a median is taken of them.
@@ -45,6 +45,7 @@ fn main() {
 fn all() -> Vec<Workload> {
     let mut all = requests();
     all.extend(fixed());
+    all.extend(counts());
     all
 }
 
@@ -68,10 +69,10 @@ fn report() {
         "", "ns a message", "ns a byte", "instructions a byte"
     );
     let workloads = all();
-    let requests = workloads.len() - fixed().len();
+    let (requests, counts) = (requests().len(), workloads.len() - counts().len());
     for (place, workload) in workloads[..requests].iter().enumerate() {
         let times = times(workload);
-        let counts = counts(place, workload);
+        let instructions = instructions(place, workload);
         let messages = workload.messages.len() as f64;
         let bytes = workload.bytes() as f64;
         println!(
@@ -83,7 +84,7 @@ fn report() {
             times[0] / times[1],
             times[0] / bytes,
             times[1] / bytes,
-            match counts {
+            match instructions {
                 Some([one, other]) => {
                     format!(
                         "{:>9.1}{:>11.1}{:>7.2}",
@@ -98,14 +99,14 @@ fn report() {
     }
     println!(
         "\nFixed cost of a call: an empty message, turned down after the table and the own mId {} were judged,\n\
-         against one plain pass over the table (the sum of its 752 words).\n",
+         against one plain pass over the table (the sum of its words).\n",
         OWN.escape_ascii()
     );
     println!(
         "{:<27}{:>11}{:>14}{:>11}{:>20}{:>22}",
         "", "archive ns", "reference ns", "pass ns", "archive to pass", "archive instructions"
     );
-    for (place, workload) in workloads.iter().enumerate().skip(requests) {
+    for (place, workload) in workloads[..counts].iter().enumerate().skip(requests) {
         let times = times(workload);
         let pass = pass_time(workload);
         println!(
@@ -115,7 +116,27 @@ fn report() {
             times[1],
             pass,
             times[0] / pass,
-            counts(place, workload).map_or("-".to_string(), |[one, _]| format!("{one:.0}"))
+            instructions(place, workload).map_or("-".to_string(), |[one, _]| format!("{one:.0}"))
+        );
+    }
+    println!("\nBy the count of lines, one call from a fresh table.\n");
+    println!(
+        "{:<27}{:>7}{:>11}{:>14}{:>7} |{:>22}{:>11}",
+        "", "lines", "archive ns", "reference ns", "ratio", "archive instructions", "reference"
+    );
+    for (place, workload) in workloads.iter().enumerate().skip(counts) {
+        let times = times(workload);
+        println!(
+            "{:<27}{:>7}{:>11.0}{:>14.0}{:>7.2} |{}",
+            workload.name,
+            workload.lines.count(),
+            times[0],
+            times[1],
+            times[0] / times[1],
+            match instructions(place, workload) {
+                Some([one, other]) => format!("{one:>22.0}{other:>11.0}"),
+                None => "  valgrind is not there".to_string(),
+            }
         );
     }
 }
@@ -195,18 +216,18 @@ fn median(mut rounds: Vec<f64>) -> f64 {
 }
 
 /// Instructions of each side for one pass over a workload, if valgrind is there.
-fn counts(place: usize, workload: &Workload) -> Option<[f64; 2]> {
+fn instructions(place: usize, workload: &Workload) -> Option<[f64; 2]> {
     let more = if workload.messages.len() > 1 { 1 } else { 50 };
     let [one, other] = SIDES.map(|(side, _)| {
-        let short = instructions(side, place, 1)?;
-        let long = instructions(side, place, 1 + more)?;
+        let short = collected(side, place, 1)?;
+        let long = collected(side, place, 1 + more)?;
         Some((long - short) / more as f64)
     });
     Some([one?, other?])
 }
 
 /// All instructions of `bench count ..` as callgrind collects them.
-fn instructions(side: &str, place: usize, rounds: usize) -> Option<f64> {
+fn collected(side: &str, place: usize, rounds: usize) -> Option<f64> {
     let program = std::env::current_exe().expect("the path of this program");
     let output = Command::new("valgrind")
         .args(["--tool=callgrind", "--callgrind-out-file=/dev/null"])

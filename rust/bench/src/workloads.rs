@@ -2,46 +2,47 @@
 //! judge the table.
 
 use differential::calls::{reference_word, Call};
-use differential::damage::damage;
-use differential::messages::{Scope, Writer};
 use differential::numbers::Numbers;
-use differential::tables::{self, Words};
-use reference::{MESSAGE_BYTES, REPLY_BYTES};
+use differential::tables;
+use reference::table::Lines;
+use reference::REPLY_BYTES;
 
 pub const OWN: &[u8] = b"[10.0.0.9]";
-const FRESH: Words = [0; 752];
 
 /// Messages that are answered one after the other, from a table.
 pub struct Workload {
     pub name: &'static str,
+    pub lines: Lines,
     pub messages: Vec<Vec<u8>>,
-    pub table: Words,
+    pub table: Vec<u32>,
     /// The words that all messages together change; they are put back.
     changed: Vec<usize>,
 }
 
 impl Workload {
-    fn new(name: &'static str, messages: Vec<Vec<u8>>, table: Words) -> Self {
-        let mut after = table;
-        let mut touched = [false; 752];
+    fn new(name: &'static str, lines: Lines, messages: Vec<Vec<u8>>, table: Vec<u32>) -> Self {
+        let mut after = table.clone();
+        let mut touched = vec![false; table.len()];
         let mut reply = [0; REPLY_BYTES];
         for message in &messages {
-            reference_word(message, &mut after, OWN, &mut reply);
-            for place in 0..752 {
+            reference_word(lines.count(), message, &mut after, OWN, &mut reply);
+            for place in 0..table.len() {
                 touched[place] |= after[place] != table[place];
             }
         }
-        let changed = (0..752).filter(|&place| touched[place]).collect();
+        let changed = (0..table.len()).filter(|&place| touched[place]).collect();
         Workload {
             name,
+            lines,
             messages,
             table,
             changed,
         }
     }
 
-    fn request(name: &'static str, message: &str, table: Words) -> Self {
-        Workload::new(name, vec![message.as_bytes().to_vec()], table)
+    /// One message on eight lines.
+    fn request(name: &'static str, message: &str, table: Vec<u32>) -> Self {
+        Workload::new(name, Lines::EIGHT, vec![message.as_bytes().to_vec()], table)
     }
 
     pub fn bytes(&self) -> usize {
@@ -50,17 +51,23 @@ impl Workload {
 
     /// Lets a side answer all messages so many times.
     pub fn run(&self, call: Call, rounds: usize) {
-        let mut table = self.table;
+        let lines = self.lines.count();
+        let mut table = self.table.clone();
         let mut reply = [0; REPLY_BYTES];
         for _ in 0..rounds {
             for message in &self.messages {
-                std::hint::black_box(call(message, &mut table, OWN, &mut reply));
+                std::hint::black_box(call(lines, message, &mut table, OWN, &mut reply));
             }
             for &place in &self.changed {
                 table[place] = self.table[place];
             }
         }
     }
+}
+
+/// A fresh table of eight lines.
+fn fresh() -> Vec<u32> {
+    tables::fresh(Lines::EIGHT)
 }
 
 const SET_UP: &str = "MEGACO/1 [10.0.0.1]
@@ -74,24 +81,24 @@ Transaction = 998 {
 }
 ";
 
-/// Requests of 36, 58, 251 and 4,081 bytes, and a mix of 2,000.
+/// Requests of 36, 58, 251 and 4,081 bytes, and a mix of 2,000, on eight lines.
 pub fn requests() -> Vec<Workload> {
-    let mut context_2 = FRESH;
+    let mut context_2 = fresh();
     context_2[4] = 2;
     context_2[625] = 1;
     vec![
         Workload::request(
             "a new context of two",
             "!/1 [10.0.0.1] T=7{C=${A=L/1/5,A=$}}",
-            FRESH,
+            fresh(),
         ),
         Workload::request(
             "a failure and a Modify",
             "!/1 [10.0.0.1] T=11{C=2{O-S=L/8/31,MF=L/1/5{M{O{MO=SR}}}}}",
             context_2,
         ),
-        Workload::request("long keywords, white space", SET_UP, FRESH),
-        Workload::request("64 new contexts of two", &long_request(), FRESH),
+        Workload::request("long keywords, white space", SET_UP, fresh()),
+        Workload::request("64 new contexts of two", &long_request(), fresh()),
         mix(),
     ]
 }
@@ -109,23 +116,19 @@ fn long_request() -> String {
 }
 
 /// 2,000 messages of the differential test's kinds, a quarter of them damaged,
-/// each answered on the table that the one before left.
+/// each made for the table that the one before left. They are kept in a file,
+/// so that they stay the same when the generator changes: for each its length
+/// in four digits, a space, its bytes and a line end.
 fn mix() -> Workload {
-    let mut numbers = Numbers::new(2_000);
-    let mut table = FRESH;
-    let mut reply = [0; REPLY_BYTES];
+    let mut file: &[u8] = include_bytes!("../mix");
     let mut messages = Vec::new();
-    while messages.len() < 2_000 {
-        let scope = Scope::whole(&mut numbers, &table);
-        let mut message = Writer::new(&mut numbers, &table, &scope).message();
-        if numbers.one_in(4) {
-            damage(&mut numbers, &mut message);
-        }
-        message.truncate(MESSAGE_BYTES);
-        reference_word(&message, &mut table, OWN, &mut reply);
-        messages.push(message);
+    while let Some((digits, rest)) = file.split_at_checked(4) {
+        let digits = std::str::from_utf8(digits).expect("four digits");
+        let length: usize = digits.parse().expect("four digits");
+        messages.push(rest[1..1 + length].to_vec());
+        file = &rest[length + 2..];
     }
-    Workload::new("mix of 2,000 messages", messages, FRESH)
+    Workload::new("mix of 2,000 messages", Lines::EIGHT, messages, fresh())
 }
 
 /// Calls that are turned down for their message, after the table and the own
@@ -133,11 +136,31 @@ fn mix() -> Workload {
 pub fn fixed() -> [Workload; 2] {
     let mut numbers = Numbers::new(1);
     let full = loop {
-        let table = tables::sound(&mut numbers);
-        if tables::contexts(&table).len() == 128 {
+        let table = tables::sound(&mut numbers, Lines::EIGHT);
+        if tables::contexts(Lines::EIGHT, &table).len() == 128 {
             break table;
         }
     };
-    [("fresh table", FRESH), ("table of 128 contexts", full)]
+    [("fresh table", fresh()), ("table of 128 contexts", full)]
         .map(|(name, table)| Workload::request(name, "", table))
+}
+
+/// The same three calls on one, eight and sixteen lines, from a fresh table.
+pub fn counts() -> Vec<Workload> {
+    const CALLS: [(&str, &str); 3] = [
+        ("turned down", ""),
+        (
+            "a new context of two",
+            "!/1 [10.0.0.1] T=7{C=${A=L/1/5,A=$}}",
+        ),
+        ("every line modified", "!/1 [10.0.0.1] T=1{C=-{MF=*}}"),
+    ];
+    let mut all = Vec::new();
+    for (name, message) in CALLS {
+        for lines in [1, 8, 16].map(|count| Lines::fitted(count).expect("1 to 16")) {
+            let messages = vec![message.as_bytes().to_vec()];
+            all.push(Workload::new(name, lines, messages, tables::fresh(lines)));
+        }
+    }
+    all
 }

@@ -3,7 +3,7 @@
 //! One message, a lent [`Table`] and a lent reply buffer go in; an [`Answer`]
 //! comes out. Nothing need be checked beforehand. The library has no state and
 //! no heap, and neither has this crate. The archive that is linked is the one
-//! that `rt staticlib gateway` writes, or the one that the variable
+//! that `rt staticlib cordafina` writes, or the one that the variable
 //! `CORDAFINA_LIB` names when this crate is built.
 //!
 //! ```
@@ -26,19 +26,60 @@
 //! assert_eq!(reply, b"!/1 [10.0.0.9] P=7{C=1{A=L/1/5,A=R/1}}");
 //! # Ok::<(), cordafina::Refusal>(())
 //! ```
+//!
+//! A shelf has 1 to 16 lines. `Table::fresh` and `Gateway::new` are for eight;
+//! a table for another count is made by [`Table::with_lines`], and its size,
+//! its names and the numbers of its terminations follow from the count:
+//!
+//! ```
+//! use cordafina::{Gateway, Table};
+//!
+//! let mut gateway = Gateway::with_table(b"[10.0.0.9]", Table::with_lines(16)?)?;
+//! let reply = gateway.answer(b"!/1 [10.0.0.1] T=7{C=${A=L/16/31,A=$}}")?;
+//! assert_eq!(reply, b"!/1 [10.0.0.9] P=7{C=1{A=L/16/31,A=R/1}}");
+//! assert_eq!(gateway.table().words().len(), 1_248);
+//! # Ok::<(), cordafina::Refusal>(())
+//! ```
 
 #![no_std]
 
 use core::{error, fmt};
 
-/// Words of a table.
-pub const TABLE_WORDS: usize = 752;
+/// The greatest count of lines; the least is 1.
+pub const MOST_LINES: u32 = 16;
+/// The ephemerals, whatever the count of lines.
+pub const EPHEMERALS: usize = 64;
+/// The contexts, whatever the count of lines.
+pub const CONTEXTS: usize = 128;
 /// The least length of a reply buffer; no reply is longer.
 pub const REPLY_BYTES: usize = 16_640;
 /// The greatest length of a message.
 pub const MESSAGE_BYTES: usize = 4_096;
 /// The greatest length of the gateway's own mId.
 pub const MID_BYTES: usize = 64;
+
+/// Terminations of a table of so many lines, and the place where their
+/// properties start: `L/l/s` has number 31 (l - 1) + (s - 1), and after the last
+/// line, from [`line_terminations`] on, come the ephemerals `R/1` to `R/64`. A
+/// termination's number is the place of its context.
+pub const fn terminations(lines: u32) -> usize {
+    line_terminations(lines) + EPHEMERALS
+}
+
+/// Terminations of so many lines alone: the number of `R/1`.
+pub const fn line_terminations(lines: u32) -> usize {
+    31 * lines as usize
+}
+
+/// Where the records of the contexts 1 to 128 start, for so many lines.
+pub const fn records_start(lines: u32) -> usize {
+    2 * terminations(lines)
+}
+
+/// Words of a table of so many lines: 752 for eight.
+pub const fn table_words(lines: u32) -> usize {
+    records_start(lines) + CONTEXTS
+}
 
 /// What became of a call.
 #[derive(Clone, Copy, Debug, PartialEq, Eq)]
@@ -50,22 +91,24 @@ pub enum Answer {
     Refused(Refusal),
 }
 
-/// Why a call was turned down. They are judged in the order `ReplyTooShort`,
-/// `BadTable`, `BadMid`, `BadMessage`.
+/// Why a call was turned down. They are judged in the order `LinesUnfit`,
+/// `ReplyTooShort`, `BadTable`, `BadMid`, `BadMessage`.
 #[derive(Clone, Copy, Debug, PartialEq, Eq)]
 pub enum Refusal {
     /// "message of 0 or over 4,096 bytes"
     BadMessage = 1,
-    /// "table not 752 words, or not sound"
+    /// Table not of its count's words ("752" for eight lines), "or not sound"
     BadTable = 2,
     /// "reply buffer under 16,640 bytes"
     ReplyTooShort = 3,
     /// "gateway's own mId not an mId as below, or over 64 bytes"
     BadMid = 4,
+    /// "a count outside 1..16"
+    LinesUnfit = 8,
 }
 
 impl Refusal {
-    /// Document 01's number.
+    /// The documents' number.
     pub fn number(self) -> u32 {
         self as u32
     }
@@ -76,6 +119,7 @@ impl Refusal {
             2 => Some(Refusal::BadTable),
             3 => Some(Refusal::ReplyTooShort),
             4 => Some(Refusal::BadMid),
+            8 => Some(Refusal::LinesUnfit),
             _ => None,
         }
     }
@@ -85,33 +129,63 @@ impl fmt::Display for Refusal {
     fn fmt(&self, f: &mut fmt::Formatter) -> fmt::Result {
         f.write_str(match self {
             Refusal::BadMessage => "message of 0 or over 4,096 bytes",
-            Refusal::BadTable => "table not 752 words, or not sound",
+            Refusal::BadTable => "table not of its count's words, or not sound",
             Refusal::ReplyTooShort => "reply buffer under 16,640 bytes",
             Refusal::BadMid => "own mId not an mId, or over 64 bytes",
+            Refusal::LinesUnfit => "count of lines outside 1 to 16",
         })
     }
 }
 
 impl error::Error for Refusal {}
 
-/// The gateway's memory: 752 words. A table that was sound stays sound under
-/// calls; one that is not is turned down by each call.
+/// The gateway's memory, for a count of lines. A table that was sound stays
+/// sound under calls; one that is not is turned down by each call.
 #[derive(Clone, PartialEq, Eq)]
-pub struct Table([u32; TABLE_WORDS]);
+pub struct Table {
+    /// 1 to 16.
+    lines: u32,
+    /// The words of the count; those past them are 0 and never lent.
+    words: [u32; table_words(MOST_LINES)],
+}
 
 impl Table {
-    /// No context, no ephemeral, every line in null.
+    /// Eight lines: no context, no ephemeral, every line in null.
     pub const fn fresh() -> Self {
-        Table([0; TABLE_WORDS])
+        Table {
+            lines: 8,
+            words: [0; table_words(MOST_LINES)],
+        }
     }
 
-    /// A table of these words, sound or not.
-    pub const fn from_words(words: [u32; TABLE_WORDS]) -> Self {
-        Table(words)
+    /// The same for so many lines; `LinesUnfit` if they are not 1 to 16.
+    pub const fn with_lines(lines: u32) -> Result<Self, Refusal> {
+        if lines == 0 || lines > MOST_LINES {
+            return Err(Refusal::LinesUnfit);
+        }
+        let mut table = Table::fresh();
+        table.lines = lines;
+        Ok(table)
     }
 
-    pub const fn words(&self) -> &[u32; TABLE_WORDS] {
-        &self.0
+    /// A table of these words, sound or not; `BadTable` if they are not as many
+    /// as the count has.
+    pub fn from_words(lines: u32, words: &[u32]) -> Result<Self, Refusal> {
+        let mut table = Table::with_lines(lines)?;
+        if words.len() != table_words(lines) {
+            return Err(Refusal::BadTable);
+        }
+        table.words[..words.len()].copy_from_slice(words);
+        Ok(table)
+    }
+
+    /// The count of lines.
+    pub const fn lines(&self) -> u32 {
+        self.lines
+    }
+
+    pub fn words(&self) -> &[u32] {
+        &self.words[..table_words(self.lines)]
     }
 }
 
@@ -122,10 +196,11 @@ impl Default for Table {
 }
 
 impl fmt::Debug for Table {
-    /// The words that are not 0.
+    /// The count of lines, and the words that are not 0.
     fn fmt(&self, f: &mut fmt::Formatter) -> fmt::Result {
-        let words = self.0.iter().enumerate();
+        let words = self.words.iter().enumerate();
         f.debug_map()
+            .entry(&"lines", &self.lines)
             .entries(words.filter(|(_, word)| **word != 0))
             .finish()
     }
@@ -137,7 +212,8 @@ impl fmt::Debug for Table {
 /// Where the archive that is linked gives a refusal that there is not, so is
 /// not this library.
 pub fn answer(message: &[u8], table: &mut Table, own: &[u8], reply: &mut [u8]) -> Answer {
-    let word = answer_word(message, &mut table.0, own, reply);
+    let words = &mut table.words[..table_words(table.lines)];
+    let word = answer_word(table.lines, message, words, own, reply);
     let length = word as u32 as usize;
     match word >> 32 {
         0 => Answer::Taken(length),
@@ -148,15 +224,22 @@ pub fn answer(message: &[u8], table: &mut Table, own: &[u8], reply: &mut [u8]) -
     }
 }
 
-/// The call as C has it, with slices of any lengths and the result in one
-/// word: the reply's length in the low 32 bits, the refusal's number or 0 in
-/// the high ones.
-pub fn answer_word(message: &[u8], table: &mut [u32], own: &[u8], reply: &mut [u8]) -> u64 {
+/// The call as C has it, with any count of lines, slices of any lengths and
+/// the result in one word: the reply's length in the low 32 bits, the refusal's
+/// number or 0 in the high ones.
+pub fn answer_word(
+    lines: u32,
+    message: &[u8],
+    table: &mut [u32],
+    own: &[u8],
+    reply: &mut [u8],
+) -> u64 {
     // SAFETY: each pointer is a slice's own, with its length, and so aligned
     // and not null; the two `&mut` slices overlap nothing. The callee stays
     // within the four slices and keeps none of them.
     unsafe {
         cordafina_answer(
+            lines,
             message.as_ptr(),
             message.len(),
             table.as_mut_ptr(),
@@ -171,6 +254,7 @@ pub fn answer_word(message: &[u8], table: &mut [u32], own: &[u8], reply: &mut [u
 
 extern "C" {
     fn cordafina_answer(
+        lines: u32,
         message: *const u8,
         message_len: usize,
         table: *mut u32,
@@ -183,7 +267,7 @@ extern "C" {
 }
 
 /// A table with the own mId and the reply buffer that its calls need: some
-/// 20,000 bytes, in place.
+/// 22,000 bytes, in place.
 #[derive(Clone)]
 pub struct Gateway {
     table: Table,
@@ -193,13 +277,14 @@ pub struct Gateway {
 }
 
 impl Gateway {
-    /// A gateway of this own mId, with a fresh table. `BadMid` if the library
-    /// does not take the mId.
+    /// A gateway of this own mId, with a fresh table of eight lines. `BadMid` if
+    /// the library does not take the mId.
     pub fn new(own: &[u8]) -> Result<Self, Refusal> {
         Gateway::with_table(own, Table::fresh())
     }
 
-    /// The same with a table that was kept; `BadTable` if it is not sound.
+    /// The same with a table that was kept, or of another count of lines;
+    /// `BadTable` if it is not sound.
     pub fn with_table(own: &[u8], table: Table) -> Result<Self, Refusal> {
         let mut gateway = Gateway {
             table,

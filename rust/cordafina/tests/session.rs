@@ -1,8 +1,11 @@
-//! Document 01's session and refusals, through the archive that is linked.
+//! Document 01's session and refusals, and other counts of lines, through the
+//! archive that is linked.
 
-use cordafina::{answer, answer_word, Answer, Gateway, Refusal, Table};
-use cordafina::{MESSAGE_BYTES, REPLY_BYTES, TABLE_WORDS};
+use cordafina::{answer, answer_word, records_start, table_words, terminations};
+use cordafina::{Answer, Gateway, Refusal, Table, MESSAGE_BYTES, MOST_LINES, REPLY_BYTES};
 
+/// Words of a table of eight lines.
+const TABLE_WORDS: usize = table_words(8);
 const OWN: &[u8] = b"[10.0.0.9]";
 const FILL: u8 = 0xA5;
 
@@ -43,7 +46,7 @@ fn table_at_the_end() -> Table {
     words[4] = 2;
     words[316] = 3;
     words[625] = 1;
-    Table::from_words(words)
+    Table::from_words(8, &words).unwrap()
 }
 
 fn message(request: &str) -> Vec<u8> {
@@ -92,24 +95,30 @@ fn short_cases() {
 
 #[test]
 fn refusals_in_their_order() {
-    // All four hold; then one after the other is mended.
+    // All five hold; then one after the other is mended.
     let mut table = [0; TABLE_WORDS];
     table[623] = 7;
     let trampled = table;
     let mut reply = [FILL; REPLY_BYTES];
+    for lines in [0, 17, 264, u32::MAX] {
+        let short = &mut reply[1..];
+        assert_eq!(answer_word(lines, b"", &mut table, b"", short), 8 << 32);
+    }
     let short = &mut reply[1..];
-    assert_eq!(answer_word(b"", &mut table, b"", short), 3 << 32);
-    assert_eq!(answer_word(b"", &mut table, b"", &mut reply), 2 << 32);
+    assert_eq!(answer_word(8, b"", &mut table, b"", short), 3 << 32);
+    assert_eq!(answer_word(8, b"", &mut table, b"", &mut reply), 2 << 32);
     assert_eq!(table, trampled);
     table[623] = 0;
-    assert_eq!(answer_word(b"", &mut table[1..], b"", &mut reply), 2 << 32);
-    assert_eq!(answer_word(b"", &mut table, b"", &mut reply), 4 << 32);
-    assert_eq!(answer_word(b"", &mut table, OWN, &mut reply), 1 << 32);
+    let cut = &mut table[1..];
+    assert_eq!(answer_word(8, b"", cut, b"", &mut reply), 2 << 32);
+    assert_eq!(answer_word(9, b"", &mut table, b"", &mut reply), 2 << 32);
+    assert_eq!(answer_word(8, b"", &mut table, b"", &mut reply), 4 << 32);
+    assert_eq!(answer_word(8, b"", &mut table, OWN, &mut reply), 1 << 32);
     let long = [b' '; MESSAGE_BYTES + 1];
-    assert_eq!(answer_word(&long, &mut table, OWN, &mut reply), 1 << 32);
+    assert_eq!(answer_word(8, &long, &mut table, OWN, &mut reply), 1 << 32);
     assert_eq!(reply, [FILL; REPLY_BYTES]);
     assert_eq!(table, [0; TABLE_WORDS]);
-    let taken = answer_word(&long[1..], &mut table, OWN, &mut reply);
+    let taken = answer_word(8, &long[1..], &mut table, OWN, &mut reply);
     assert_eq!(taken, text("ER=400{}").len() as u64);
 }
 
@@ -121,7 +130,7 @@ fn refusals_by_name() {
     assert_eq!(refused, Answer::Refused(Refusal::BadMid));
     let refused = answer(b"x", &mut table, OWN, &mut reply[..16]);
     assert_eq!(refused, Answer::Refused(Refusal::ReplyTooShort));
-    let trampled = Table::from_words([129; TABLE_WORDS]);
+    let trampled = Table::from_words(8, &[129; TABLE_WORDS]).unwrap();
     let refused = answer(b"x", &mut trampled.clone(), OWN, &mut reply);
     assert_eq!(refused, Answer::Refused(Refusal::BadTable));
     assert_eq!(Gateway::new(b"10.0.0.9").err(), Some(Refusal::BadMid));
@@ -130,6 +139,54 @@ fn refusals_by_name() {
     let refused = Gateway::with_table(OWN, trampled);
     assert_eq!(refused.err(), Some(Refusal::BadTable));
     assert_eq!(Refusal::BadMid.number(), 4);
+    assert_eq!(Refusal::LinesUnfit.number(), 8);
+}
+
+#[test]
+fn tables_by_their_count() {
+    for lines in [0, MOST_LINES + 1, u32::MAX] {
+        assert_eq!(Table::with_lines(lines), Err(Refusal::LinesUnfit));
+        let words = [0; table_words(MOST_LINES)];
+        assert_eq!(Table::from_words(lines, &words), Err(Refusal::LinesUnfit));
+    }
+    for lines in 1..=MOST_LINES {
+        let table = Table::with_lines(lines).unwrap();
+        let words = vec![0; 2 * (31 * lines as usize + 64) + 128];
+        assert_eq!((table.lines(), table.words()), (lines, &words[..]));
+        assert_eq!(Table::from_words(lines, &words), Ok(table));
+        let refused = Table::from_words(lines, &words[1..]);
+        assert_eq!(refused, Err(Refusal::BadTable));
+    }
+    assert_eq!(Table::with_lines(8), Ok(Table::fresh()));
+    assert_ne!(Table::with_lines(9), Ok(Table::fresh()));
+    let nine = [0; table_words(9)];
+    assert_eq!(Table::from_words(8, &nine), Err(Refusal::BadTable));
+}
+
+#[test]
+fn every_count_of_lines() {
+    for lines in 1..=MOST_LINES {
+        let table = Table::with_lines(lines).unwrap();
+        let mut gateway = Gateway::with_table(OWN, table).unwrap();
+        let next = lines + 1;
+        let request = format!("T=1{{C=${{A=L/{lines}/31,O-A=L/{next}/1,O-A=L/{next}/*,A=$}}}}");
+        let reply = format!(
+            "P=1{{C=1{{A=L/{lines}/31,A=L/{next}/1{{ER=430{{}}}},A=L/{next}/*{{ER=431{{}}}},A=R/1}}}}"
+        );
+        assert_eq!(gateway.answer(&message(&request)), Ok(&*text(&reply)));
+        let ephemeral = 31 * lines as usize;
+        let mut words = vec![0; table_words(lines)];
+        words[ephemeral - 1] = 1;
+        words[ephemeral] = 1;
+        words[records_start(lines)] = 1;
+        assert_eq!(gateway.table().words(), words);
+        let request = format!("T=2{{C=1{{MF=*{{M{{TS{{SI=TE}}}}}},S=R/*,S=L/{lines}/*}}}}");
+        let reply = format!("P=2{{C=1{{MF=L/{lines}/31,MF=R/1,S=R/1,S=L/{lines}/31}}}}");
+        assert_eq!(gateway.answer(&message(&request)), Ok(&*text(&reply)));
+        let mut words = vec![0; table_words(lines)];
+        words[terminations(lines) + ephemeral - 1] = 16;
+        assert_eq!(gateway.table().words(), words);
+    }
 }
 
 #[test]

@@ -3,19 +3,26 @@
 use std::collections::BTreeMap;
 use std::fmt;
 
-use reference::table::WORDS;
+use reference::table::Lines;
 use reference::{Answer, MESSAGE_BYTES, REPLY_BYTES};
 
 use crate::messages::{Scope, Writer};
 use crate::numbers::Numbers;
 use crate::{damage, limits, tables};
 
-/// A side: message, table, own mId, reply buffer; the result as C has it.
-pub type Call = fn(&[u8], &mut [u32], &[u8], &mut [u8]) -> u64;
+/// A side: count of lines, message, table, own mId, reply buffer; the result
+/// as C has it.
+pub type Call = fn(u32, &[u8], &mut [u32], &[u8], &mut [u8]) -> u64;
 
 /// The side of the reference.
-pub fn reference_word(message: &[u8], table: &mut [u32], own: &[u8], reply: &mut [u8]) -> u64 {
-    let answer = reference::answer(message, table, own, reply);
+pub fn reference_word(
+    lines: u32,
+    message: &[u8],
+    table: &mut [u32],
+    own: &[u8],
+    reply: &mut [u8],
+) -> u64 {
+    let answer = reference::answer(lines, message, table, own, reply);
     let length = match answer {
         Answer::Taken(length) => length as u64,
         _ => 0,
@@ -26,6 +33,8 @@ pub fn reference_word(message: &[u8], table: &mut [u32], own: &[u8], reply: &mut
 /// One call.
 #[derive(Clone)]
 pub struct Case {
+    /// The count of lines told.
+    pub lines: u32,
     pub message: Box<[u8]>,
     pub table: Vec<u32>,
     pub own: Box<[u8]>,
@@ -43,33 +52,39 @@ impl Cases {
     pub fn new(seed: u64) -> Self {
         Cases {
             numbers: Numbers::new(seed),
-            left: vec![0; WORDS],
+            left: tables::fresh(Lines::EIGHT),
         }
     }
 
     /// Tells the table that the last case left.
     pub fn left(&mut self, table: &[u32]) {
-        if table.len() == WORDS {
-            self.left.copy_from_slice(table);
+        if tables::lines_of(table.len()).is_some() {
+            self.left = table.to_vec();
         }
     }
 
     pub fn draw(&mut self) -> Case {
         let numbers = &mut self.numbers;
-        let table = match numbers.under(32) {
-            0..=13 => self.left.clone(),
-            14..=16 => vec![0; WORDS],
-            17..=29 => tables::sound(numbers).to_vec(),
-            _ => tables::trampled(numbers),
+        let kind = numbers.under(32);
+        let lines = match tables::lines_of(self.left.len()) {
+            Some(lines) if kind <= 13 => lines,
+            _ => tables::lines(numbers),
         };
-        let message = message(numbers, &table);
-        let own = own(numbers, &table);
+        let table = match kind {
+            0..=13 => self.left.clone(),
+            14..=16 => tables::fresh(lines),
+            17..=29 => tables::sound(numbers, lines),
+            _ => tables::trampled(numbers, lines),
+        };
+        let message = message(numbers, lines, &table);
+        let own = own(numbers, lines, &table);
         let reply = match numbers.under(40) {
             0 => numbers.pick(&[0, 1, 64, REPLY_BYTES - 1, REPLY_BYTES - 1]),
             1 => numbers.pick(&[REPLY_BYTES + 1, 20_000]),
             _ => REPLY_BYTES,
         };
         Case {
+            lines: told(numbers, lines),
             message: message.into_boxed_slice(),
             table,
             own: own.into_boxed_slice(),
@@ -78,8 +93,23 @@ impl Cases {
     }
 }
 
-fn message(numbers: &mut Numbers, table: &[u32]) -> Vec<u8> {
-    let scope = Scope::whole(numbers, table);
+/// The count told: nearly always that of the table, else another's, one about
+/// it, or none.
+fn told(numbers: &mut Numbers, lines: Lines) -> u32 {
+    const UNFIT: [u32; 10] = [0, 0, 17, 17, 18, 32, 255, 256, 1 << 31, u32::MAX];
+    let count = lines.count();
+    match numbers.under(80) {
+        0 => numbers.pick(&UNFIT),
+        // A good count in the low bits.
+        1 => count + (1 << numbers.within(5..=31)),
+        2 => tables::lines(numbers).count(),
+        3 => numbers.pick(&[count - 1, count + 1]),
+        _ => count,
+    }
+}
+
+fn message(numbers: &mut Numbers, lines: Lines, table: &[u32]) -> Vec<u8> {
+    let scope = Scope::whole(numbers, lines, table);
     match numbers.under(32) {
         0..=15 => Writer::new(numbers, table, &scope).message(),
         16..=22 => {
@@ -101,12 +131,12 @@ fn message(numbers: &mut Numbers, table: &[u32]) -> Vec<u8> {
     }
 }
 
-fn own(numbers: &mut Numbers, table: &[u32]) -> Vec<u8> {
+fn own(numbers: &mut Numbers, lines: Lines, table: &[u32]) -> Vec<u8> {
     let odd = numbers.under(24);
     if odd > 2 {
         return b"[10.0.0.9]".to_vec();
     }
-    let scope = Scope::whole(numbers, table);
+    let scope = Scope::whole(numbers, lines, table);
     let mut writer = Writer::new(numbers, table, &scope);
     if odd == 0 {
         limits::mid(&mut writer);
@@ -152,6 +182,20 @@ impl Outcome {
         &self.reply[self.guard..self.reply.len() - self.guard]
     }
 
+    /// Whether nothing but the table and the reply is written: the rest of the
+    /// buffer, what stands around both, the message and the own mId stay.
+    pub fn stays_elsewhere(&self, case: &Case) -> bool {
+        let (before, table) = self.table.split_at(self.guard);
+        let after = &table[case.table.len()..];
+        let end = self.guard + self.text().len();
+        let pattern = &PATTERN[..self.reply.len()];
+        before.iter().chain(after).all(|&word| word == AROUND)
+            && self.reply[..self.guard] == pattern[..self.guard]
+            && self.reply[end..] == pattern[end..]
+            && self.message == case.message
+            && self.own == case.own
+    }
+
     /// The reply; the whole buffer where the length is past it.
     pub fn text(&self) -> &[u8] {
         let buffer = self.buffer();
@@ -162,6 +206,9 @@ impl Outcome {
 /// How much stands around a lent buffer to see it trampled. Odd, so that a
 /// table is aligned as its words are and not more.
 pub const GUARD: usize = 21;
+
+/// What stands around a lent table.
+const AROUND: u32 = 0xDEAD_BEEF;
 
 /// What a reply buffer holds before a call.
 static PATTERN: [u8; 20_000 + 2 * GUARD] = {
@@ -178,12 +225,12 @@ static PATTERN: [u8; 20_000 + 2 * GUARD] = {
 pub fn outcome(case: &Case, call: Call, guard: usize) -> Outcome {
     let message = case.message.clone();
     let own = case.own.clone();
-    let mut table = vec![0xDEAD_BEEF; case.table.len() + 2 * guard];
+    let mut table = vec![AROUND; case.table.len() + 2 * guard];
     let lent = &mut table[guard..guard + case.table.len()];
     lent.copy_from_slice(&case.table);
     let mut reply = PATTERN[..case.reply + 2 * guard].to_vec();
     let buffer = &mut reply[guard..guard + case.reply];
-    let word = call(&message, lent, &own, buffer);
+    let word = call(case.lines, &message, lent, &own, buffer);
     Outcome {
         word,
         message,
@@ -205,6 +252,7 @@ pub struct Difference {
 impl fmt::Display for Difference {
     fn fmt(&self, f: &mut fmt::Formatter) -> fmt::Result {
         writeln!(f, "DIFFERENCE: {}", self.what)?;
+        writeln!(f, "lines     {}", self.case.lines)?;
         writeln!(f, "message   {}", self.case.message.escape_ascii())?;
         writeln!(f, "table     {}", tables::shown(&self.case.table))?;
         writeln!(f, "own mId   {}", self.case.own.escape_ascii())?;
@@ -291,12 +339,17 @@ const CODES: [u32; 21] = [
     449, 533,
 ];
 
+/// The refusals, in the order in which they are judged.
+const REFUSALS: [u64; 5] = [8, 3, 2, 4, 1];
+
 /// What the calls were.
 #[derive(Default)]
 pub struct Tally {
     calls: u64,
-    refused: [u64; 5],
-    changed: u64,
+    taken: u64,
+    refused: BTreeMap<u64, u64>,
+    /// Calls that change the table, by their count of lines.
+    lines: BTreeMap<u32, u64>,
     /// Calls whose reply has the code.
     codes: BTreeMap<u32, u64>,
     /// Transactions' replies of exactly 2,048 bytes.
@@ -306,8 +359,13 @@ pub struct Tally {
 impl Tally {
     pub fn count(&mut self, case: &Case, outcome: &Outcome) {
         self.calls += 1;
-        self.refused[outcome.refusal() as usize] += 1;
-        self.changed += u64::from(outcome.table() != case.table);
+        match outcome.refusal() {
+            0 => self.taken += 1,
+            refusal => *self.refused.entry(refusal).or_default() += 1,
+        }
+        if outcome.table() != case.table {
+            *self.lines.entry(case.lines).or_default() += 1;
+        }
         let text = outcome.text();
         let mut codes: Vec<u32> = text
             .windows(6)
@@ -331,8 +389,12 @@ impl Tally {
     pub fn missing(&self) -> Vec<String> {
         let codes = CODES.iter().filter(|code| !self.codes.contains_key(code));
         let mut missing: Vec<String> = codes.map(|code| format!("code {code}")).collect();
-        let refusals = (1..5).filter(|&number| self.refused[number] == 0);
+        let refusals = REFUSALS
+            .iter()
+            .filter(|number| !self.refused.contains_key(number));
         missing.extend(refusals.map(|number| format!("refusal {number}")));
+        let counts = (1..=16).filter(|count| !self.lines.contains_key(count));
+        missing.extend(counts.map(|count| format!("a change on {count} lines")));
         if self.full == 0 {
             missing.push("a reply of 2,048 bytes".to_string());
         }
@@ -342,13 +404,21 @@ impl Tally {
 
 impl fmt::Display for Tally {
     fn fmt(&self, f: &mut fmt::Formatter) -> fmt::Result {
-        let [taken, bad_message, bad_table, short_reply, bad_mid] = self.refused;
+        let changed: u64 = self.lines.values().sum();
         write!(
             f,
-            "{} calls: {taken} taken, {} of them change the table; refused 3: {short_reply}, \
-             2: {bad_table}, 4: {bad_mid}, 1: {bad_message}; codes",
-            self.calls, self.changed
+            "{} calls: {} taken, {changed} of them change the table; refused",
+            self.calls, self.taken
         )?;
+        for number in REFUSALS {
+            let calls = self.refused.get(&number).unwrap_or(&0);
+            write!(f, " {number}:{calls}")?;
+        }
+        f.write_str("; changes on so many lines")?;
+        for (count, calls) in &self.lines {
+            write!(f, " {count}:{calls}")?;
+        }
+        f.write_str("; codes")?;
         for (code, calls) in &self.codes {
             write!(f, " {code}:{calls}")?;
         }

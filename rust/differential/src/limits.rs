@@ -74,8 +74,8 @@ pub fn message(numbers: &mut Numbers, table: &[u32], scope: &Scope) -> Vec<u8> {
         1 => version(numbers),
         2 => sender(numbers, table, scope),
         3 => several_transactions(numbers, table, scope),
-        4 | 5 => reply_length(numbers, table),
-        6 => members(numbers),
+        4 | 5 => reply_length(numbers, table, scope),
+        6 => members(numbers, scope),
         _ => {
             let mut writer = Writer::new(numbers, table, scope);
             writer.header();
@@ -250,12 +250,15 @@ fn several_transactions(numbers: &mut Numbers, table: &[u32], scope: &Scope) -> 
 }
 
 /// "at most 8 terminations in each non-null context": 7 to 9 in one action.
-fn members(numbers: &mut Numbers) -> Vec<u8> {
+fn members(numbers: &mut Numbers, scope: &Scope) -> Vec<u8> {
     let mut message = b"!/1 [10.0.0.1] T=1{C=${".to_vec();
     for place in 0..numbers.within(7..=9) {
         let command = match numbers.under(3) {
             0 => "O-A=$".to_string(),
-            1 => format!("O-A=L/{}/{}", 1 + numbers.under(8), 1 + numbers.under(31)),
+            1 => {
+                let line = numbers.within(1..=scope.lines.count() as usize);
+                format!("O-A=L/{line}/{}", 1 + numbers.under(31))
+            }
             _ => format!("O-MV=R/{}", 1 + numbers.under(64)),
         };
         message.extend_from_slice(if place > 0 { b"," } else { b"" });
@@ -267,7 +270,7 @@ fn members(numbers: &mut Numbers) -> Vec<u8> {
 
 /// "If `P=id{..}` would pass 2,048 bytes": a transaction of commands that may
 /// fail, filled up by failing ones so that its reply has 2,046 to 2,050 bytes.
-fn reply_length(numbers: &mut Numbers, table: &[u32]) -> Vec<u8> {
+fn reply_length(numbers: &mut Numbers, table: &[u32], scope: &Scope) -> Vec<u8> {
     const OWN: &[u8] = b"a";
     let (start, word): (&[u8], &[u8]) = numbers.pick(&[
         (b"C=0{O-S=*", b"S"),
@@ -275,6 +278,7 @@ fn reply_length(numbers: &mut Numbers, table: &[u32]) -> Vec<u8> {
         (b"C=${O-A=$,O-A=L/1/*", b"A"),
         (b"C=-{O-MF=L/1/*,O-MF=L/2/*,O-MF=L/3/1", b"MF"),
         (b"C=-{O-MF=L/4/*,O-MF=ROOT},C=${PR=2,O-MV=R/*", b"MV"),
+        (b"C=-{O-MF=L/1/*,O-MF=L/9/*,O-MF=L/16/*", b"MF"),
     ]);
     let mut message = b"!/1 [10.0.0.1] ".to_vec();
     if numbers.one_in(4) {
@@ -289,7 +293,8 @@ fn reply_length(numbers: &mut Numbers, table: &[u32]) -> Vec<u8> {
     // How long the reply of this transaction is so far.
     let alone = [b"!/1 [10.0.0.1] ", &message[place..], b"}}"].concat();
     let mut reply = [0; reference::REPLY_BYTES];
-    let word_so_far = reference_word(&alone, &mut table.to_vec(), OWN, &mut reply);
+    let lines = scope.lines.count();
+    let word_so_far = reference_word(lines, &alone, &mut table.to_vec(), OWN, &mut reply);
     let so_far = (word_so_far as u32 as usize).saturating_sub(5 + OWN.len());
 
     // Each filler adds a comma, the word, `=`, a name and `{ER=code{}}`.

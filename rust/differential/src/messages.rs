@@ -2,7 +2,7 @@
 //! and name, keywords long and short in any letter case, and white space in
 //! odd places.
 
-use reference::table::{write_name, write_number, CONTEXTS, TERMINATIONS};
+use reference::table::{write_name, write_number, Lines, CONTEXTS};
 
 use crate::numbers::Numbers;
 use crate::tables;
@@ -61,19 +61,23 @@ const OTHERS: [Forms; 10] = [
 
 /// Names that are no termination's, without `*` and `$`.
 const UNKNOWN: [&[u8]; 24] = [
-    b"L/01/5", b"L/1/05", b"L/0/5", b"L/9/1", b"L/1/0", b"L/1/32", b"L/1/311", b"L/10/1", b"R/0",
-    b"R/65", b"R/01", b"R/100", b"L/1", b"L", b"R", b"R/", b"L//1", b"L/1/5/", b"X/1", b"Add",
-    b"ROOT/1", b"ROOTS", b"L1/1", b"R/6_",
+    b"L/01/5", b"L/1/05", b"L/0/5", b"L/010/1", b"L/1/0", b"L/1/32", b"L/1/311", b"L/100/1",
+    b"R/0", b"R/65", b"R/01", b"R/100", b"L/1", b"L", b"R", b"R/", b"L//1", b"L/1/5/", b"X/1",
+    b"Add", b"ROOT/1", b"ROOTS", b"L1/1", b"R/6_",
 ];
+/// Lines that one count has and another has not, and none has.
+const LINES: [u32; 12] = [1, 2, 7, 8, 9, 10, 11, 15, 16, 17, 18, 99];
 /// Names with `*` or `$`, of good and of other forms.
 const WILD: [&[u8]; 28] = [
     b"*", b"*", b"*", b"L/*", b"R/*", b"R/*", b"L/1/*", b"L/8/*", b"$", b"$", b"$", b"$", b"R/$",
-    b"R/$", b"L/$", b"L/1/$", b"R/1$", b"L/*/$", b"*L/1", b"*R/*", b"L/*/5", b"L/9/*", b"L/01/*",
+    b"R/$", b"L/$", b"L/1/$", b"R/1$", b"L/*/$", b"*L/1", b"*R/*", b"L/*/5", b"L/16/*", b"L/01/*",
     b"L/0/*", b"L/1/5*", b"R/**", b"L*", b"*ROOT",
 ];
 
 /// What the messages name.
 pub struct Scope {
+    /// The lines that are fitted.
+    pub lines: Lines,
     /// Numbers of contexts.
     pub contexts: Vec<u32>,
     /// Numbers of terminations.
@@ -85,14 +89,15 @@ pub struct Scope {
 
 impl Scope {
     /// All terminations, the contexts of the table and some more.
-    pub fn whole(numbers: &mut Numbers, table: &[u32]) -> Self {
-        let mut contexts = tables::contexts(table);
+    pub fn whole(numbers: &mut Numbers, lines: Lines, table: &[u32]) -> Self {
+        let mut contexts = tables::contexts(lines, table);
         for _ in 0..1 + contexts.len() / 8 {
             contexts.push(numbers.within(1..=CONTEXTS) as u32);
         }
         Scope {
+            lines,
             contexts,
-            terminations: (0..TERMINATIONS).collect(),
+            terminations: (0..lines.terminations()).collect(),
             plain: false,
         }
     }
@@ -350,7 +355,7 @@ impl<'a> Writer<'a> {
         self.sign(b'=');
         (self.context, self.null) = (0, false);
         let context = self.numbers.pick(&self.scope.contexts);
-        let absent = !tables::has_context(self.table, context);
+        let absent = !tables::has_context(self.scope.lines, self.table, context);
         match self.numbers.under(32) {
             0 if !self.scope.plain => self.bytes.push(b'*'),
             1..=6 if !self.scope.plain => self.bytes.push(b'$'),
@@ -456,9 +461,8 @@ impl<'a> Writer<'a> {
                 self.letters(name);
             }
             5 if !plain => {
-                // The line's digit is 0 to 9.
-                let line = b'0' + self.numbers.under(10) as u8;
-                self.letters(&[b'L', b'/', line, b'/', b'*']);
+                let line = self.edge_line();
+                self.letters(format!("L/{line}/*").as_bytes());
             }
             6 if !plain && kind == ADD => self.letters(b"R/$"),
             7 => self.letters(b"ROOT"),
@@ -470,7 +474,12 @@ impl<'a> Writer<'a> {
                 let length = self.numbers.within(1..=64);
                 self.path_name(length);
             }
-            11..=14 => {
+            11 => {
+                let line = self.edge_line();
+                let channel = self.numbers.pick(&[1, 5, 30, 31, 32]);
+                self.letters(format!("L/{line}/{channel}").as_bytes());
+            }
+            12..=15 => {
                 let termination = self.numbers.pick(&self.scope.terminations);
                 self.name(termination);
             }
@@ -481,9 +490,20 @@ impl<'a> Writer<'a> {
         }
     }
 
+    /// A line about the last one that is fitted, or about some count's last.
+    fn edge_line(&mut self) -> u32 {
+        let fitted = self.scope.lines.count();
+        match self.numbers.under(5) {
+            0 => fitted,
+            1 => fitted + 1,
+            2 => self.numbers.under(20) as u32,
+            _ => self.numbers.pick(&LINES),
+        }
+    }
+
     fn name(&mut self, termination: usize) {
         let mut name = Vec::with_capacity(8);
-        write_name(termination, &mut name);
+        write_name(self.scope.lines, termination, &mut name);
         self.letters(&name);
     }
 

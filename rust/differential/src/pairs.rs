@@ -3,21 +3,22 @@
 
 use std::fmt;
 
-use reference::table::{Name, CONTEXTS, TERMINATIONS};
+use reference::table::{Lines, Name, CONTEXTS};
 use reference::text::{read, ContextId};
 use reference::{MESSAGE_BYTES, REPLY_BYTES};
 
 use crate::calls::Call;
 use crate::messages::{Scope, Writer};
 use crate::numbers::Numbers;
-use crate::tables::{self, Words};
+use crate::tables;
 
 const HEADER: &[u8] = b"!/1 [10.0.0.1] ";
 const OWN: &[u8] = b"[10.0.0.9]";
 
-/// A sound table and the texts of two transactions.
+/// A sound table of a count of lines, and the texts of two transactions.
 pub struct Pair {
-    table: Words,
+    lines: Lines,
+    table: Vec<u32>,
     one: Vec<u8>,
     two: Vec<u8>,
 }
@@ -26,11 +27,12 @@ impl Pair {
     /// A pair of which most meet the conditions: contexts and terminations are
     /// shared out between the two, and sometimes not cleanly.
     pub fn new(numbers: &mut Numbers) -> Self {
-        let mut table = tables::sound(numbers);
-        while tables::contexts(&table).is_empty() {
-            table = tables::sound(numbers);
+        let lines = tables::lines(numbers);
+        let mut table = tables::sound(numbers, lines);
+        while tables::contexts(lines, &table).is_empty() {
+            table = tables::sound(numbers, lines);
         }
-        let [mut one, mut two] = shared_out(numbers, &table);
+        let [mut one, mut two] = shared_out(numbers, lines, &table);
         if numbers.one_in(8) {
             match numbers.under(3) {
                 0 => one.contexts.extend_from_slice(&two.contexts),
@@ -44,11 +46,17 @@ impl Pair {
             writer.bytes
         };
         let (one, two) = (text(&one), text(&two));
-        Pair { table, one, two }
+        Pair {
+            lines,
+            table,
+            one,
+            two,
+        }
     }
 
     /// Whether the conditions of demand 3 hold, sentence by sentence.
     pub fn is_apart(&self) -> bool {
+        let named = |transaction| named(self.lines, transaction);
         let (Some(one), Some(two)) = (named(&self.one), named(&self.two)) else {
             return false;
         };
@@ -67,15 +75,17 @@ impl Pair {
     /// transactions change the table, or what ends unlike.
     pub fn run(&self, call: Call) -> Result<bool, String> {
         let (one, two) = (&self.one, &self.two);
-        let mut table = self.table;
-        let first = replied(call, &mut table, &[one])?;
-        let between = table;
-        let second = replied(call, &mut table, &[two])?;
+        let replied =
+            |table: &mut [u32], texts: &[&Vec<u8>]| replied(call, self.lines, table, texts);
+        let mut table = self.table.clone();
+        let first = replied(&mut table, &[one])?;
+        let between = table.clone();
+        let second = replied(&mut table, &[two])?;
         let both_change = between != self.table && table != between;
 
-        let mut other = self.table;
-        let second_first = replied(call, &mut other, &[two])?;
-        let first_second = replied(call, &mut other, &[one])?;
+        let mut other = self.table.clone();
+        let second_first = replied(&mut other, &[two])?;
+        let first_second = replied(&mut other, &[one])?;
         same("table", &table, &other)?;
         same("first transaction's reply", &first, &first_second)?;
         same("second transaction's reply", &second, &second_first)?;
@@ -85,8 +95,8 @@ impl Pair {
                 ([one, two], [&first, &second]),
                 ([two, one], [&second, &first]),
             ] {
-                let mut together = self.table;
-                let reply = replied(call, &mut together, &texts)?;
+                let mut together = self.table.clone();
+                let reply = replied(&mut together, &texts)?;
                 same("table after one message", &table, &together)?;
                 same(
                     "reply to one message",
@@ -101,6 +111,7 @@ impl Pair {
 
 impl fmt::Display for Pair {
     fn fmt(&self, f: &mut fmt::Formatter) -> fmt::Result {
+        writeln!(f, "lines  {}", self.lines.count())?;
         writeln!(f, "table  {}", tables::shown(&self.table))?;
         writeln!(f, "first  {}", self.one.escape_ascii())?;
         write!(f, "second {}", self.two.escape_ascii())
@@ -109,15 +120,16 @@ impl fmt::Display for Pair {
 
 /// Shares contexts and terminations out: a termination goes with the context
 /// that it stands in, those in null go either way.
-fn shared_out(numbers: &mut Numbers, table: &Words) -> [Scope; 2] {
+fn shared_out(numbers: &mut Numbers, lines: Lines, table: &[u32]) -> [Scope; 2] {
     let sides = [numbers.word(), numbers.word()];
     let side = |context: u32| (sides[context as usize / 64 % 2] >> (context % 64) & 1) as usize;
     let mut scopes = [0, 1].map(|_| Scope {
+        lines,
         contexts: Vec::new(),
         terminations: Vec::new(),
         plain: true,
     });
-    for (termination, &context) in table[..TERMINATIONS].iter().enumerate() {
+    for (termination, &context) in table[..lines.terminations()].iter().enumerate() {
         let side = match context {
             0 => numbers.under(2),
             context => side(context),
@@ -125,7 +137,7 @@ fn shared_out(numbers: &mut Numbers, table: &Words) -> [Scope; 2] {
         scopes[side].terminations.push(termination);
     }
     // Most of the contexts exist, a few never do.
-    let standing = tables::contexts(table);
+    let standing = tables::contexts(lines, table);
     for _ in 0..numbers.within(2..=12) {
         let context = match numbers.under(16) {
             0 => numbers.pick(&[129, 130, 1_000, 1_001, u32::MAX - 1, u32::MAX]),
@@ -155,7 +167,7 @@ struct Named {
 impl Named {
     /// The numbered contexts named, "with the numbered ones its terminations
     /// stand in"; 0 is none.
-    fn reached(self, table: &Words) -> Vec<u32> {
+    fn reached(self, table: &[u32]) -> Vec<u32> {
         let mut reached = self.contexts;
         reached.extend(self.terminations.iter().map(|&number| table[number]));
         reached.retain(|&context| context != 0);
@@ -165,7 +177,7 @@ impl Named {
 
 /// What a well-formed transaction names, if it names "every context by number
 /// or as the null one, and every termination without `*` or `$`".
-fn named(transaction: &[u8]) -> Option<Named> {
+fn named(lines: Lines, transaction: &[u8]) -> Option<Named> {
     let message = [HEADER, transaction].concat();
     let transactions = read(&message).ok()?;
     let [transaction] = &transactions[..] else {
@@ -182,7 +194,7 @@ fn named(transaction: &[u8]) -> Option<Named> {
             ContextId::Choose | ContextId::All => return None,
         }
         for command in &action.commands {
-            match Name::of(command.termination) {
+            match Name::of(lines, command.termination) {
                 Name::Termination(number) => named.terminations.push(number),
                 Name::Root | Name::Unknown => {}
                 _ => return None,
@@ -193,13 +205,18 @@ fn named(transaction: &[u8]) -> Option<Named> {
 }
 
 /// The reply without its header, of a message with these transactions.
-fn replied(call: Call, table: &mut Words, transactions: &[&Vec<u8>]) -> Result<Vec<u8>, String> {
+fn replied(
+    call: Call,
+    lines: Lines,
+    table: &mut [u32],
+    transactions: &[&Vec<u8>],
+) -> Result<Vec<u8>, String> {
     let mut message = HEADER.to_vec();
     for transaction in transactions {
         message.extend_from_slice(transaction);
     }
     let mut reply = [0; REPLY_BYTES];
-    let word = call(&message, table, OWN, &mut reply);
+    let word = call(lines.count(), &message, table, OWN, &mut reply);
     if word >> 32 != 0 {
         return Err(format!("refusal {}", word >> 32));
     }
@@ -218,7 +235,7 @@ trait Shown {
     fn shown(&self) -> String;
 }
 
-impl Shown for Words {
+impl Shown for Vec<u32> {
     fn shown(&self) -> String {
         tables::shown(self)
     }

@@ -1,33 +1,49 @@
 //! Tables: random sound ones, and what somebody trampled.
 
-use reference::table::{CONTEXTS, LINE_TERMINATIONS, MEMBERS, TERMINATIONS, WORDS};
+use reference::table::{Lines, CONTEXTS, MEMBERS};
 
 use crate::numbers::Numbers;
 
-pub const PROPERTIES: usize = TERMINATIONS;
-pub const RECORDS: usize = 2 * TERMINATIONS;
+/// A count of lines: each one, and 1, 8, 9 and 16 often.
+pub fn lines(numbers: &mut Numbers) -> Lines {
+    let count = match numbers.one_in(2) {
+        true => numbers.within(1..=Lines::MOST.count() as usize) as u32,
+        false => numbers.pick(&[1, 8, 9, 16]),
+    };
+    Lines::fitted(count).expect("1 to 16")
+}
 
-pub type Words = [u32; WORDS];
+/// The count of lines whose table has so many words.
+pub fn lines_of(words: usize) -> Option<Lines> {
+    let all = (1..=Lines::MOST.count()).filter_map(Lines::fitted);
+    all.into_iter().find(|lines| lines.words() == words)
+}
+
+pub fn fresh(lines: Lines) -> Vec<u32> {
+    vec![0; lines.words()]
+}
 
 /// A sound table, from nearly empty to one with all contexts, all ephemerals
 /// or every place taken.
-pub fn sound(numbers: &mut Numbers) -> Words {
-    let mut table = [0; WORDS];
+pub fn sound(numbers: &mut Numbers, lines: Lines) -> Vec<u32> {
+    let mut table = fresh(lines);
     let mut contexts: Vec<u32> = (1..=CONTEXTS as u32).collect();
     shuffle(numbers, &mut contexts);
     contexts.truncate(numbers.pick(&[0, 1, 2, 3, 6, 20, 60, 127, 128]));
-    let mut terminations: Vec<usize> = (0..TERMINATIONS).collect();
+    // Each needs a member, and one or two lines have fewer than 128.
+    contexts.truncate(lines.terminations());
+    let mut terminations: Vec<usize> = (0..lines.terminations()).collect();
     shuffle(numbers, &mut terminations);
     if numbers.one_in(3) {
         // The ephemerals are taken first.
-        terminations.sort_by_key(|&termination| termination >= LINE_TERMINATIONS);
+        terminations.sort_by_key(|&termination| termination >= lines.line_terminations());
     }
 
     let mut members = [0; CONTEXTS + 1];
     for &context in &contexts {
         let record = 1 + numbers.under(32) as u32;
-        table[RECORDS + context as usize - 1] = if numbers.one_in(2) { 1 } else { record };
-        table[terminations.pop().expect("312 are more than 128")] = context;
+        table[lines.records() + context as usize - 1] = if numbers.one_in(2) { 1 } else { record };
+        table[terminations.pop().expect("as many as contexts")] = context;
         members[context as usize] = 1;
     }
     let most = numbers.pick(&[0, 2 * contexts.len(), 8 * contexts.len()]);
@@ -43,9 +59,10 @@ pub fn sound(numbers: &mut Numbers) -> Words {
     }
 
     let set = numbers.pick(&[1, 4, 100]);
-    for termination in 0..TERMINATIONS {
-        if (termination < LINE_TERMINATIONS || table[termination] != 0) && numbers.one_in(set) {
-            table[PROPERTIES + termination] = property(numbers);
+    for termination in 0..lines.terminations() {
+        let exists = termination < lines.line_terminations() || table[termination] != 0;
+        if exists && numbers.one_in(set) {
+            table[lines.properties() + termination] = property(numbers);
         }
     }
     table
@@ -64,27 +81,44 @@ fn shuffle<T>(numbers: &mut Numbers, list: &mut [T]) {
 
 /// A table after somebody trampled it: of another length, noise, or a sound
 /// one with a sentence of soundness broken (or just not broken).
-pub fn trampled(numbers: &mut Numbers) -> Vec<u32> {
-    let mut table = sound(numbers).to_vec();
+pub fn trampled(numbers: &mut Numbers, lines: Lines) -> Vec<u32> {
+    let (properties, records) = (lines.properties(), lines.records());
+    let mut table = sound(numbers, lines);
+    let length = table.len();
     let context = numbers.within(1..=CONTEXTS);
-    let record = RECORDS + context - 1;
-    let termination = numbers.under(TERMINATIONS);
+    let record = records + context - 1;
+    let termination = numbers.under(lines.terminations());
     match numbers.under(12) {
-        0 => table.resize(numbers.pick(&[0, 1, 312, 624, 751, 753, 1_504]), 0),
+        0 => {
+            // One line less or more is 62 words.
+            let lengths = [
+                0,
+                1,
+                properties,
+                records,
+                length - 1,
+                length + 1,
+                length - 62,
+                length + 62,
+            ];
+            table.resize(numbers.pick(&lengths), 0);
+        }
         1 => table
             .iter_mut()
             .for_each(|word| *word = numbers.word() as u32),
-        2 => table[numbers.under(WORDS)] = numbers.word() as u32,
-        3 => table[numbers.under(WORDS)] = numbers.under(40) as u32,
+        2 => table[numbers.under(length)] = numbers.word() as u32,
+        3 => table[numbers.under(length)] = numbers.under(40) as u32,
         // "each context word at most 128"
         4 => table[termination] = numbers.pick(&[127, 128, 129, 256, u32::MAX]),
         // "each property one of the 15 values"
-        5 => table[PROPERTIES + termination] = numbers.under(26) as u32,
-        6 => table[PROPERTIES + termination] = numbers.pick(&[32, 64, 1 << 8, 1 << 31]),
-        // "an absent ephemeral's property 0"
+        5 => table[properties + termination] = numbers.under(26) as u32,
+        6 => table[properties + termination] = numbers.pick(&[32, 64, 1 << 8, 1 << 31]),
+        // "an absent ephemeral's property 0"; or the last line's, or the first
+        // word of the records
         7 => {
-            let ephemeral = numbers.within(LINE_TERMINATIONS..=TERMINATIONS - 1);
-            table[PROPERTIES + ephemeral] = property(numbers);
+            let first = lines.line_terminations() - 1;
+            let ephemeral = numbers.within(first..=lines.terminations());
+            table[properties + ephemeral] = property(numbers);
         }
         // "a context's record at most 32, and not 0 exactly when some
         // termination stands in that context"
@@ -95,11 +129,11 @@ pub fn trampled(numbers: &mut Numbers) -> Vec<u32> {
         _ => {
             table[record] = 1;
             let count = numbers.pick(&[7, 8, 9]);
-            for word in &mut table[..TERMINATIONS] {
+            for word in &mut table[..lines.terminations()] {
                 *word = if *word == context as u32 { 0 } else { *word };
             }
-            table[PROPERTIES + LINE_TERMINATIONS..RECORDS].fill(0);
-            let null = (0..LINE_TERMINATIONS).filter(|&line| table[line] == 0);
+            table[properties + lines.line_terminations()..records].fill(0);
+            let null = (0..lines.line_terminations()).filter(|&line| table[line] == 0);
             for line in null.take(count).collect::<Vec<_>>() {
                 table[line] = context as u32;
             }
@@ -109,15 +143,16 @@ pub fn trampled(numbers: &mut Numbers) -> Vec<u32> {
 }
 
 /// Whether a context has a record.
-pub fn has_context(table: &[u32], context: u32) -> bool {
-    let record = RECORDS + (context as usize).wrapping_sub(1);
+pub fn has_context(lines: Lines, table: &[u32], context: u32) -> bool {
+    let record = lines.records() + (context as usize).wrapping_sub(1);
     (1..=CONTEXTS as u32).contains(&context) && table.get(record).is_some_and(|&word| word != 0)
 }
 
 /// The contexts that have a record.
-pub fn contexts(table: &[u32]) -> Vec<u32> {
+pub fn contexts(lines: Lines, table: &[u32]) -> Vec<u32> {
     let all = 1..=CONTEXTS as u32;
-    all.filter(|&context| has_context(table, context)).collect()
+    all.filter(|&context| has_context(lines, table, context))
+        .collect()
 }
 
 /// The words that are not 0, each with its place.

@@ -6,6 +6,8 @@ use std::sync::atomic::{AtomicU32, Ordering::Relaxed};
 use differential::calls::{compare, reference_word, shortened, Call, Cases, GUARD};
 use differential::numbers::Numbers;
 use differential::pairs::Pair;
+use differential::tables;
+use reference::table::Lines;
 
 fn length(word: u64) -> usize {
     word as u32 as usize
@@ -15,97 +17,159 @@ fn has(reply: &[u8], text: &[u8]) -> bool {
     reply.windows(text.len()).any(|window| window == text)
 }
 
-/// One byte of a long reply.
-fn reply_byte(message: &[u8], table: &mut [u32], own: &[u8], reply: &mut [u8]) -> u64 {
-    let word = reference_word(message, table, own, reply);
-    if length(word) > 200 {
-        reply[length(word) - 7] ^= 0x20;
-    }
-    word
-}
-
-/// The last word that changed is not written.
-fn table_word(message: &[u8], table: &mut [u32], own: &[u8], reply: &mut [u8]) -> u64 {
-    let before = table.to_vec();
-    let word = reference_word(message, table, own, reply);
-    let changed = (0..before.len()).rev().find(|&at| table[at] != before[at]);
-    if let Some(at) = changed {
-        table[at] = before[at];
-    }
-    word
-}
-
-/// A reply that grew too long was made in the lent buffer.
-fn past_length(message: &[u8], table: &mut [u32], own: &[u8], reply: &mut [u8]) -> u64 {
-    let word = reference_word(message, table, own, reply);
-    if has(&reply[..length(word)], b"ER=533") {
-        reply[length(word)] = b'}';
-    }
-    word
-}
-
-/// The message is judged first.
-fn refusal_order(message: &[u8], table: &mut [u32], own: &[u8], reply: &mut [u8]) -> u64 {
-    if message.is_empty() {
-        return 1 << 32;
-    }
-    reference_word(message, table, own, reply)
-}
-
-/// The own mId is judged before the table.
-fn mid_before_table(message: &[u8], table: &mut [u32], own: &[u8], reply: &mut [u8]) -> u64 {
-    let word = reference_word(message, table, own, reply);
-    match word >> 32 {
-        2 if !reference::text::is_mid(own) => 4 << 32,
-        _ => word,
-    }
-}
-
-fn refused_writes_reply(message: &[u8], table: &mut [u32], own: &[u8], reply: &mut [u8]) -> u64 {
-    let word = reference_word(message, table, own, reply);
-    if word >> 32 != 0 && !reply.is_empty() {
-        reply[0] = b'!';
-    }
-    word
-}
-
-fn refused_writes_table(message: &[u8], table: &mut [u32], own: &[u8], reply: &mut [u8]) -> u64 {
-    let word = reference_word(message, table, own, reply);
-    if word >> 32 == 1 {
-        table[751] ^= 1;
-    }
-    word
-}
-
-/// 2,049 bytes pass.
-fn one_byte_more(message: &[u8], table: &mut [u32], own: &[u8], reply: &mut [u8]) -> u64 {
-    let word = reference_word(message, table, own, reply);
-    match length(word) == 2_048 + 5 + own.len() {
-        true => word + 1,
-        false => word,
+/// Sets the first byte after each `L/` by that and the next byte.
+fn each_line(text: &mut [u8], byte: impl Fn(u8, u8) -> u8) {
+    for start in 0..text.len().saturating_sub(3) {
+        if let [b'L' | b'l', b'/', digit, next, ..] = &mut text[start..] {
+            *digit = byte(*digit, *next);
+        }
     }
 }
 
 /// Something is kept between calls.
-fn keeps_state(message: &[u8], table: &mut [u32], own: &[u8], reply: &mut [u8]) -> u64 {
+fn keeps_state(lines: u32, message: &[u8], table: &mut [u32], own: &[u8], reply: &mut [u8]) -> u64 {
     static CALLS: AtomicU32 = AtomicU32::new(0);
-    let word = reference_word(message, table, own, reply);
+    let word = reference_word(lines, message, table, own, reply);
     if word >> 32 == 0 && CALLS.fetch_add(1, Relaxed) % 100 == 99 {
-        table[312] = (table[312] + 8) % 24;
+        let property = &mut table[31 * lines as usize + 64];
+        *property = (*property + 8) % 24;
     }
     word
 }
 
-const DEFECTS: [(&str, Call); 9] = [
-    ("reply_byte", reply_byte),
-    ("table_word", table_word),
-    ("past_length", past_length),
-    ("refusal_order", refusal_order),
-    ("mid_before_table", mid_before_table),
-    ("refused_writes_reply", refused_writes_reply),
-    ("refused_writes_table", refused_writes_table),
-    ("one_byte_more", one_byte_more),
-    ("keeps_state", keeps_state),
+const DEFECTS: [(&str, Call); 14] = [
+    ("keeps state", keeps_state),
+    (
+        "one byte of a long reply",
+        |lines, message, table, own, reply| {
+            let word = reference_word(lines, message, table, own, reply);
+            if length(word) > 200 {
+                reply[length(word) - 7] ^= 0x20;
+            }
+            word
+        },
+    ),
+    (
+        "the last word is not written",
+        |lines, message, table, own, reply| {
+            let before = table.to_vec();
+            let word = reference_word(lines, message, table, own, reply);
+            let changed = (0..before.len()).rev().find(|&at| table[at] != before[at]);
+            if let Some(at) = changed {
+                table[at] = before[at];
+            }
+            word
+        },
+    ),
+    (
+        "a reply that grew too long was made in the buffer",
+        |lines, message, table, own, reply| {
+            let word = reference_word(lines, message, table, own, reply);
+            if has(&reply[..length(word)], b"ER=533") {
+                reply[length(word)] = b'}';
+            }
+            word
+        },
+    ),
+    (
+        "a reply of 2,049 bytes",
+        |lines, message, table, own, reply| {
+            let word = reference_word(lines, message, table, own, reply);
+            match length(word) == 2_048 + 5 + own.len() {
+                true => word + 1,
+                false => word,
+            }
+        },
+    ),
+    (
+        "1 before 2, 3 and 4",
+        |lines, message, table, own, reply| {
+            let word = reference_word(lines, message, table, own, reply);
+            match word >> 32 {
+                2..=4 if message.is_empty() => 1 << 32,
+                _ => word,
+            }
+        },
+    ),
+    ("4 before 2", |lines, message, table, own, reply| {
+        let word = reference_word(lines, message, table, own, reply);
+        match word >> 32 {
+            2 if !reference::text::is_mid(own) => 4 << 32,
+            _ => word,
+        }
+    }),
+    ("8 after 3", |lines, message, table, own, reply| {
+        let word = reference_word(lines, message, table, own, reply);
+        match word >> 32 {
+            8 if reply.len() < reference::REPLY_BYTES => 3 << 32,
+            _ => word,
+        }
+    }),
+    (
+        "a refusal writes the reply",
+        |lines, message, table, own, reply| {
+            let word = reference_word(lines, message, table, own, reply);
+            if word >> 32 != 0 && !reply.is_empty() {
+                reply[0] = b'!';
+            }
+            word
+        },
+    ),
+    (
+        "a refusal writes the table",
+        |lines, message, table, own, reply| {
+            let word = reference_word(lines, message, table, own, reply);
+            if word >> 32 == 1 {
+                table[table.len() - 1] ^= 1;
+            }
+            word
+        },
+    ),
+    (
+        "the count of lines is read as a byte",
+        |lines, message, table, own, reply| {
+            reference_word(lines & 0xFF, message, table, own, reply)
+        },
+    ),
+    (
+        "a table of any count's size is taken",
+        |lines, message, table, own, reply| {
+            let fitted = Lines::fitted(lines).and(tables::lines_of(table.len()));
+            let lines = fitted.map_or(lines, Lines::count);
+            reference_word(lines, message, table, own, reply)
+        },
+    ),
+    (
+        "R/1 is written at 248 on any count",
+        |lines, message, table, own, reply| {
+            let before = table.to_vec();
+            let word = reference_word(lines, message, table, own, reply);
+            let first = 31 * lines as usize;
+            if word >> 32 == 0 && table[first] != before[first] {
+                let context = std::mem::replace(&mut table[first], before[first]);
+                table[248] = context;
+            }
+            word
+        },
+    ),
+    (
+        "lines up to 8 on any count",
+        |lines, message, table, own, reply| {
+            // `L/9/` and `L/10` are read as `L/_/` and `L/_0`, and reported as they were.
+            let mut message = message.to_vec();
+            each_line(&mut message, |digit, next| match (digit, next) {
+                (b'9', b'/') | (b'1', b'0'..=b'6') => b'_',
+                _ => digit,
+            });
+            let word = reference_word(lines, &message, table, own, reply);
+            each_line(&mut reply[..length(word)], |digit, next| match digit {
+                b'_' if next == b'/' => b'9',
+                b'_' => b'1',
+                _ => digit,
+            });
+            word
+        },
+    ),
 ];
 
 #[test]

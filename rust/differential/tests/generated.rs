@@ -4,24 +4,44 @@ use differential::calls::{compare, reference_word, Cases, Tally, GUARD};
 use differential::messages::{Scope, Writer};
 use differential::numbers::Numbers;
 use differential::tables;
-use reference::table::Table;
+use reference::table::{Lines, Table};
 use reference::text::{read, Fault};
+
+#[test]
+fn counts_of_lines() {
+    let mut numbers = Numbers::new(1);
+    let mut found = [0; 17];
+    for _ in 0..2_000 {
+        found[tables::lines(&mut numbers).count() as usize] += 1;
+    }
+    assert!(found[1..].iter().all(|&times| times > 30), "{found:?}");
+    assert!([1, 8, 9, 16].iter().all(|&often| found[often] > 200));
+    for count in 1..=16 {
+        let lines = Lines::fitted(count);
+        assert_eq!(tables::lines_of(62 * count as usize + 256), lines);
+    }
+    assert_eq!((tables::lines_of(751), tables::lines_of(0)), (None, None));
+}
 
 #[test]
 fn sound_tables_are_sound() {
     let mut numbers = Numbers::new(1);
-    for _ in 0..2_000 {
-        let mut table = tables::sound(&mut numbers);
+    for _ in 0..4_000 {
+        let lines = tables::lines(&mut numbers);
+        let mut table = tables::sound(&mut numbers, lines);
         let shown = tables::shown(&table);
-        assert!(Table::sound(&mut table).is_some(), "{shown}");
+        assert!(Table::sound(lines, &mut table).is_some(), "{shown}");
     }
 }
 
 #[test]
 fn trampled_tables_are_sound_or_not() {
     let mut numbers = Numbers::new(1);
-    let trampled = (0..2_000).map(|_| tables::trampled(&mut numbers));
-    let sound = trampled.filter_map(|mut table| Table::sound(&mut table).map(|_| ()));
+    let sound = (0..2_000).filter(|_| {
+        let lines = tables::lines(&mut numbers);
+        let mut table = tables::trampled(&mut numbers, lines);
+        Table::sound(lines, &mut table).is_some()
+    });
     assert!((100..1_000).contains(&sound.count()));
 }
 
@@ -30,8 +50,9 @@ fn messages_read_well() {
     let mut numbers = Numbers::new(1);
     let mut other_versions = 0;
     for _ in 0..5_000 {
-        let table = tables::sound(&mut numbers);
-        let scope = Scope::whole(&mut numbers, &table);
+        let lines = tables::lines(&mut numbers);
+        let table = tables::sound(&mut numbers, lines);
+        let scope = Scope::whole(&mut numbers, lines, &table);
         let message = Writer::new(&mut numbers, &table, &scope).message();
         match read(&message) {
             Ok(_) => {}
@@ -62,7 +83,8 @@ fn a_seed_gives_the_same_calls() {
     let (mut one, mut other) = (Cases::new(7), Cases::new(7));
     for _ in 0..500 {
         let (one, other) = (one.draw(), other.draw());
-        assert!(one.message == other.message && one.table == other.table);
-        assert!(one.own == other.own && one.reply == other.reply);
+        assert!(one.lines == other.lines && one.table == other.table);
+        assert!(one.message == other.message && one.own == other.own);
+        assert!(one.reply == other.reply);
     }
 }

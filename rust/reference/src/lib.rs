@@ -1,8 +1,9 @@
-//! A small Megaco (H.248.1) text gateway, in plain Rust, after document 01.
+//! A small Megaco (H.248.1) text gateway, in plain Rust, after document 01 and
+//! document 02's request 10.
 //!
-//! One message, a lent table of 752 words and a lent reply buffer go in; an
-//! [`Answer`] comes out. The whole message is read to a tree before anything
-//! runs. The quoted sentences in the comments are document 01's.
+//! The count of lines, one message, a lent table and a lent reply buffer go in;
+//! an [`Answer`] comes out. The whole message is read to a tree before anything
+//! runs. The quoted sentences in the comments are those documents'.
 
 pub mod listing;
 pub mod reply;
@@ -11,7 +12,7 @@ pub mod table;
 pub mod text;
 
 use reply::Reply;
-use table::Table;
+use table::{Lines, Table};
 use text::Fault;
 
 /// The least length of a reply buffer.
@@ -28,16 +29,18 @@ pub enum Answer {
     Taken(usize),
     /// "reply buffer under 16,640 bytes"
     ReplyTooShort,
-    /// "table not 752 words, or not sound"
+    /// Table not of the count's words ("752" on eight lines), "or not sound"
     BadTable,
     /// "gateway's own mId not an mId as below, or over 64 bytes"
     BadMid,
     /// "message of 0 or over 4,096 bytes"
     BadMessage,
+    /// "8 for a count outside 1..16, before 3"
+    LinesUnfit,
 }
 
 impl Answer {
-    /// Document 01's number of a refusal, 0 for a call that was taken.
+    /// The documents' number of a refusal, 0 for a call that was taken.
     pub fn number(&self) -> u32 {
         match self {
             Answer::Taken(_) => 0,
@@ -45,19 +48,29 @@ impl Answer {
             Answer::BadTable => 2,
             Answer::ReplyTooShort => 3,
             Answer::BadMid => 4,
+            Answer::LinesUnfit => 8,
         }
     }
 }
 
-/// Answers one message.
+/// Answers one message, with so many lines fitted.
 ///
 /// A call turned down changes neither `reply` nor `table`. A call taken writes
 /// its reply from the start of the buffer, "and bytes past its length stay".
-pub fn answer(message: &[u8], table: &mut [u32], own: &[u8], reply: &mut [u8]) -> Answer {
+pub fn answer(
+    lines: u32,
+    message: &[u8],
+    table: &mut [u32],
+    own: &[u8],
+    reply: &mut [u8],
+) -> Answer {
+    let Some(lines) = Lines::fitted(lines) else {
+        return Answer::LinesUnfit;
+    };
     if reply.len() < REPLY_BYTES {
         return Answer::ReplyTooShort;
     }
-    let Some(mut table) = Table::sound(table) else {
+    let Some(mut table) = Table::sound(lines, table) else {
         return Answer::BadTable;
     };
     if own.len() > OWN_MID_BYTES || !text::is_mid(own) {
@@ -67,7 +80,7 @@ pub fn answer(message: &[u8], table: &mut [u32], own: &[u8], reply: &mut [u8]) -
         return Answer::BadMessage;
     }
 
-    let mut out = Reply::new(own);
+    let mut out = Reply::new(lines, own);
     match text::read(message) {
         Ok(transactions) => run::run(&transactions, &mut table, &mut out),
         Err(Fault::Message) => out.message_error(400),

@@ -1,20 +1,21 @@
 //! The listing program: "reads standard input, one message per line without
-//! its line end, from a fresh table".
+//! its line end, from a fresh table". It has eight lines.
 
 use std::io::{self, BufRead, Write};
 
-use crate::table::{write_name, Table, CONTEXTS, TERMINATIONS, WORDS};
+use crate::table::{write_name, Lines, Table, CONTEXTS};
 use crate::{answer, Answer, MESSAGE_BYTES, REPLY_BYTES};
 
 const OWN: &[u8] = b"[10.0.0.9]";
+const LINES: Lines = Lines::EIGHT;
 
 /// Answers each line of `input` on a line of `out`, then lists the contexts.
 pub fn listing(mut input: impl BufRead, mut out: impl Write) -> io::Result<()> {
-    let mut table = [0; WORDS];
+    let mut table = [0; LINES.words()];
     let mut reply = vec![0; REPLY_BYTES];
     let mut line = Vec::with_capacity(MESSAGE_BYTES + 1);
     while next_line(&mut input, &mut line)? {
-        match answer(&line, &mut table, OWN, &mut reply) {
+        match answer(LINES.count(), &line, &mut table, OWN, &mut reply) {
             Answer::Taken(length) => {
                 out.write_all(&reply[..length])?;
                 out.write_all(b"\n")?;
@@ -55,16 +56,16 @@ fn next_line(input: &mut impl BufRead, line: &mut Vec<u8>) -> io::Result<bool> {
 /// "`contexts` and their count, and a line per context ascending: number,
 /// priority, emergency 0 or 1, member names ascending, one space between
 /// fields"
-fn contexts(words: &mut [u32; WORDS], out: &mut impl Write) -> io::Result<()> {
+fn contexts(words: &mut [u32], out: &mut impl Write) -> io::Result<()> {
     // No call leaves a table that is not sound.
-    let Some(table) = Table::sound(words) else {
+    let Some(table) = Table::sound(LINES, words) else {
         return Err(io::Error::other("the table is not sound"));
     };
     let mut names = vec![Vec::new(); CONTEXTS + 1];
-    for termination in (0..TERMINATIONS).filter(|&number| table.context_of(number) != 0) {
+    for termination in (0..LINES.terminations()).filter(|&number| table.context_of(number) != 0) {
         let names = &mut names[table.context_of(termination)];
         names.push(b' ');
-        write_name(termination, names);
+        write_name(LINES, termination, names);
     }
     let present: Vec<usize> = (1..=CONTEXTS)
         .filter(|&context| table.members(context) != 0)

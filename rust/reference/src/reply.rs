@@ -6,13 +6,15 @@
 //! length must stay.
 
 use crate::run::Kind;
-use crate::table::{write_name, write_number, Record};
+use crate::table::{write_name, write_number, Lines, Record};
 use crate::text::ContextId;
 
 /// "If `P=id{..}` would pass 2,048 bytes it becomes `P=id{ER=533{}}`"
 const TRANSACTION_BYTES: usize = 2_048;
 
 pub struct Reply {
+    /// The lines that are fitted, by which terminations have their names.
+    lines: Lines,
     bytes: Vec<u8>,
     /// Where the open transaction's part starts.
     start: usize,
@@ -21,12 +23,13 @@ pub struct Reply {
 }
 
 impl Reply {
-    pub fn new(own: &[u8]) -> Self {
+    pub fn new(lines: Lines, own: &[u8]) -> Self {
         let mut bytes = Vec::with_capacity(512);
         bytes.extend_from_slice(b"!/1 ");
         bytes.extend_from_slice(own);
         bytes.push(b' ');
         Reply {
+            lines,
             bytes,
             start: 0,
             over: false,
@@ -96,7 +99,7 @@ impl Reply {
     /// An attempt that succeeded: "the short keyword, `=` and name".
     pub fn done(&mut self, kind: Kind, termination: usize) {
         if self.open_attempt(kind) {
-            write_name(termination, &mut self.bytes);
+            write_name(self.lines, termination, &mut self.bytes);
             self.measure();
         }
     }
@@ -113,7 +116,7 @@ impl Reply {
     /// letters".
     pub fn failed_match(&mut self, kind: Kind, termination: usize, code: u32) {
         if self.open_attempt(kind) {
-            write_name(termination, &mut self.bytes);
+            write_name(self.lines, termination, &mut self.bytes);
             self.close_failed(code);
         }
     }

@@ -4,7 +4,7 @@ use std::ops::ControlFlow::{self, Break, Continue};
 use std::ops::Range;
 
 use crate::reply::Reply;
-use crate::table::{self, Name, Record, Table, Values, LINE_TERMINATIONS, MEMBERS};
+use crate::table::{self, Name, Record, Table, Values, MEMBERS};
 use crate::text::{keyword, Action, Command, ContextId, Item, Property, Transaction, Value};
 
 /// The commands that are built.
@@ -245,7 +245,7 @@ impl Runner<'_, '_> {
         } else {
             return Err(447);
         };
-        let subject = match Name::of(command.termination) {
+        let subject = match Name::of(self.table.lines(), command.termination) {
             Name::Root if kind != Kind::Modify => return Err(410),
             Name::Root if !matches!(target, Target::Null) => return Err(435),
             Name::Root if !command.items.is_empty() => return Err(447),
@@ -279,7 +279,7 @@ impl Runner<'_, '_> {
         // Of the terminations in null, the lines alone exist.
         let in_null = kind == Kind::Add || (kind == Kind::Modify && target == 0);
         let end = if in_null {
-            range.end.min(LINE_TERMINATIONS)
+            range.end.min(self.table.lines().line_terminations())
         } else {
             range.end
         };

@@ -1,28 +1,66 @@
 //! The lent table: its words, its soundness, and the names of terminations.
 //!
-//! "Words 0..311: the context of each termination, 0 for null. Words 312..623:
-//! its properties, mode + 8 × state. Words 624..751: contexts 1..128, 0 if
-//! absent, else 1 + priority + 16 × emergency."
+//! First "the context of each termination, 0 for null", then of each "its
+//! properties, mode + 8 × state", then "contexts 1..128, 0 if absent, else
+//! 1 + priority + 16 × emergency". Where each part starts follows from the
+//! count of lines that are fitted; with eight of them the parts are document
+//! 01's words 0..311, 312..623 and 624..751.
 
 use std::ops::Range;
 
 use crate::text::keyword;
 
-const LINES: usize = 8;
-const CHANNELS: usize = 31;
-const EPHEMERALS: usize = 64;
-
-/// The line terminations have the numbers under it.
-pub const LINE_TERMINATIONS: usize = LINES * CHANNELS;
-/// All terminations, existing or not, have the numbers under it.
-pub const TERMINATIONS: usize = LINE_TERMINATIONS + EPHEMERALS;
+pub const CHANNELS: usize = 31;
+pub const EPHEMERALS: usize = 64;
 pub const CONTEXTS: usize = 128;
 /// "at most 8 terminations in each non-null context"
 pub const MEMBERS: u16 = 8;
 
-const PROPERTIES: usize = TERMINATIONS;
-const RECORDS: usize = PROPERTIES + TERMINATIONS;
-pub const WORDS: usize = RECORDS + CONTEXTS;
+/// How many lines are fitted, 1 to 16. "Table size follows from the count."
+#[derive(Clone, Copy, Debug, PartialEq, Eq)]
+pub struct Lines(usize);
+
+impl Lines {
+    pub const MOST: Lines = Lines(16);
+    /// Document 01's gateway.
+    pub const EIGHT: Lines = Lines(8);
+
+    /// None "for a count outside 1..16".
+    pub fn fitted(count: u32) -> Option<Self> {
+        let all = 1..=Lines::MOST.0 as u32;
+        all.contains(&count).then_some(Lines(count as usize))
+    }
+
+    pub const fn count(self) -> u32 {
+        self.0 as u32
+    }
+
+    /// The line terminations have the numbers under it: "Ephemerals come after
+    /// the last fitted line".
+    pub const fn line_terminations(self) -> usize {
+        CHANNELS * self.0
+    }
+
+    /// All terminations, existing or not, have the numbers under it.
+    pub const fn terminations(self) -> usize {
+        self.line_terminations() + EPHEMERALS
+    }
+
+    /// Where the properties start.
+    pub const fn properties(self) -> usize {
+        self.terminations()
+    }
+
+    /// Where the contexts' records start.
+    pub const fn records(self) -> usize {
+        self.properties() + self.terminations()
+    }
+
+    /// The words of a table.
+    pub const fn words(self) -> usize {
+        self.records() + CONTEXTS
+    }
+}
 
 /// A context's priority and emergency.
 #[derive(Clone, Copy, Debug, Default, PartialEq, Eq)]
@@ -53,7 +91,8 @@ pub struct Values {
 
 /// A sound table, with counts of what stands in it.
 pub struct Table<'t> {
-    words: &'t mut [u32; WORDS],
+    words: &'t mut [u32],
+    lines: Lines,
     /// How many terminations stand in each context; place 0 is the null one.
     members: [u16; CONTEXTS + 1],
     /// Bit c - 1 is set for a context c that exists.
@@ -63,15 +102,17 @@ pub struct Table<'t> {
 }
 
 impl<'t> Table<'t> {
-    /// Takes the table if it is of 752 words and sound.
-    pub fn sound(words: &'t mut [u32]) -> Option<Self> {
-        let words: &mut [u32; WORDS] = words.try_into().ok()?;
+    /// Takes the table if it has the words of so many lines and is sound.
+    pub fn sound(lines: Lines, words: &'t mut [u32]) -> Option<Self> {
+        if words.len() != lines.words() {
+            return None;
+        }
         let mut members = [0; CONTEXTS + 1];
         let mut contexts = 0;
         let mut ephemerals = 0;
 
-        let (stands_in, rest) = words.split_at(PROPERTIES);
-        let (properties, records) = rest.split_at(RECORDS - PROPERTIES);
+        let (stands_in, rest) = words.split_at(lines.properties());
+        let (properties, records) = rest.split_at(lines.terminations());
         for (termination, (&context, &property)) in stands_in.iter().zip(properties).enumerate() {
             // "each context word at most 128"
             *members.get_mut(context as usize)? += 1;
@@ -79,9 +120,9 @@ impl<'t> Table<'t> {
             if property > 20 || property % 8 > 4 {
                 return None;
             }
-            if termination >= LINE_TERMINATIONS {
+            if termination >= lines.line_terminations() {
                 if context != 0 {
-                    ephemerals |= 1 << (termination - LINE_TERMINATIONS);
+                    ephemerals |= 1 << (termination - lines.line_terminations());
                 } else if property != 0 {
                     // "an absent ephemeral's property 0"
                     return None;
@@ -98,10 +139,16 @@ impl<'t> Table<'t> {
         }
         Some(Table {
             words,
+            lines,
             members,
             contexts,
             ephemerals,
         })
+    }
+
+    /// The lines that are fitted.
+    pub fn lines(&self) -> Lines {
+        self.lines
     }
 
     /// The context a termination stands in, 0 for null.
@@ -117,7 +164,7 @@ impl<'t> Table<'t> {
     /// "It always exists", or for an ephemeral: "exactly when its context word
     /// is not 0".
     pub fn exists(&self, termination: usize) -> bool {
-        termination < LINE_TERMINATIONS || self.words[termination] != 0
+        termination < self.lines.line_terminations() || self.words[termination] != 0
     }
 
     /// How many terminations stand in a context; 0 exactly if it is absent.
@@ -141,16 +188,16 @@ impl<'t> Table<'t> {
     /// The termination number of the lowest absent ephemeral.
     pub fn lowest_absent_ephemeral(&self) -> Option<usize> {
         let place = self.ephemerals.trailing_ones() as usize;
-        (place < EPHEMERALS).then_some(LINE_TERMINATIONS + place)
+        (place < EPHEMERALS).then_some(self.lines.line_terminations() + place)
     }
 
     /// The record of a context that exists.
     pub fn record(&self, context: usize) -> Record {
-        Record::from_word(self.words[RECORDS + context - 1])
+        Record::from_word(self.words[self.lines.records() + context - 1])
     }
 
     pub fn set_record(&mut self, context: usize, record: Record) {
-        self.words[RECORDS + context - 1] = record.word();
+        self.words[self.lines.records() + context - 1] = record.word();
     }
 
     /// Puts a termination that stands in null into a context; an ephemeral
@@ -160,8 +207,9 @@ impl<'t> Table<'t> {
         self.members[0] -= 1;
         self.members[context] += 1;
         self.contexts |= 1 << (context - 1);
-        if termination >= LINE_TERMINATIONS {
-            self.ephemerals |= 1 << (termination - LINE_TERMINATIONS);
+        let lines = self.lines.line_terminations();
+        if termination >= lines {
+            self.ephemerals |= 1 << (termination - lines);
         }
     }
 
@@ -175,16 +223,17 @@ impl<'t> Table<'t> {
         self.members[context] -= 1;
         if self.members[context] == 0 {
             self.contexts &= !(1 << (context - 1));
-            self.words[RECORDS + context - 1] = 0;
+            self.words[self.lines.records() + context - 1] = 0;
         }
-        if termination >= LINE_TERMINATIONS {
-            self.ephemerals &= !(1 << (termination - LINE_TERMINATIONS));
+        let lines = self.lines.line_terminations();
+        if termination >= lines {
+            self.ephemerals &= !(1 << (termination - lines));
         }
     }
 
     /// Sets the property values given and keeps the others.
     pub fn set_values(&mut self, termination: usize, values: Values) {
-        let property = &mut self.words[PROPERTIES + termination];
+        let property = &mut self.words[self.lines.properties() + termination];
         let mode = values.mode.unwrap_or(*property % 8);
         let state = values.state.unwrap_or(*property / 8);
         *property = mode + 8 * state;
@@ -194,8 +243,8 @@ impl<'t> Table<'t> {
     /// state kept."
     pub fn subtract(&mut self, termination: usize) {
         self.leave(termination);
-        let property = &mut self.words[PROPERTIES + termination];
-        *property = if termination < LINE_TERMINATIONS {
+        let property = &mut self.words[self.lines.properties() + termination];
+        *property = if termination < self.lines.line_terminations() {
             *property / 8 * 8
         } else {
             0
@@ -251,7 +300,9 @@ pub enum Name {
 }
 
 impl Name {
-    pub fn of(name: &[u8]) -> Self {
+    /// "The name reader is told how many are fitted."
+    pub fn of(lines: Lines, name: &[u8]) -> Self {
+        let ephemerals = lines.line_terminations();
         if name.contains(&b'$') {
             match name {
                 b"$" | b"R/$" | b"r/$" => Name::Choose,
@@ -259,19 +310,19 @@ impl Name {
             }
         } else if name.contains(&b'*') {
             match name {
-                b"*" => Name::Wildcard(0..TERMINATIONS),
-                b"L/*" | b"l/*" => Name::Wildcard(0..LINE_TERMINATIONS),
-                b"R/*" | b"r/*" => Name::Wildcard(LINE_TERMINATIONS..TERMINATIONS),
-                [b'L' | b'l', b'/', line @ b'1'..=b'8', b'/', b'*'] => {
-                    let first = CHANNELS * usize::from(line - b'1');
-                    Name::Wildcard(first..first + CHANNELS)
-                }
+                b"*" => Name::Wildcard(0..lines.terminations()),
+                b"L/*" | b"l/*" => Name::Wildcard(0..ephemerals),
+                b"R/*" | b"r/*" => Name::Wildcard(ephemerals..lines.terminations()),
+                [b'L' | b'l', b'/', line @ .., b'/', b'*'] => match up_to(line, lines.0) {
+                    Some(line) => Name::Wildcard(CHANNELS * (line - 1)..CHANNELS * line),
+                    None => Name::BadWildcard,
+                },
                 _ => Name::BadWildcard,
             }
         } else if name.eq_ignore_ascii_case(b"ROOT") {
             Name::Root
         } else {
-            match number(name) {
+            match number(lines, name) {
                 Some(termination) => Name::Termination(termination),
                 None => Name::Unknown,
             }
@@ -279,15 +330,19 @@ impl Name {
     }
 }
 
-/// "Termination `L/l/s`, l 1..8, s 1..31, is number 31 × (l − 1) + (s − 1)";
-/// "Ephemeral `R/n`, n 1..64, is number 247 + n".
-fn number(name: &[u8]) -> Option<usize> {
+/// "Termination `L/l/s`, .. s 1..31, is number 31 × (l − 1) + (s − 1)", where l
+/// is a line that is fitted; "Ephemeral `R/n`, n 1..64," comes after the last
+/// fitted line.
+fn number(lines: Lines, name: &[u8]) -> Option<usize> {
     match name {
-        [b'L' | b'l', b'/', line @ b'1'..=b'8', b'/', channel @ ..] => {
-            Some(CHANNELS * usize::from(line - b'1') + up_to(channel, CHANNELS)? - 1)
+        [b'L' | b'l', b'/', rest @ ..] => {
+            let slash = rest.iter().position(|&byte| byte == b'/')?;
+            let line = up_to(&rest[..slash], lines.0)?;
+            let channel = up_to(&rest[slash + 1..], CHANNELS)?;
+            Some(CHANNELS * (line - 1) + channel - 1)
         }
         [b'R' | b'r', b'/', ephemeral @ ..] => {
-            Some(LINE_TERMINATIONS + up_to(ephemeral, EPHEMERALS)? - 1)
+            Some(lines.line_terminations() + up_to(ephemeral, EPHEMERALS)? - 1)
         }
         _ => None,
     }
@@ -306,14 +361,18 @@ fn up_to(digits: &[u8], most: usize) -> Option<usize> {
 }
 
 /// Writes the full name of a termination with capital letters.
-pub fn write_name(termination: usize, out: &mut Vec<u8>) {
-    if termination < LINE_TERMINATIONS {
-        let line = (termination / CHANNELS) as u8 + 1;
-        out.extend_from_slice(&[b'L', b'/', b'0' + line, b'/']);
-        write_number((termination % CHANNELS) as u32 + 1, out);
-    } else {
-        out.extend_from_slice(b"R/");
-        write_number((termination - LINE_TERMINATIONS) as u32 + 1, out);
+pub fn write_name(lines: Lines, termination: usize, out: &mut Vec<u8>) {
+    match termination.checked_sub(lines.line_terminations()) {
+        None => {
+            out.extend_from_slice(b"L/");
+            write_number((termination / CHANNELS) as u32 + 1, out);
+            out.push(b'/');
+            write_number((termination % CHANNELS) as u32 + 1, out);
+        }
+        Some(ephemeral) => {
+            out.extend_from_slice(b"R/");
+            write_number(ephemeral as u32 + 1, out);
+        }
     }
 }
 

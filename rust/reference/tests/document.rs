@@ -1,6 +1,8 @@
-//! The session, the short cases and the boundaries of document 01.
+//! The session, the short cases and the boundaries of document 01, on eight
+//! lines; and document 02's request 10, on other counts.
 
 use reference::listing::listing;
+use reference::table::{write_name, Lines, Name};
 use reference::{answer, Answer};
 
 const OWN: &[u8] = b"[10.0.0.9]";
@@ -8,11 +10,11 @@ const HEADER_IN: &str = "!/1 [10.0.0.1] ";
 const HEADER_OUT: &str = "!/1 [10.0.0.9] ";
 const FILL: u8 = 0xA5;
 
-/// Answers a whole message, checks that the bytes past the reply stay, and
+/// Answers a whole message on so many lines, checks that the bytes past the reply stay, and
 /// gives what stands after the reply's header.
-fn whole(message: &[u8], table: &mut [u32]) -> String {
+fn whole_on(lines: u32, message: &[u8], table: &mut [u32]) -> String {
     let mut reply = vec![FILL; 16_640];
-    let Answer::Taken(length) = answer(message, table, OWN, &mut reply) else {
+    let Answer::Taken(length) = answer(lines, message, table, OWN, &mut reply) else {
         panic!("turned down");
     };
     assert!(reply[length..].iter().all(|&byte| byte == FILL));
@@ -20,9 +22,18 @@ fn whole(message: &[u8], table: &mut [u32]) -> String {
     text.strip_prefix(HEADER_OUT).unwrap().to_string()
 }
 
+fn whole(message: &[u8], table: &mut [u32]) -> String {
+    whole_on(8, message, table)
+}
+
 /// Answers a message of these transactions.
 fn inside(request: &str, table: &mut [u32]) -> String {
-    whole(format!("{HEADER_IN}{request}").as_bytes(), table)
+    inside_on(8, request, table)
+}
+
+fn inside_on(lines: u32, request: &str, table: &mut [u32]) -> String {
+    let message = format!("{HEADER_IN}{request}");
+    whole_on(lines, message.as_bytes(), table)
 }
 
 fn fresh(request: &str) -> String {
@@ -55,7 +66,7 @@ const SESSION: [(&str, &str); 6] = [
 ];
 
 /// The words that are not 0.
-fn words(table: &[u32]) -> Vec<(usize, u32)> {
+fn words_of(table: &[u32]) -> Vec<(usize, u32)> {
     let places = table.iter().copied().enumerate();
     places.filter(|&(_, word)| word != 0).collect()
 }
@@ -73,7 +84,7 @@ fn session() {
     let mut table = [0; 752];
     for ((request, reply), after) in SESSION.iter().zip(after) {
         assert_eq!(inside(request, &mut table), *reply);
-        assert_eq!(words(&table), after);
+        assert_eq!(words_of(&table), after);
     }
 }
 
@@ -167,7 +178,7 @@ fn turned_down() {
     ] {
         let mut table = words.to_vec();
         let mut reply = vec![FILL; length];
-        let got = answer(message, &mut table, own, &mut reply);
+        let got = answer(8, message, &mut table, own, &mut reply);
         assert_eq!(got, expected);
         assert_eq!(table, words);
         assert!(reply.iter().all(|&byte| byte == FILL));
@@ -177,9 +188,10 @@ fn turned_down() {
     assert_eq!(Answer::BadTable.number(), 2);
     assert_eq!(Answer::ReplyTooShort.number(), 3);
     assert_eq!(Answer::BadMid.number(), 4);
+    assert_eq!(Answer::LinesUnfit.number(), 8);
     // A longer buffer, and an own mId of just 64 bytes, are fine.
     let mut reply = vec![FILL; 20_000];
-    let taken = answer(message, &mut [0; 752], &own_65[..64], &mut reply);
+    let taken = answer(8, message, &mut [0; 752], &own_65[..64], &mut reply);
     assert_eq!(taken, Answer::Taken(4 + 64 + 1 + 23));
 }
 
@@ -193,7 +205,7 @@ fn tables_not_sound() {
     sound[312] = 20;
     let taken = |table: &[u32; 752]| {
         let mut reply = vec![FILL; 16_640];
-        let got = answer(b"x", &mut table.clone(), OWN, &mut reply);
+        let got = answer(8, b"x", &mut table.clone(), OWN, &mut reply);
         got != Answer::BadTable
     };
     assert!(taken(&sound));
@@ -336,6 +348,7 @@ fn boundaries() {
         ("T=2{C=1{MF=*{M{O{MO=}}}}}", "P=2{ER=403{}}"),
         (r#"T=2{C=1{MF=*{M{O{MO=""}}}}}"#, "P=2{C=1{MF=*{ER=449{}}}}"),
         ("T=2{C=1{MF=L/9/*}}", "P=2{C=1{MF=L/9/*{ER=431{}}}}"),
+        ("T=2{C=1{A=L/9/1}}", "P=2{C=1{A=L/9/1{ER=430{}}}}"),
         ("T=2{C=1{PR=15},C=1{EG}}", "P=2{C=1{PR=15},C=1{PR=15,EG}}"),
         ("T=2{C=-{PR=1,MF=L/1/2}}", "P=2{C=-{ER=421{}}}"),
     ] {
@@ -349,7 +362,7 @@ fn message_of_4096() {
     message.resize(4_096, b' ');
     assert_eq!(whole(&message, &mut [0; 752]), "P=1{C=1{A=R/1}}");
     message.push(b' ');
-    let refused = answer(&message, &mut [0; 752], OWN, &mut [0; 16_640]);
+    let refused = answer(8, &message, &mut [0; 752], OWN, &mut [0; 16_640]);
     assert_eq!(refused, Answer::BadMessage);
 }
 
@@ -392,7 +405,7 @@ fn subtracted_line_keeps_its_state() {
         inside(request, &mut table),
         "P=1{C=1{A=L/1/1,A=R/1,S=L/1/1}}"
     );
-    assert_eq!(words(&table), [(248, 1), (312, 16), (624, 1)]);
+    assert_eq!(words_of(&table), [(248, 1), (312, 16), (624, 1)]);
 }
 
 #[test]
@@ -413,6 +426,161 @@ fn no_context_left() {
         "P=1{C=128{S=L/5/4},C=128{MV=L/1/1}}"
     );
     assert_eq!((table[0], table[624], table[751]), (128, 0, 8));
+}
+
+/// The count, the words of its table, and where properties and records start.
+const SIZES: [(u32, usize, usize, usize); 4] = [
+    (1, 318, 95, 190),
+    (8, 752, 312, 624),
+    (9, 814, 343, 686),
+    (16, 1_248, 560, 1_120),
+];
+
+#[test]
+fn sizes_follow_from_the_count() {
+    for (count, words, properties, records) in SIZES {
+        let lines = Lines::fitted(count).unwrap();
+        assert_eq!(lines.words(), words);
+        assert_eq!((lines.properties(), lines.records()), (properties, records));
+        for length in [0, words - 62, words - 1, words, words + 1, words + 62] {
+            let got = answer(count, b"x", &mut vec![0; length], OWN, &mut [0; 16_640]);
+            assert_eq!(
+                got == Answer::BadTable,
+                length != words,
+                "{count}: {length}"
+            );
+        }
+    }
+}
+
+#[test]
+fn count_outside_1_to_16() {
+    // "8 for a count outside 1..16, before 3": nothing else is right either.
+    for count in [0, 17, 18, 255, 256, 264, 65_544, 1 << 31, u32::MAX] {
+        for (words, length) in [(0, 0), (752, 16_640), (1_310, 16_640)] {
+            let mut table = vec![7; words];
+            let mut reply = vec![FILL; length];
+            let got = answer(count, b"", &mut table, b"", &mut reply);
+            assert_eq!(got, Answer::LinesUnfit, "{count}");
+            assert!(table.iter().all(|&word| word == 7));
+            assert!(reply.iter().all(|&byte| byte == FILL));
+        }
+    }
+    for count in 1..=16 {
+        let refused = answer(count, b"", &mut [], b"", &mut [FILL; 16_639]);
+        assert_eq!(refused, Answer::ReplyTooShort);
+    }
+}
+
+#[test]
+fn names_of_every_count() {
+    for count in 1..=16 {
+        let lines = Lines::fitted(count).unwrap();
+        let mut expected = 0;
+        for line in 1..=count {
+            for channel in 1..=31 {
+                let name = format!("L/{line}/{channel}");
+                let found = Name::of(lines, name.as_bytes());
+                assert_eq!(found, Name::Termination(expected), "{name} of {count}");
+                expected += 1;
+            }
+            let name = format!("l/{line}/*");
+            let range = expected - 31..expected;
+            assert_eq!(Name::of(lines, name.as_bytes()), Name::Wildcard(range));
+        }
+        assert_eq!(expected, lines.line_terminations());
+        for ephemeral in 1..=64 {
+            let name = format!("r/{ephemeral}");
+            let found = Name::of(lines, name.as_bytes());
+            assert_eq!(found, Name::Termination(expected), "{name} of {count}");
+            expected += 1;
+        }
+        assert_eq!(expected, lines.terminations());
+        assert_eq!(Name::of(lines, b"*"), Name::Wildcard(0..expected));
+        // A number's name is read back as that number.
+        for number in 0..expected {
+            let mut name = Vec::new();
+            write_name(lines, number, &mut name);
+            assert_eq!(Name::of(lines, &name), Name::Termination(number));
+        }
+        for line in count + 1..130 {
+            let one = Name::of(lines, format!("L/{line}/1").as_bytes());
+            let all = Name::of(lines, format!("L/{line}/*").as_bytes());
+            assert_eq!((one, all), (Name::Unknown, Name::BadWildcard));
+        }
+        for name in [
+            "L/0/1", "L/01/1", "L//1", "L/1", "L/1/", "L/1/01", "L/1/32", "L/1/1/1",
+        ] {
+            assert_eq!(Name::of(lines, name.as_bytes()), Name::Unknown, "{name}");
+        }
+        for name in [
+            "L/0/*", "L/01/*", "L//*", "L/*/*", "L/1/**", "L/1*", "L/1/1/*", "L/-/*",
+        ] {
+            assert_eq!(
+                Name::of(lines, name.as_bytes()),
+                Name::BadWildcard,
+                "{name}"
+            );
+        }
+    }
+}
+
+#[test]
+fn other_counts() {
+    // The last channel of the last line, the line after it, and an ephemeral.
+    for (count, words, properties, records) in SIZES {
+        let mut table = vec![0; words];
+        let next = count + 1;
+        let request =
+            format!("T=1{{C=${{A=L/{count}/31,O-A=L/{next}/1,O-A=L/{next}/*,A=R/$,MF=*{{M{{O{{MO=SR}}}}}}}}}}");
+        let reply = format!(
+            "P=1{{C=1{{A=L/{count}/31,A=L/{next}/1{{ER=430{{}}}},A=L/{next}/*{{ER=431{{}}}},A=R/1,\
+             MF=L/{count}/31,MF=R/1}}}}"
+        );
+        assert_eq!(inside_on(count, &request, &mut table), reply);
+        let ephemeral = 31 * count as usize;
+        let last = ephemeral - 1;
+        let after = [
+            (last, 1),
+            (ephemeral, 1),
+            (properties + last, 3),
+            (properties + ephemeral, 3),
+            (records, 1),
+        ];
+        assert_eq!(words_of(&table), after);
+        let request = format!("T=2{{C=1{{S=L/{count}/*,S=R/*}}}}");
+        let reply = format!("P=2{{C=1{{S=L/{count}/31,S=R/1}}}}");
+        assert_eq!(inside_on(count, &request, &mut table), reply);
+        assert_eq!(words_of(&table), []);
+    }
+    // The session has the same replies on sixteen lines.
+    let mut table = vec![0; 1_248];
+    for (request, reply) in SESSION {
+        assert_eq!(inside_on(16, request, &mut table), reply);
+    }
+    assert_eq!(words_of(&table), [(4, 2), (564, 3), (1_121, 1)]);
+    // One line has 64 ephemerals too.
+    let mut table = vec![0; 318];
+    for context in 1..=8 {
+        let reply = inside_on(1, "T=1{C=${A=$,A=$,A=$,A=$,A=$,A=$,A=$,A=$}}", &mut table);
+        assert!(
+            reply.ends_with(&format!("A=R/{}}}}}", 8 * context)),
+            "{reply}"
+        );
+    }
+    assert_eq!(
+        table[30..96],
+        [
+            &[0],
+            [1, 2, 3, 4, 5, 6, 7, 8].map(|c| [c; 8]).as_flattened(),
+            &[0]
+        ]
+        .concat()
+    );
+    assert_eq!(
+        inside_on(1, "T=1{C=${A=$}}", &mut table),
+        "P=1{C=${A=${ER=432{}}}}"
+    );
 }
 
 /// A small generator of numbers for the noise below.
@@ -471,7 +639,7 @@ fn line_noise() {
         }
         message.truncate(1 + numbers.next(2 * message.len()));
         whole(&message, &mut table);
-        let sound = answer(b"x", &mut table, OWN, &mut [0; 16_640]);
+        let sound = answer(8, b"x", &mut table, OWN, &mut [0; 16_640]);
         assert_ne!(sound, Answer::BadTable);
         if round % 64 == 0 {
             table = [0; 752];

@@ -1,5 +1,5 @@
-use borrow.Author.Needs.{needs}
 use Rattle.aims.proofs.AimLaws.{for-one, for-root, for-chosen, for-unchosen, for-wildcard, for-unmatched, for-unknown}
+use borrow.Author.Needs.{needs}
 use Rattle.aims.proofs.target_of.Statement.{statement}
 use Rattle.aims.proofs.target_of.Tie as tie
 
@@ -10,9 +10,11 @@ target-of-spec =
     (λ c. search needs)
     (λ c κs. search needs)
     (λ c κs. search needs)
+    (λ c κs. search needs)
     (λ c. search needs)
     (λ c κs. search needs)
     (λ c. search needs)
+    (λ c κs. search needs)
     (λ c κs. search needs)
     (λ c κs. search needs)
     (λ c. search needs)

@@ -1,5 +1,5 @@
+use Rattle.gateway.proofs.CallLaws.{unfit-lines, fitted-by}
 use borrow.Author.Needs.{needs}
-use Rattle.gateway.proofs.CallLaws.{short-reply, unsound-table, unfit-mid, unfit-message, is-taken, sound-by}
 use Rattle.gateway.proofs.answer.Statement.{statement}
 use Rattle.gateway.proofs.answer.Tie as tie
 
@@ -7,17 +7,9 @@ pub answer-spec : {M : Type 1} → statement M
 answer-spec =
     tie.close
     (tie.spec
-    (λ c. search short-reply)
     (λ c κs. search needs)
-    (λ c κs. search needs)
-    (λ c. search needs)
-    (λ c. search unfit-message)
-    (λ c κs. search needs)
-    (λ c κs. search sound-by)
+    (λ c κs. search fitted-by)
     (λ c. search needs)
     (λ c. search needs)
-    (λ c. search is-taken)
     (λ c. search needs)
-    (λ c. search unfit-mid)
-    (λ c. search needs)
-    (λ c. search unsound-table))
+    (λ c. search unfit-lines))

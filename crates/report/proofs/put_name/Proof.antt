@@ -1,8 +1,8 @@
-use borrow.Author.Needs.{needs}
-use borrow.Author.Tests.{le-leb, lt-leb}
-use Rattle.megaco.specs.Names.{nameText}
-use Rattle.megaco.specs.Table.{isEphemeral}
 use Rattle.base.proofs.OutLaws.{chosen-yes, chosen-no, after, four}
+use Rattle.megaco.specs.Table.{isEphemeral}
+use Rattle.megaco.specs.Names.{nameText}
+use borrow.Author.Tests.{le-leb, lt-leb}
+use borrow.Author.Needs.{needs}
 use Rattle.report.proofs.put_name.Statement.{statement}
 use Rattle.report.proofs.put_name.Tie as tie
 
@@ -10,6 +10,7 @@ pub put-name-spec : {M : Type 1} → statement M
 put-name-spec =
     tie.close
     (tie.spec
+    (λ c. search needs)
     (λ c. search needs)
     (λ c κs. search needs)
     (λ c. search needs)

@@ -1,6 +1,6 @@
-use borrow.Author.Needs.{needs}
-use Rattle.megaco.specs.Reply.{reportText}
 use Rattle.base.proofs.OutLaws.{four}
+use Rattle.megaco.specs.Reply.{reportText}
+use borrow.Author.Needs.{needs}
 use Rattle.report.proofs.put_named.Statement.{statement}
 use Rattle.report.proofs.put_named.Tie as tie
 

@@ -1,6 +1,6 @@
 use borrow.Author.Needs.{needs}
 use Rattle.outline.proofs.OutlineLaws.{action-ends}
-use Rattle.running.proofs.StartedLaws.{sound-long, held-small}
+use Rattle.running.proofs.StartedLaws.{sound-sized, held-small}
 use Rattle.running.proofs.ActsLaws.{action-acts}
 use Rattle.running.proofs.run_action.Statement.{statement}
 use Rattle.running.proofs.run_action.Tie as tie
@@ -12,7 +12,7 @@ run-action-spec =
     (λ c κs. search needs)
     (λ c κs. search needs)
     (λ c. search needs)
-    (λ c κs. (search sound-long, search held-small))
+    (λ c κs. (search sound-sized, search held-small))
     (λ c. search needs)
     (λ c κs. search needs)
     (λ c κs. search needs)

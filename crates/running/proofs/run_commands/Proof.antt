@@ -2,6 +2,7 @@ use borrow.Author.Needs.{needs}
 use mathlib.Core.Path.{_≡_, refl}
 use mathlib.Core.Bool.{true}
 use lib.ListN.{length}
+use Rattle.megaco.proofs.Sizes.{sized-same}
 use Rattle.syntax.specs.Extraction.{listOf, listEnd, commandOf, commandEnd, commandsOf, commandsEnd}
 use Rattle.parts.proofs.EndLaws.{end-none, end-last, end-more, end-after}
 use Rattle.tries.proofs.DidLaws.{Leads, begins}
@@ -26,7 +27,7 @@ run-commands-spec =
     Inv-loop
     μ-loop
     (λ c. (refl, refl, unfold commandsEnd in refl, unfold commandsOf in begins _ _ _ _))
-    (λ c κs. search needs)
+    (λ c κs. search sized-same)
     (λ c κs. search needs)
     (λ c κs. search needs)
     (λ c. search needs)

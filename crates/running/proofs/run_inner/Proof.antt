@@ -1,4 +1,5 @@
 use borrow.Author.Needs.{needs}
+use Rattle.megaco.proofs.Sizes.{sized-same}
 use Rattle.running.proofs.StartedLaws.{inner-fails, inner-commands, inner-alone, body-of-commands, body-alone}
 use Rattle.running.proofs.run_inner.Statement.{statement}
 use Rattle.running.proofs.run_inner.Tie as tie
@@ -12,7 +13,7 @@ run-inner-spec =
     (λ c κs. search needs)
     (λ c κs. search needs)
     (λ c κs. search needs)
-    (λ c κs. search needs)
+    (λ c κs. search sized-same)
     (λ c. search needs)
     (λ c. search needs)
     (λ c. (search inner-commands, search body-of-commands))

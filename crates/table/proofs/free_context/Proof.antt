@@ -1,5 +1,4 @@
-use Rattle.megaco.specs.Table.{freeContext, recordWords}
-use Rattle.table.proofs.TableLaws.{absent-fits}
+use Rattle.table.proofs.TableLaws.{records-fit, records-part}
 use borrow.Author.Needs.{needs}
 use Rattle.table.proofs.free_context.Statement.{statement}
 use Rattle.table.proofs.free_context.Tie as tie
@@ -8,9 +7,14 @@ pub free-context-spec : {M : Type 1} → statement M
 free-context-spec =
     tie.close
     (tie.spec
+    (λ c κs. search needs)
+    (λ c. search needs)
+    (λ c. search needs)
+    (λ c. search needs)
+    (λ c. search needs)
     (λ c. search needs)
     (λ c. search needs)
     (λ c. search needs)
     (λ c κs. search needs)
-    (λ c. search (absent-fits, needs))
-    (λ c. unfold freeContext recordWords in c .lowest-absent .ensures))
+    (λ c. search records-fit)
+    (λ c. search records-part))

@@ -1,5 +1,4 @@
-use Rattle.megaco.specs.Table.{freeEphemeral, ephemeralContexts, contextWords}
-use Rattle.table.proofs.TableLaws.{absent-fits, drop-take}
+use Rattle.table.proofs.TableLaws.{ephemerals-fit, ephemerals-part}
 use borrow.Author.Needs.{needs}
 use Rattle.table.proofs.free_ephemeral.Statement.{statement}
 use Rattle.table.proofs.free_ephemeral.Tie as tie
@@ -8,9 +7,13 @@ pub free-ephemeral-spec : {M : Type 1} → statement M
 free-ephemeral-spec =
     tie.close
     (tie.spec
+    (λ c κs. search needs)
+    (λ c. search needs)
+    (λ c. search needs)
+    (λ c. search needs)
     (λ c. search needs)
     (λ c. search needs)
     (λ c. search needs)
     (λ c κs. search needs)
-    (λ c. search (absent-fits, needs))
-    (λ c. unfold freeEphemeral ephemeralContexts contextWords in rw (drop-take 248 64) (c .lowest-absent .ensures)))
+    (λ c. search ephemerals-fit)
+    (λ c. search ephemerals-part))

@@ -1,5 +1,5 @@
-use mathlib.Core.Path.{refl}
 use Rattle.megaco.specs.Table.{isEphemeral}
+use borrow.Author.Needs.{needs}
 use Rattle.table.proofs.is_ephemeral.Statement.{statement}
 use Rattle.table.proofs.is_ephemeral.Tie as tie
 
@@ -7,4 +7,5 @@ pub is-ephemeral-spec : {M : Type 1} → statement M
 is-ephemeral-spec =
     tie.close
     (tie.spec
-    (λ c. unfold isEphemeral in refl))
+    (λ c κs. search needs)
+    (λ c. unfold isEphemeral in rw (c .line-terminations .ensures)))

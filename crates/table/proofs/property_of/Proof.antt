@@ -7,7 +7,8 @@ pub property-of-spec : {M : Type 1} → statement M
 property-of-spec =
     tie.close
     (tie.spec
-    (λ c. search needs)
     (λ c κs. search needs)
     (λ c. search needs)
+    (λ c κs. search needs)
+    (λ c. cc)
     (λ c. search read-beyond))

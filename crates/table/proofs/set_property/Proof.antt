@@ -7,8 +7,9 @@ pub set-property-spec : {M : Type 1} → statement M
 set-property-spec =
     tie.close
     (tie.spec
+    (λ c κs. search needs)
     (λ c. search needs)
     (λ c κs. search needs)
     (λ c. search needs)
-    (λ c. search needs)
+    (λ c. cc)
     (λ c. search store-beyond))

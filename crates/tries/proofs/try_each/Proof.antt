@@ -3,6 +3,7 @@ use Prim.Native.Nat.{_-_}
 use mathlib.Core.Path.{_≡_, refl}
 use mathlib.Core.Bool.{true}
 use lib.ListN.{length, drop}
+use Rattle.megaco.proofs.Sizes.{sized-same}
 use Rattle.megaco.specs.Running.{tries}
 use Rattle.tries.proofs.DidLaws.{Leads, begins, tries-on, tries-end}
 use Rattle.tries.proofs.try_each.Statement.{statement}
@@ -27,7 +28,7 @@ try-each-spec =
     (λ c. search needs)
     (λ c. search needs)
     (λ c κs. search needs)
-    (λ c κs. search needs)
+    (λ c κs. (search sized-same, search needs))
     (λ c. search needs)
     (λ c. search needs)
     (λ c. (search needs, search needs, search tries-on))

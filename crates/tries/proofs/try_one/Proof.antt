@@ -1,5 +1,5 @@
 use borrow.Author.Needs.{needs}
-use Rattle.tries.proofs.DidLaws.{attempt-does, attempt-fails}
+use Rattle.tries.proofs.DidLaws.{look-lines, attempt-does, attempt-fails}
 use Rattle.tries.proofs.try_one.Statement.{statement}
 use Rattle.tries.proofs.try_one.Tie as tie
 
@@ -10,12 +10,12 @@ try-one-spec =
     (λ c κs. search needs)
     (λ c κs. search needs)
     (λ c κs. search needs)
-    (λ c κs. search needs)
+    (λ c κs. search look-lines)
     (λ c κs. search needs)
     (λ c. search needs)
     (λ c. search needs)
     (λ c. search attempt-does)
-    (λ c κs. search needs)
+    (λ c κs. search look-lines)
     (λ c. search needs)
     (λ c. search needs)
     (λ c. search attempt-fails))

@@ -7,10 +7,10 @@ use Rattle.view.proofs.note_row.Statement.{statement}
 use Rattle.view.proofs.note_row.Tie as tie
 
 abbrev Inv-loop : tie.InvT-loop
-Inv-loop row op c r out₀ n₀ i₀ out n i = Noting (matchesFrom op c r 0 row) out₀ (matchesFrom op c r i (drop i row)) out n i
+Inv-loop lines row op c r out₀ n₀ i₀ out n i = Noting (matchesFrom lines op c r 0 row) out₀ (matchesFrom lines op c r i (drop i row)) out n i
 
 abbrev μ-loop : tie.MeasureT-loop
-μ-loop row op c r out₀ n₀ i₀ out n i = length row - i
+μ-loop lines row op c r out₀ n₀ i₀ out n i = length row - i
 
 pub note-row-spec : {M : Type 1} → statement M
 note-row-spec =
@@ -26,6 +26,6 @@ note-row-spec =
     (λ c κs. search needs)
     (λ c. search needs)
     (λ c. search needs)
-    (λ c. let k = c .before .before .before .before .before .before .before in noting-on _ _ _ (k .before .before .before .args .row .now) _ _ _ _ _ (k .loop .inv) _ _ _ (c .before .before .before .before .before .before .loop-test .taken) (c .before .before .before .is-match .ensures) (c .before .before .note .ensures))
+    (λ c. let k = c .before .before .before .before .before .before .before in noting-on _ _ _ _ (k .before .before .before .args .row .now) _ _ _ _ _ (k .loop .inv) _ _ _ (c .before .before .before .before .before .before .loop-test .taken) (c .before .before .before .is-match .ensures) (c .before .before .note .ensures))
     (λ c. search needs)
     (λ c. search noting-end))

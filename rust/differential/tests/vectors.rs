@@ -1,11 +1,13 @@
-//! Runs the recorded calls and listings in the folder that the variable
-//! VECTORS names; without it, nothing is run.
+//! Runs the recorded calls of the folder that the variable VECTORS names
+//! (`calls.jsonl`) on the reference and on the archive, and its listings
+//! (`listing/`) on the reference; without it, nothing is run.
 
 use std::fs;
 use std::path::{Path, PathBuf};
 
+use cordafina::answer_word;
+use differential::calls::{outcome, reference_word, Call, Case, GUARD};
 use reference::listing::listing;
-use reference::{answer, Answer};
 
 fn folder() -> Option<PathBuf> {
     let folder = std::env::var_os("VECTORS").map(PathBuf::from);
@@ -19,14 +21,11 @@ fn read(path: &Path) -> Vec<u8> {
     fs::read(path).unwrap_or_else(|error| panic!("{}: {error}", path.display()))
 }
 
-/// One line of `calls.jsonl`.
+/// One line of `calls.jsonl`: a call, and what comes of it.
 struct Row {
     kind: String,
-    message: Vec<u8>,
-    table: Vec<u32>,
-    own: Vec<u8>,
-    buffer: usize,
-    refusal: u32,
+    case: Case,
+    refusal: u64,
     reply: Vec<u8>,
     after: Vec<u32>,
 }
@@ -70,6 +69,14 @@ impl<'a> Json<'a> {
             panic!("no number at {text:.40}");
         };
         number
+    }
+
+    /// A key without a value, if it stands here, and the comma after it.
+    fn none(&mut self, name: &str) {
+        if self.take(&format!("\"{name}\":")) {
+            self.skip("null");
+            self.take(",");
+        }
     }
 
     fn hex(&mut self) -> Vec<u8> {
@@ -119,8 +126,17 @@ impl<'a> Json<'a> {
         let own = json.hex();
         json.skip(",");
         json.key("buf");
-        let buffer = json.number();
+        let reply_length = json.number();
         json.skip(",");
+        // Rows of the base have no count of lines, and those before requests
+        // 3 and 12 no kept replies and no blocks.
+        let lines = match json.take("\"lines\":") {
+            true => json.number(),
+            false => 8,
+        };
+        json.take(",");
+        json.none("room");
+        json.none("blocks");
         json.key("refusal");
         let refusal = json.number();
         json.skip(",");
@@ -129,14 +145,21 @@ impl<'a> Json<'a> {
         json.skip(",");
         json.key("after");
         let after = json.words(length);
+        json.take(",");
+        json.none("room_after");
+        json.none("blocks_after");
         json.skip("}");
         assert!(json.0.trim().is_empty());
+        let case = Case {
+            lines,
+            message: message.into_boxed_slice(),
+            table,
+            own: own.into_boxed_slice(),
+            reply: reply_length,
+        };
         Row {
             kind,
-            message,
-            table,
-            own,
-            buffer,
+            case,
             refusal,
             reply,
             after,
@@ -144,31 +167,23 @@ impl<'a> Json<'a> {
     }
 }
 
-/// Runs one row; gives what differs.
-fn differs(row: &Row) -> Option<String> {
-    // A pattern that no run of equal bytes would leave unnoticed.
-    let pattern: Vec<u8> = (0..row.buffer)
-        .map(|at| (at * 7 + at / 256) as u8 | 0x80)
-        .collect();
-    let mut reply = pattern.clone();
-    let mut table = row.table.clone();
-    let got = answer(&row.message, &mut table, &row.own, &mut reply);
-    let length = match got {
-        Answer::Taken(length) => length,
-        _ => 0,
-    };
-    let mut expected = pattern;
-    expected[..row.reply.len()].copy_from_slice(&row.reply);
-    if got.number() != row.refusal {
-        return Some(format!("refusal {}, not {}", got.number(), row.refusal));
+/// Lets a side answer one row; gives what differs.
+fn differs(row: &Row, call: Call) -> Option<String> {
+    let got = outcome(&row.case, call, GUARD);
+    if got.refusal() != row.refusal {
+        return Some(format!("refusal {}, not {}", got.refusal(), row.refusal));
     }
-    if length != row.reply.len() || reply != expected {
+    if got.length() != row.reply.len() || got.text() != row.reply {
         return Some(format!(
             "reply {}, not {}",
-            reply[..length].escape_ascii(),
+            got.text().escape_ascii(),
             row.reply.escape_ascii()
         ));
     }
+    if !got.stays_elsewhere(&row.case) {
+        return Some("something past the reply or beside the buffers is written".to_string());
+    }
+    let table = got.table();
     let word = (0..table.len()).find(|&place| table[place] != row.after[place])?;
     Some(format!(
         "word {word} is {}, not {}",
@@ -176,8 +191,8 @@ fn differs(row: &Row) -> Option<String> {
     ))
 }
 
-#[test]
-fn calls() {
+/// Runs all rows on one side.
+fn run(side: &str, call: Call) {
     let Some(folder) = folder() else { return };
     let text = String::from_utf8(read(&folder.join("calls.jsonl"))).unwrap();
     let mut rows = 0;
@@ -185,19 +200,29 @@ fn calls() {
     for (number, line) in text.lines().enumerate() {
         let row = Json::row(line);
         rows += 1;
-        if let Some(difference) = differs(&row) {
+        if let Some(difference) = differs(&row, call) {
             different += 1;
             println!(
                 "row {} ({}): {difference}\n  message {}",
                 number + 1,
                 row.kind,
-                row.message.escape_ascii()
+                row.case.message.escape_ascii()
             );
         }
     }
-    println!("{rows} calls, {different} different");
+    println!("{side}: {rows} calls, {different} different");
     assert!(rows > 0);
     assert_eq!(different, 0);
+}
+
+#[test]
+fn calls_on_the_reference() {
+    run("reference", reference_word);
+}
+
+#[test]
+fn calls_on_the_archive() {
+    run("archive", answer_word);
 }
 
 #[test]

@@ -1,0 +1,38 @@
+-- The answer of a call as one number.
+use Prim.Native.Nat.{ℕ, _+_, _*_}
+use mathlib.Core.Path.{_≡_, _∙_}
+use mathlib.Core.List.{List}
+use native.Mathlib.Omega.{arith}
+use Rattle.megaco.specs.Call.{Called}
+use Rattle.gateway.specs.Answers.{refusalOf, sizeOf, Answered, numberOf, Packed}
+use Rattle.gateway.specs.declared.Outcome.{Outcome}
+use Rattle.gateway.specs.declared.Outcome.the-variants.{Taken, ReplyTooShort, TableUnsound, MidUnfit, MessageUnfit, LinesUnfit}
+
+pub packs : (c : Called) (t′ o′ : List ℕ) (a : Outcome) (r : ℕ) → Answered c t′ o′ a → r ≡ numberOf a → Packed c t′ o′ r
+unfolding numberOf
+packs c t′ o′ a r d e = record { answer = e ∙ (λ i. d .size i + 4294967296 * d .refusal i); table = d .table; reply = d .reply }
+
+module _ (a : Outcome) where
+  pub number-taken : (n : ℕ) → a ≡ Taken n → n ≡ numberOf a
+  unfolding numberOf sizeOf refusalOf
+  number-taken n e = rw e (omega arith)
+
+  pub number-short : a ≡ ReplyTooShort → 3 * 4294967296 ≡ numberOf a
+  unfolding numberOf sizeOf refusalOf
+  number-short e = rw e
+
+  pub number-unsound : a ≡ TableUnsound → 2 * 4294967296 ≡ numberOf a
+  unfolding numberOf sizeOf refusalOf
+  number-unsound e = rw e
+
+  pub number-mid : a ≡ MidUnfit → 4 * 4294967296 ≡ numberOf a
+  unfolding numberOf sizeOf refusalOf
+  number-mid e = rw e
+
+  pub number-message : a ≡ MessageUnfit → 4294967296 ≡ numberOf a
+  unfolding numberOf sizeOf refusalOf
+  number-message e = rw e
+
+  pub number-lines : a ≡ LinesUnfit → 8 * 4294967296 ≡ numberOf a
+  unfolding numberOf sizeOf refusalOf
+  number-lines e = rw e

@@ -1,0 +1,35 @@
+// The library's face for C: thin functions, each with the promise of the one that it calls. `rt staticlib cordafina` makes the archive
+// that include/cordafina.h declares.
+use gateway::Outcome;
+ghost use mathlib.Core.Path.{_≡_};
+ghost use Rattle.megaco.specs.Call.{call};
+ghost use Rattle.gateway.specs.Answers.{numberOf, Packed};
+
+// An answer as one number: the reply's length in the low 32 bits, the number of the refusal in the high 32, 0 for a call that is taken.
+fn number_of(a: Outcome) -> u64
+    ensures { λ r. ⌜ r ≡ numberOf a ⌝ }
+{
+    match a {
+        Outcome::Taken(n) => n as u64,
+        Outcome::ReplyTooShort => 3 * 4294967296,
+        Outcome::TableUnsound => 2 * 4294967296,
+        Outcome::MidUnfit => 4 * 4294967296,
+        Outcome::MessageUnfit => 4294967296,
+        Outcome::LinesUnfit => 8 * 4294967296,
+    }
+}
+
+// The call: the lines fitted, one message, the lent table, the gateway's own mId and the lent reply buffer.
+#[no_mangle]
+pub extern "C" fn cordafina_answer(
+    lines: u32,
+    message: &[u8],
+    table: &mut [u32],
+    own: &[u8],
+    reply: &mut [u8],
+) -> u64
+    ensures { λ r. ⌜ Packed (call lines (now (message .entry)) (now (table .entry)) (now (own .entry)) (now (reply .entry))) (now (table .exit)) (now (reply .exit)) r ⌝ }
+{
+    let a = gateway::answer(lines, message, table, own, reply);
+    number_of(a)
+}

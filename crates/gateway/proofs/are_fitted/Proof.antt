@@ -1,0 +1,10 @@
+use mathlib.Core.Path.{refl}
+use Rattle.megaco.specs.Names.{within}
+use Rattle.gateway.proofs.are_fitted.Statement.{statement}
+use Rattle.gateway.proofs.are_fitted.Tie as tie
+
+pub are-fitted-spec : {M : Type 1} → statement M
+are-fitted-spec =
+    tie.close
+    (tie.spec
+    (λ c. unfold within in refl))
