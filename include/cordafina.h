@@ -1,5 +1,6 @@
 /*
- * The Megaco trunk gateway: one call, for C99 and C++.
+ * The Megaco trunk gateway, for C99 and C++: the call, and two questions about
+ * the ephemerals in use.
  *
  * A call takes the count of lines that the shelf has, one H.248.1 (Megaco) text
  * message and a table that the caller lends, runs the message on the table, and
@@ -31,6 +32,8 @@
  *   31n + k - 1                   R/k, k 1..64; it exists exactly if the word is not 0
  *   N .. 2N - 1                 the properties of each termination, mode + 8 * state
  *   2N .. 2N + 127              contexts 1..128: 0 if absent, else 1 + priority + 16 * emergency
+ *   2N + 128, 2N + 129          the map of the ephemerals, low half first: bit k - 1 is set
+ *                               exactly when R/k exists
  *
  * Modes: 0 Inactive, 1 SendOnly, 2 ReceiveOnly, 3 SendReceive, 4 Loopback.
  * States: 0 InService, 1 OutOfService, 2 Test.
@@ -44,8 +47,10 @@
 /* Where the properties start, by termination number, and the records, by context number less 1. */
 #define CORDAFINA_PROPERTIES(n) CORDAFINA_TERMINATIONS(n)
 #define CORDAFINA_RECORDS(n) (2 * CORDAFINA_TERMINATIONS(n))
-/* Words of a table: exactly so many, 752 for eight lines. */
-#define CORDAFINA_TABLE_WORDS(n) (CORDAFINA_RECORDS(n) + 128)
+/* Where the map of the ephemerals starts. */
+#define CORDAFINA_MAP(n) (CORDAFINA_RECORDS(n) + 128)
+/* Words of a table: exactly so many, 754 for eight lines. */
+#define CORDAFINA_TABLE_WORDS(n) (CORDAFINA_MAP(n) + 2)
 
 /* Bytes of a reply buffer: at least so many. No reply is longer. */
 #define CORDAFINA_REPLY_BYTES 16640
@@ -108,6 +113,23 @@ uint64_t cordafina_answer(uint32_t lines,
                           uint32_t *table, size_t table_len,
                           const uint8_t *own_mid, size_t own_mid_len,
                           uint8_t *reply, size_t reply_len);
+
+/*
+ * Asked of the map alone, given as one number; no table is read. Any map is
+ * answered.
+ *
+ * cordafina_lowest_absent: the k of the lowest absent ephemeral R/k, 1 to 64, or
+ * 0 if there is none. cordafina_in_use: how many ephemerals are in use.
+ */
+uint32_t cordafina_lowest_absent(uint64_t map);
+uint32_t cordafina_in_use(uint64_t map);
+
+/* The map in a table of so many lines, as one number. */
+static inline uint64_t cordafina_map(uint32_t lines, const uint32_t *table)
+{
+    const uint32_t *map = table + CORDAFINA_MAP(lines);
+    return map[0] | (uint64_t)map[1] << 32;
+}
 
 /* The reply's length in a result of cordafina_answer; 0 for a call turned down. */
 static inline size_t cordafina_length(uint64_t answer)

@@ -1,5 +1,6 @@
 #!/usr/bin/env bash
-# The tests beside the proofs: unit tests, examples, listing sessions, differential test, demand 3 on the compiled library.
+# The tests beside the proofs: unit tests, examples, listing sessions, differential test, the map of the ephemerals, demand 3 on the
+# compiled library.
 # Ends with status 0 only if all of them passed. docs/TESTING.md says what each is.
 #
 #   tests/run.sh                      the short form, under two minutes
@@ -13,6 +14,7 @@ archive=$(realpath -m "${CORDAFINA_LIB:-$root/target/staticlib/libcordafina.a}")
 export CORDAFINA_LIB=$archive
 seed=${SEED:-1}
 calls=200000
+maps=200000
 pairs=20000
 long=no
 allow=no
@@ -20,7 +22,7 @@ for option in "$@"; do
     case $option in
         --long) long=yes calls=2000000 pairs=200000 ;;
         --allow-no-archive) allow=yes ;;
-        *) sed -n '2,9s/^# \{0,1\}//p' "$0" >&2; exit 2 ;;
+        *) sed -n '2,10s/^# \{0,1\}//p' "$0" >&2; exit 2 ;;
     esac
 done
 cd "$root"
@@ -49,6 +51,7 @@ step "unit tests" rust test --workspace
 step "examples" bash examples/run.sh
 step "listing sessions" bash tests/sessions.sh
 step "differential test, $calls calls" rust run -p differential -- calls "$seed" $calls
+step "map of the ephemerals, $maps maps" rust run -p differential -- maps "$seed" $maps
 step "demand 3, $pairs pairs" rust run -p differential -- pairs "$seed" $pairs
 if [ $long = yes ]; then
     step "out of range, 20000 calls under a memory checker" \

@@ -1,7 +1,9 @@
 #!/usr/bin/env python3
 """The calls that crates/calls_run reads, and what each must answer: writes its stdin and its stdout from recorded calls.
 
-usage, from the root: tools/call_cases.py CALLS.jsonl..
+usage, from the root: tools/call_cases.py [--early EARLIER.jsonl..] CALLS.jsonl
+
+EARLIER: calls recorded before the table had the map of the ephemerals; it is worked out for them.
 
 Takes the rows at a boundary first, then rows that show a code, a refusal, a report or a kind that few before them show, as
 tools/evaluate.py does, and adds the calls of SESSION and SINGLE, which stand in this file: document 01 gives their replies and
@@ -21,7 +23,7 @@ import re
 import sys
 
 OWN, HEAD = b"[10.0.0.9]", b"!/1 [10.0.0.1] "
-LINES, WORDS, BUFFER = 8, 752, 16640
+LINES, WORDS, BUFFER = 8, 754, 16640
 FEW = 12          # how many rows are to show the same thing
 LONGEST = 300     # bytes of a message, boundaries aside
 ROOM = 800000     # bytes of the input
@@ -30,6 +32,19 @@ ROOM = 800000     # bytes of the input
 def words(row):
     """The words of a table of the lines told."""
     return WORDS + 62 * (row.get("lines", LINES) - LINES)
+
+
+def grown(row):
+    """A row recorded before the table had a map, with the map worked out; None where its size has come to mean another thing."""
+    lines = row.get("lines", LINES)
+    if row["table_len"] != words(row) - 2:
+        return None if row["table_len"] == words(row) else row
+    row["table_len"] += 2
+    for name in ("table", "after"):
+        held = dict(map(tuple, row[name]))
+        used = sum(1 << k for k in range(64) if held.get(31 * lines + k))
+        row[name] = sorted({**held, **{62 * lines + 256 + h: v for h, v in enumerate(divmod(used, 2 ** 32)[::-1]) if v}}.items())
+    return row
 
 
 def runs(pairs):
@@ -68,16 +83,16 @@ def told(k, row):
 
 X64 = b"x" * 64
 SESSION = [
-    (b"T=7{C=${A=L/1/5,A=$}}", b"P=7{C=1{A=L/1/5,A=R/1}}", {4: 1, 248: 1, 624: 1}),
-    (b"T=8{C=1{A=L/1/5}}", b"P=8{C=1{A=L/1/5{ER=433{}}}}", {4: 1, 248: 1, 624: 1}),
-    (b"T=9{C=${MV=L/1/5}}", b"P=9{C=2{MV=L/1/5}}", {4: 2, 248: 1, 624: 1, 625: 1}),
+    (b"T=7{C=${A=L/1/5,A=$}}", b"P=7{C=1{A=L/1/5,A=R/1}}", {4: 1, 248: 1, 624: 1, 752: 1}),
+    (b"T=8{C=1{A=L/1/5}}", b"P=8{C=1{A=L/1/5{ER=433{}}}}", {4: 1, 248: 1, 624: 1, 752: 1}),
+    (b"T=9{C=${MV=L/1/5}}", b"P=9{C=2{MV=L/1/5}}", {4: 2, 248: 1, 624: 1, 625: 1, 752: 1}),
     (b"T=10{C=1{S=*,A=L/2/1}}", b"P=10{C=1{S=R/1,A=L/2/1{ER=411{}}}}", {4: 2, 625: 1}),
     (b"T=11{C=2{O-S=L/8/31,MF=L/1/5{M{O{MO=SR}}}}}", b"P=11{C=2{S=L/8/31{ER=435{}},MF=L/1/5}}", {4: 2, 316: 3, 625: 1}),
     (b"T=12{C=2{S=L/8/31,S=L/1/5}}", b"P=12{C=2{S=L/8/31{ER=435{}}}}", {4: 2, 316: 3, 625: 1}),
 ]
 LINE = {0: 1, 624: 1}                                                    # L/1/1 in context 1
 ALL = {**{i: i + 1 for i in range(128)}, **{624 + c: 1 for c in range(128)}}    # 128 contexts of one line each
-RINGS = {**{248 + i: i // 8 + 1 for i in range(64)}, **{624 + c: 1 for c in range(8)}}    # 64 ephemerals in contexts of 8
+RINGS = {**{248 + i: i // 8 + 1 for i in range(64)}, **{624 + c: 1 for c in range(8)}, 752: 2**32 - 1, 753: 2**32 - 1}    # 64 ephemerals in contexts of 8
 EIGHT = {**{i: 1 for i in range(8)}, 624: 1}                              # L/1/1 to L/1/8 in context 1
 # A message, the reply, the table before and the table after (None: as before).
 SINGLE = [
@@ -95,11 +110,11 @@ SINGLE = [
      {}, EIGHT),
     (b"T=1{C=1{A=L/2/1}}", b"P=1{C=1{A=L/2/1{ER=434{}}}}", EIGHT, None),
     # Move of the last member into $: context 1 ends, and its number is not chosen while the Move is judged
-    (b"T=2{C=${MV=L/1/1},C=${A=$}}", b"P=2{C=2{MV=L/1/1},C=1{A=R/1}}", LINE, {0: 2, 248: 1, 624: 1, 625: 1}),
+    (b"T=2{C=${MV=L/1/1},C=${A=$}}", b"P=2{C=2{MV=L/1/1},C=1{A=R/1}}", LINE, {0: 2, 248: 1, 624: 1, 625: 1, 752: 1}),
     (b"T=2{C=1{MV=*}}", b"P=2{C=1{MV=*{ER=431{}}}}", LINE, None),
     # a chosen context that ends in its own action
     (b"T=1{C=${A=L/1/1,S=L/1/1,O-A=L/1/1,O-A=$},C=${A=$}}", b"P=1{C=1{A=L/1/1,S=L/1/1,A=L/1/1{ER=411{}},A=${ER=411{}}},C=1{A=R/1}}",
-     {}, {248: 1, 624: 1}),
+     {}, {248: 1, 624: 1, 752: 1}),
     # no context and no ephemeral left
     (b"T=1{C=${O-A=$,O-MV=L/1/1}}", b"P=1{C=${A=${ER=412{}},MV=L/1/1{ER=412{}}}}", ALL, None),
     (b"T=1{C=${O-A=$,A=L/1/1}}", b"P=1{C=9{A=${ER=432{}},A=L/1/1}}", RINGS, {**RINGS, 0: 9, 632: 1}),
@@ -160,7 +175,9 @@ def choose(rows, room):
 
 
 def main():
-    rows = [json.loads(line) for name in sys.argv[1:] for line in open(name)]
+    early = sys.argv[2:] if sys.argv[1] == "--early" else []
+    rows = [json.loads(line) for line in open(sys.argv[-1])]
+    rows += [r for name in early[:-1] for r in map(grown, map(json.loads, open(name))) if r]
     own = own_rows()
     taken = own + choose(rows, ROOM - sum(len(record(r)) for r in own))
     crate = os.path.join("crates", "calls_run")

@@ -29,6 +29,9 @@ int main(void)
         }
         printf("%s\n  %.*s\n", messages[i], (int)cordafina_length(answer), (const char *)reply);
         printf("  L/1/5 stands in context %u\n", (unsigned)table[CORDAFINA_LINE(1, 5)]);
+        uint64_t map = cordafina_map(LINES, table);
+        printf("  ephemerals in use: %u, next: R/%u\n", (unsigned)cordafina_in_use(map),
+               (unsigned)cordafina_lowest_absent(map));
     }
     return 0;
 }

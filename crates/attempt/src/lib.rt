@@ -6,9 +6,10 @@ use megaco::Values;
 use megaco::View;
 ghost use mathlib.Core.Path.{_≡_};
 ghost use mathlib.Core.List.{[]};
+ghost use Rattle.base.specs.Pick.{pick};
 ghost use Rattle.megaco.specs.Table.{apply};
 ghost use Rattle.megaco.specs.Items.{update};
-ghost use Rattle.megaco.specs.Running.{isChoose, target, roomChecks, checks, joining, leaving, placed, added, subtracted, changes, settled};
+ghost use Rattle.megaco.specs.Running.{isChoose, target, roomChecks, checks, joining, leaving, placed, marking, added, subtracted, changes, settled};
 ghost use Rattle.attempt.specs.Judging.{codeOf, valueOr, Fair};
 
 // ---- judging
@@ -160,6 +161,15 @@ fn leave(table: &mut [u32], view: View)
     }
 }
 
+// The map's place of an ephemeral that comes to be or ends.
+fn mark(table: &mut [u32], lines: u32, i: usize, on: bool)
+    ensures { λ _. ⌜ now (table .exit) ≡ apply (marking lines i (pick on 1 0) []) (now (table .entry)) ⌝ }
+{
+    if table::is_ephemeral(lines, i) {
+        table::set_used(table, i, on);
+    }
+}
+
 // A termination put into a context, with its property word.
 fn place(table: &mut [u32], i: usize, c: u32, word: u32)
     ensures { λ _. ⌜ now (table .exit) ≡ apply (placed i c word) (now (table .entry)) ⌝ }
@@ -184,6 +194,7 @@ pub fn change(
     match op {
         Op::Add => {
             join(table, at, given, view);
+            mark(table, view.lines, i, true);
             place(
                 table,
                 i,
@@ -196,6 +207,7 @@ pub fn change(
         }
         Op::Subtract => {
             leave(table, view);
+            mark(table, view.lines, i, false);
             place(table, i, 0, subtracted(view.lines, i, view.word));
         }
         Op::Move => {

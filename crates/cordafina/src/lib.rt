@@ -2,6 +2,8 @@
 // that include/cordafina.h declares.
 use gateway::Outcome;
 ghost use mathlib.Core.Path.{_≡_};
+ghost use Rattle.base.specs.Lists.{lowestAbsent};
+ghost use Rattle.megaco.specs.Map.{digits, inUse};
 ghost use Rattle.megaco.specs.Call.{call};
 ghost use Rattle.gateway.specs.Answers.{numberOf, Packed};
 
@@ -32,4 +34,22 @@ pub extern "C" fn cordafina_answer(
 {
     let a = gateway::answer(lines, message, table, own, reply);
     number_of(a)
+}
+
+// ---- the map of the ephemerals, given as one number: word 2N + 128 of a table of N terminations is its low half, the next its high half
+
+// The lowest n of an `R/n` that is absent, 0 if there is none.
+#[no_mangle]
+pub extern "C" fn cordafina_lowest_absent(map: u64) -> u32
+    ensures { λ r. ⌜ r ≡ lowestAbsent 1 (digits 64 map) ⌝ }
+{
+    table::free_in(map)
+}
+
+// How many ephemerals are in use.
+#[no_mangle]
+pub extern "C" fn cordafina_in_use(map: u64) -> u32
+    ensures { λ r. ⌜ r ≡ inUse (digits 64 map) ⌝ }
+{
+    table::used_in(map)
 }

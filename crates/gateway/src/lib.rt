@@ -45,7 +45,7 @@ fn words_of(lines: u32) -> usize
     ensures { λ r. ⌜ r ≡ words lines ⌝ }
 {
     let n = table::line_terminations(lines) + table::EPHEMERALS as usize;
-    n + n + table::CONTEXTS as usize
+    n + n + table::CONTEXTS as usize + table::MAP
 }
 
 // A call with a good count of lines.

@@ -15,12 +15,12 @@ use Rattle.megaco.specs.declared.Op.the-variants.{Add, Modify, Subtract, Move}
 use Rattle.megaco.specs.declared.Range.{Range}
 use Rattle.megaco.specs.declared.Name.{Name}
 use Rattle.megaco.specs.declared.Name.the-variants.{Termination, Root, Chosen, Unchosen, Wildcard, Unmatched, Unknown}
-use Rattle.megaco.specs.Table.{channels, ephemerals, terminations, words, fitted, ctx, get, contextWords, ephemeralContexts, exists, freeEphemeral}
+use Rattle.megaco.specs.Table.{channels, ephemerals, terminations, words, fitted, ctx, get, contextWords, places, exists, freeEphemeral}
 use Rattle.megaco.specs.Names.{within, lineName, ephemeralName, plainName, lineRange, wildcardName, capitalName, nameOf, inRange}
 use Rattle.megaco.specs.Running.{wanted, matchesFrom, matches, Aim, misses, gateway, meets, isAdd, isModify, aimRoot, aimFree, aimMatches, aim}
 use Rattle.base.proofs.TestLaws.{clash, and-both, pick-of}
 use Rattle.laws.specs.Counting.{lowest}
-use Rattle.laws.specs.Sound.{context-words, context-at, ephemeral-contexts}
+use Rattle.laws.specs.Sound.{context-words, context-at, places-long}
 
 -- ---- names
 
@@ -102,10 +102,10 @@ add-only Move e h = clash e
 free-meant : (op : Op) (t : List ℕ) → length t ≡ words (fitted t) → not (isAdd op) ≡ false → Aims op t (aimFree (fitted t) (freeEphemeral t))
 unfolding aimFree freeEphemeral
 free-meant op t l a =
-    let n : ℕ = lowestAbsent 1 (ephemeralContexts t) in
+    let n : ℕ = lowestAbsent 1 (places t) in
     pick-of (Aims op t) (eqb n 0) (λ _. nobody)
-    (λ e. let s = lowest 1 (ephemeralContexts t) (omega (arith, eqb-false n 0 e)) in
-    those (more (record { small = omega (arith, ephemeral-contexts t l); there = λ h. absurd (add-only op a h) }) no-more))
+    (λ e. let s = lowest 1 (places t) (omega (arith, eqb-false n 0 e)) in
+    those (more (record { small = omega (arith, places-long t); there = λ h. absurd (add-only op a h) }) no-more))
 
 wild-meant : (op : Op) (t is : List ℕ) → Each (Meant op t) is → Aims op t (aimMatches is)
 unfolding aimMatches

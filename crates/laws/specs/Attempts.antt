@@ -1,5 +1,5 @@
 -- Attempts leave a sound table sound, in a numbered context, in null and in `$`, a wildcard's too.
-use Prim.Native.Nat.{ℕ, _≤_, _<_}
+use Prim.Native.Nat.{ℕ, _%_, _≤_, _<_, min}
 use mathlib.Core.Path.{_≡_, refl, sym, ap, _∙_}
 use mathlib.Core.Logic.{_≢_}
 use mathlib.Core.Bool.{Bool, true, false, _&&_, and-true, and-false}
@@ -15,9 +15,9 @@ use Rattle.megaco.specs.declared.Op.the-variants.{Add, Modify, Subtract, Move}
 use Rattle.megaco.specs.declared.Values.{Values}
 use Rattle.megaco.specs.declared.Seen.{Seen}
 use Rattle.megaco.specs.declared.View.{View}
-use Rattle.megaco.specs.Table.{lineTerminations, terminations, contexts, fitted, most, prop, rec, ctx, cell, get, Write, write, apply, recordWords, isEphemeral, exists, known, members, freeContext}
+use Rattle.megaco.specs.Table.{lineTerminations, terminations, contexts, fitted, most, prop, rec, used, ctx, cell, get, Write, write, apply, recordWords, isEphemeral, exists, known, members, freeContext}
 use Rattle.megaco.specs.Items.{update}
-use Rattle.megaco.specs.Running.{unseen, seen, numberOf, freeAt, look, isChoose, target, roomChecks, checks, joining, leaving, placed, added, subtracted, changes, settled, isModify, Result, attempt, Effect, concluded, effect, tries}
+use Rattle.megaco.specs.Running.{unseen, seen, numberOf, freeAt, look, isChoose, target, roomChecks, checks, joining, leaving, placed, marking, added, subtracted, changes, settled, isModify, Result, attempt, Effect, concluded, effect, tries}
 use Rattle.base.proofs.TestLaws.{clash, and-both, both-and, pick-of}
 use Rattle.laws.specs.Passed.{Passed, judged}
 use Rattle.laws.specs.Slots.{fitted-apply}
@@ -139,8 +139,12 @@ pub record Leaves (op : Op) (at : Context) (t u : List ℕ) : Type 0 where
   pub ready : Ready op at u
   pub meant : (j : ℕ) → Meant op t j → Meant op u j
 
+chosen : (at : Context) (v : View) → isChoose at ≡ true → target at v ≡ v .free
+unfolding target pick
+chosen at v e = rw e
+
 -- the writes of an attempt: each of these laws knows one of the definitions
-placed-moves : (n g d i x y : ℕ) → i < terminations n → Moves n false false g d i x y (placed i x y)
+placed-moves : (n g d i x y : ℕ) → i < terminations n → Moves n false false false g d i x y (placed i x y)
 unfolding placed pick
 placed-moves n g d i x y h =
     record {
@@ -148,50 +152,73 @@ placed-moves n g d i x y h =
       context = λ j v. refl;
       property = λ j v. refl;
       record′ = λ c v. rw (and-false (eqb x c), and-false (eqb d c));
+      place = λ j v. rw (and-false (eqb i j));
     }
 
-joining-moves : (at : Context) (g d i y : ℕ) (v : View) (t : List ℕ) → Target at t (target at v) → i < terminations (fitted t)
-    → Moves (fitted t) (isChoose at) false g d i (target at v) y (joining at g v (placed i (target at v) y))
-unfolding joining target placed pick
-joining-moves at g d i y v t T h =
-    pick-of (Moves (fitted t) (isChoose at) false g d i (target at v) y) (isChoose at)
-    (λ e. let n : target at v ≡ v .free = rw e in
-    record {
-      within = omega arith;
-      context = λ j w. refl;
-      property = λ j w. refl;
-      record′ = λ c w. rw (e, and-true (eqb (v .free) c), and-false (eqb d c));
+marking-moves : (n g d i x y m : ℕ) → i < terminations n → m % 2 ≡ min x 1 → Moves n false false (isEphemeral n i) g d i x y (marking n i m (placed i x y))
+unfolding marking placed isEphemeral pick
+marking-moves n g d i x y m h z =
+    pick-of (Moves n false false (leb (lineTerminations n) i) g d i x y) (leb (lineTerminations n) i)
+    (λ e. record {
+      within = ((leb-true (lineTerminations n) i e, h), (h, (h, tt)));
+      context = λ j v. refl;
+      property = λ j v. refl;
+      record′ = λ c v. rw (and-false (eqb x c), and-false (eqb d c));
+      place = λ j v. rw (e, and-true (eqb i j), z);
     })
-    (λ e. let n : target at v ≡ numberOf at = rw e in
-    record {
-      within = omega arith;
-      context = λ j w. refl;
-      property = λ j w. refl;
-      record′ = λ c w. rw (e, and-false (eqb (numberOf at) c), and-false (eqb d c));
+    (λ e. record {
+      within = (h, (h, tt));
+      context = λ j v. refl;
+      property = λ j v. refl;
+      record′ = λ c v. rw (and-false (eqb x c), and-false (eqb d c));
+      place = λ j v. rw (e, and-false (eqb i j));
     })
 
-leaving-moves : (n : ℕ) (new : Bool) (g i x y : ℕ) (v : View) (ws : List Write) → 0 < v .here → v .here ≤ contexts → Moves n new false g (v .here) i x y ws
-    → Moves n new (leb (v .from .members) 1) g (v .here) i x y (leaving v ws)
+joining-moves : (at : Context) (mark : Bool) (g d i y : ℕ) (v : View) (t : List ℕ) (ws : List Write) → Target at t (target at v)
+    → Moves (fitted t) false false mark g d i (target at v) y ws → Moves (fitted t) (isChoose at) false mark g d i (target at v) y (joining at g v ws)
+unfolding joining pick
+joining-moves at mark g d i y v t ws T M =
+    pick-of (Moves (fitted t) (isChoose at) false mark g d i (target at v) y) (isChoose at)
+    (λ e. let n : target at v ≡ v .free = chosen at v e in
+    record {
+      within = ((rw (← n) (T .some), rw (← n) (T .low)), M .within);
+      context = M .context;
+      property = M .property;
+      record′ = λ c w. M .record′ c (pick (eqb (v .free) c) g w) ∙ rw (n, e, and-true (eqb (v .free) c), and-false (eqb (v .free) c), and-false (eqb d c));
+      place = M .place;
+    })
+    (λ e. record {
+      within = M .within;
+      context = M .context;
+      property = M .property;
+      record′ = λ c w. rw e (M .record′ c w);
+      place = M .place;
+    })
+
+leaving-moves : (n : ℕ) (new mark : Bool) (g i x y : ℕ) (v : View) (ws : List Write) → 0 < v .here → v .here ≤ contexts → Moves n new false mark g (v .here) i x y ws
+    → Moves n new (leb (v .from .members) 1) mark g (v .here) i x y (leaving v ws)
 unfolding leaving pick
-leaving-moves n new g i x y v ws p q M =
-    pick-of (Moves n new (leb (v .from .members) 1) g (v .here) i x y) (leb (v .from .members) 1)
+leaving-moves n new mark g i x y v ws p q M =
+    pick-of (Moves n new (leb (v .from .members) 1) mark g (v .here) i x y) (leb (v .from .members) 1)
     (λ e. record {
       within = search M;
       context = M .context;
       property = M .property;
       record′ = λ c w. M .record′ c (pick (eqb (v .here) c) 0 w) ∙ rw (e, and-true (eqb (v .here) c), and-false (eqb (v .here) c));
+      place = M .place;
     })
     (λ e. record {
       within = search M;
       context = M .context;
       property = M .property;
       record′ = λ c w. rw e (M .record′ c w);
+      place = M .place;
     })
 
 -- a context that is joined
-joined : (at : Context) (g d i x y : ℕ) (t : List ℕ) (last : Bool) → Target at t x → Present g → i < terminations (fitted t) → get t (ctx i) ≡ d → x ≢ d → SoundWord y
-    → (0 < d → last ≡ leb (members d t) 1) → Goes t (isChoose at) last g d i x y
-joined at g d i x y t last T G h e n s ends =
+joined : (at : Context) (g d i x y : ℕ) (t : List ℕ) (last mark : Bool) → Target at t x → Present g → i < terminations (fitted t) → get t (ctx i) ≡ d → x ≢ d → SoundWord y
+    → (0 < d → last ≡ leb (members d t) 1) → (mark ≡ false → lineTerminations (fitted t) ≤ i → 0 < d) → Goes t (isChoose at) last mark g d i x y
+joined at g d i x y t last mark T G h e n s ends some =
     record {
       small = h;
       from = e;
@@ -203,6 +230,7 @@ joined at g d i x y t last T G h e n s ends =
       made = λ _. (G .some, G .low);
       there = λ e _. T .there e;
       ends = ends;
+      stays = λ m k. let p : 0 < d = some m k in omega (arith, T .some);
     }
 
 -- it exists then
@@ -248,30 +276,36 @@ moved-away at i x t W T h p n e = by (isChoose at) refl
     by false c = n (sym e ∙ T .named c)
 
 -- a termination that joins
-arrives : (op : Op) (at : Context) (given d i y : ℕ) (t : List ℕ) (last : Bool) (ws : List Write) → isModify op ≡ false
+arrives : (op : Op) (at : Context) (given d i y : ℕ) (t : List ℕ) (last mark : Bool) (ws : List Write) → isModify op ≡ false
     → ((c : Context) (u : List ℕ) → Joins c u → Ready op c u) → Whole t → Joins at t → Target at t (target at (look at i t))
-    → Moves (fitted t) (isChoose at) last given d i (target at (look at i t)) y ws → Goes t (isChoose at) last given d i (target at (look at i t)) y
+    → Moves (fitted t) (isChoose at) last mark given d i (target at (look at i t)) y ws → Goes t (isChoose at) last mark given d i (target at (look at i t)) y
     → Leaves op (settled at (look at i t)) t (apply ws t)
-arrives op at given d i y t last ws n r W j T m g =
+arrives op at given d i y t last mark ws n r W j T m g =
     let x : ℕ = target at (look at i t) in
-    let S = moved-sound t (isChoose at) last given d i x y ws W m g in
+    let S = moved-sound t (isChoose at) last mark given d i x y ws W m g in
     record {
       whole = S;
-      ready = r _ _ (joined-there at i (look at i t) t (apply ws t) j T (rw (fitted-apply ws t) (g .small)) S (moved-here t (isChoose at) last given d i x y ws W m g));
+      ready = r _ _ (joined-there at i (look at i t) t (apply ws t) j T (rw (fitted-apply ws t) (g .small)) S (moved-here t (isChoose at) last mark given d i x y ws W m g));
       meant = λ k u. record { small = rw (fitted-apply ws t) (u .small); there = λ e. absurd (clash (sym e ∙ n)) };
     }
 
+-- an ephemeral is no line
+no-line : (n i : ℕ) → isEphemeral n i ≡ false → lineTerminations n ≤ i → ⊥
+unfolding isEphemeral
+no-line n i e h = clash (sym (le-leb (lineTerminations n) i h) ∙ e)
+
 -- a termination that goes to null
 departs : (c given i : ℕ) (t : List ℕ) → Whole t → 0 < c → i < terminations (fitted t) → get t (ctx i) ≡ numberOf (Numbered c)
-    → Leaves Subtract (settled (Numbered c) (look (Numbered c) i t)) t (apply (leaving (look (Numbered c) i t) (placed i 0 (subtracted (fitted t) i (get t (cell (prop i)))))) t)
+    → Leaves Subtract (settled (Numbered c) (look (Numbered c) i t)) t (apply (leaving (look (Numbered c) i t) (marking (fitted t) i 0 (placed i 0 (subtracted (fitted t) i (get t (cell (prop i))))))) t)
 unfolding look numberOf settled isChoose isModify pick
 departs c given i t W h k e =
     let w : ℕ = get t (cell (prop i)) in
     let d : ℕ = get t (ctx i) in
     let b : 0 < d = rw e h in
     record {
-      whole = moved-sound t false (leb (seen d t .members) 1) given d i 0 (subtracted (fitted t) i w) _ W
-          (leaving-moves (fitted t) false given i 0 (subtracted (fitted t) i w) (look (Numbered c) i t) _ b (W .place i k) (placed-moves (fitted t) given d i 0 (subtracted (fitted t) i w) k))
+      whole = moved-sound t false (leb (seen d t .members) 1) (isEphemeral (fitted t) i) given d i 0 (subtracted (fitted t) i w) _ W
+          (leaving-moves (fitted t) false (isEphemeral (fitted t) i) given i 0 (subtracted (fitted t) i w) (look (Numbered c) i t) _ b (W .place i k)
+          (marking-moves (fitted t) given d i 0 (subtracted (fitted t) i w) 0 k refl))
           (record {
             small = k;
             from = refl;
@@ -283,9 +317,10 @@ departs c given i t W h k e =
             made = λ z. absurd (clash (sym z));
             there = λ _ z. absurd (omega arith);
             ends = λ z. ap (λ (m : ℕ). leb m 1) (here-low i t W k z);
+            stays = λ m l. absurd (no-line (fitted t) i m l);
           });
       ready = stands h;
-      meant = λ j m. record { small = rw (fitted-apply (leaving (look (Numbered c) i t) (placed i 0 (subtracted (fitted t) i w))) t) (m .small); there = λ z. absurd (clash (sym z)) };
+      meant = λ j m. record { small = rw (fitted-apply (leaving (look (Numbered c) i t) (marking (fitted t) i 0 (placed i 0 (subtracted (fitted t) i w)))) t) (m .small); there = λ z. absurd (clash (sym z)) };
     }
 
 pub attempt-sound : (op : Op) (at : Context) (given i : ℕ) (vs : Values) (t : List ℕ) → Whole t → Ready op at t → Meant op t i → Present given → Fair vs
@@ -296,9 +331,11 @@ attempt-sound Add at given i vs t W j M G F p =
     let w : ℕ = added (fitted t) i (get t (cell (prop i))) in
     let q = may-add at v p in
     let T = targeted at i t W j (q .1) in
-    arrives Add at given 0 i (update vs w) t false _ refl (λ c u k. k) W j T (joining-moves at given 0 i (update vs w) v t T (M .small))
-    (joined at given 0 i (target at v) (update vs w) t false T G (M .small) (q .0) (λ z. omega (arith, T .some))
-    (update-sound vs w F (added-sound (fitted t) i (get t (cell (prop i))) (W .word i (M .small)))) (λ z. absurd (omega arith)))
+    let k : Bool = isEphemeral (fitted t) i in
+    arrives Add at given 0 i (update vs w) t false k _ refl (λ c u k. k) W j T
+    (joining-moves at k given 0 i (update vs w) v t _ T (marking-moves (fitted t) given 0 i (target at v) (update vs w) 1 (M .small) (omega (arith, T .some))))
+    (joined at given 0 i (target at v) (update vs w) t false k T G (M .small) (q .0) (λ z. omega (arith, T .some))
+    (update-sound vs w F (added-sound (fitted t) i (get t (cell (prop i))) (W .word i (M .small)))) (λ z. absurd (omega arith)) (λ e h. absurd (no-line (fitted t) i e h)))
 attempt-sound Modify at given i vs t W j M G F p =
     let w : ℕ = get t (cell (prop i)) in
     record {
@@ -314,10 +351,11 @@ attempt-sound Move at given i vs t W j M G F p =
     let q = may-move at v p in
     let b : 0 < d = omega (arith, q .0) in
     let T = targeted at i t W j (q .2) in
-    arrives Move at given d i (update vs w) t (leb (seen d t .members) 1) _ refl (λ c u k. k) W j T
-    (leaving-moves (fitted t) (isChoose at) given i (target at v) (update vs w) v _ b (W .place i (M .small)) (joining-moves at given d i (update vs w) v t T (M .small)))
-    (joined at given d i (target at v) (update vs w) t (leb (seen d t .members) 1) T G (M .small) refl (moved-away at i (target at v) t W T (M .small) b (q .1))
-    (update-sound vs w F (W .word i (M .small))) (λ z. ap (λ (m : ℕ). leb m 1) (here-low i t W (M .small) z)))
+    arrives Move at given d i (update vs w) t (leb (seen d t .members) 1) false _ refl (λ c u k. k) W j T
+    (leaving-moves (fitted t) (isChoose at) false given i (target at v) (update vs w) v _ b (W .place i (M .small))
+    (joining-moves at false given d i (update vs w) v t _ T (placed-moves (fitted t) given d i (target at v) (update vs w) (M .small))))
+    (joined at given d i (target at v) (update vs w) t (leb (seen d t .members) 1) false T G (M .small) refl (moved-away at i (target at v) t W T (M .small) b (q .1))
+    (update-sound vs w F (W .word i (M .small))) (λ z. ap (λ (m : ℕ). leb m 1) (here-low i t W (M .small) z)) (λ _ _. b))
 
 -- ---- the attempts of a command
 

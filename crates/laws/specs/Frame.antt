@@ -1,4 +1,4 @@
--- Footprints. A footprint is a set N of terminations and a set K of contexts. The words of the footprint are those that a termination
+-- Footprints. A footprint is a set N of terminations and a set K of contexts. The slots of the footprint are those that a termination
 -- of N or a context of K owns; who stands in a context of K counts as part of it too.
 use Prim.Native.Nat.{ℕ, _+_, _≤_, _<_}
 use mathlib.Core.Path.{_≡_, refl, sym, ap, _∙_, subst}
@@ -11,11 +11,11 @@ use lib.Dec.{eqb}
 use borrow.Author.Tests.{ne-eqb}
 use native.Mathlib.Omega.{arith}
 use native.Mathlib.Decide.{ℕ-discrete}
-use Rattle.megaco.specs.Table.{terminations, contexts, words, fitted, prop, rec, offset, Slot, ctx, cell, get, Write, write, store, apply}
+use Rattle.megaco.specs.Table.{terminations, contexts, words, fitted, prop, rec, used, offset, Slot, ctx, cell, get, Write, write, store, apply}
 use Rattle.megaco.proofs.Sizes.{fitted-is}
 use Rattle.laws.specs.Slots.{Valid, length-store, fitted-store, get-other, store-comm}
 
--- whose a word is
+-- whose a slot is
 pub data Owner : Type 0 where
   termination context : ℕ → Owner
 
@@ -23,6 +23,7 @@ abbrev pub owner : Slot → Owner
 owner (ctx i) = termination i
 owner (cell (prop i)) = termination i
 owner (cell (rec c)) = context c
+owner (cell (used i)) = termination i
 
 module _ (lines : ℕ) (N K : ℕ → Type 0) where
   abbrev pub Mine : Owner → Type 0
@@ -80,7 +81,7 @@ module _ (lines : ℕ) (N K : ℕ → Type 0) where
   closed-store F (cell x) v t o c =
       record {
         long = length-store (write (cell x) v) t ∙ c .long;
-        home = λ i m. subst (λ (y : ℕ). 0 < y → K y) (sym (getD-set-other t (terminations (fitted t) + offset (fitted t) x) i v 0 (let h : i < terminations lines = F .small i m in omega (arith, fitted-is lines t (c .long))))) (c .home i m);
+        home = λ i m. subst (λ (y : ℕ). 0 < y → K y) (sym (getD-set-other t (terminations (fitted t) + offset (fitted t) x) i _ 0 (let h : i < terminations lines = F .small i m in omega (arith, fitted-is lines t (c .long))))) (c .home i m);
       }
   closed-store F (ctx j) v t o c = record { long = length-store (write (ctx j) v) t ∙ c .long; home = λ i m. at i m (ℕ-discrete i j) }
     where
@@ -126,7 +127,7 @@ module _ (lines : ℕ) (N K M L : ℕ → Type 0) where
       }
     where
       at : (r : Slot) → Ours lines M L r v → (d : ℕ) → K d → (i : ℕ) → i < terminations lines → eqb (get t (ctx i)) d ≡ eqb (get (store (write r v) t) (ctx i)) d
-      at (cell x) o d k i h = ap (λ (y : ℕ). eqb y d) (sym (getD-set-other t (terminations (fitted t) + offset (fitted t) x) i v 0 (omega (arith, fitted-is lines t (c .long)))))
+      at (cell x) o d k i h = ap (λ (y : ℕ). eqb y d) (sym (getD-set-other t (terminations (fitted t) + offset (fitted t) x) i _ 0 (omega (arith, fitted-is lines t (c .long)))))
       at (ctx j) o d k i h = by (ℕ-discrete i j)
         where
           by : Dec (i ≡ j) → eqb (get t (ctx i)) d ≡ eqb (getD (set t j v) i 0) d

@@ -1,6 +1,6 @@
 -- A sound table after writes. One law serves Add, Subtract and Move: a termination goes from where it stands to a context, null being 0.
-use Prim.Native.Nat.{ℕ, _+_, _≤_, _<_}
-use mathlib.Core.Path.{_≡_, refl, sym, _∙_, subst}
+use Prim.Native.Nat.{ℕ, _+_, _≤_, _<_, min}
+use mathlib.Core.Path.{_≡_, refl, sym, ap, _∙_, subst}
 use mathlib.Core.Logic.{_≢_}
 use mathlib.Core.Bool.{Bool, true, false, _&&_}
 use mathlib.Core.List.{List, [], _∷_}
@@ -9,9 +9,9 @@ use lib.Dec.{leb, eqb}
 use borrow.Author.Tests.{eqb-true, eq-eqb, leb-true, leb-false}
 use native.Mathlib.Omega.{arith}
 use Rattle.base.specs.Pick.{pick}
-use Rattle.megaco.specs.Table.{lineTerminations, terminations, contexts, words, fitted, most, prop, rec, ctx, cell, get, Write, write, apply, members}
+use Rattle.megaco.specs.Table.{lineTerminations, terminations, contexts, words, fitted, most, prop, rec, used, ctx, cell, get, Write, write, apply, members}
 use Rattle.base.proofs.TestLaws.{pick-of}
-use Rattle.laws.specs.Slots.{length-apply, fitted-apply, holds, Within, get-apply}
+use Rattle.laws.specs.Slots.{length-apply, fitted-apply, holds, Within, get-apply, narrow-apply}
 use Rattle.laws.specs.Counting.{one, members-same, members-moved}
 use Rattle.laws.specs.Sound.{SoundWord, SoundRecord, Whole}
 
@@ -22,6 +22,7 @@ pub record Lands (ws : List Write) (t : List ℕ) : Type 0 where
   pub word : (i : ℕ) → i < terminations (fitted t) → SoundWord (holds ws (cell (prop i)) (get t (cell (prop i))))
   pub absent : (i : ℕ) → lineTerminations (fitted t) ≤ i → i < terminations (fitted t) → holds ws (ctx i) (get t (ctx i)) ≡ 0 → holds ws (cell (prop i)) (get t (cell (prop i))) ≡ 0
   pub held : (c : ℕ) → 0 < c → c ≤ contexts → SoundRecord (holds ws (cell (rec c)) (get t (cell (rec c)))) (members c (apply ws t))
+  pub marked : (i : ℕ) → lineTerminations (fitted t) ≤ i → i < terminations (fitted t) → holds ws (cell (used i)) (get t (cell (used i))) ≡ min (holds ws (ctx i) (get t (ctx i))) 1
 
 pub landed : (ws : List Write) (t : List ℕ) → Whole t → Lands ws t → Whole (apply ws t)
 landed ws t W a =
@@ -37,19 +38,23 @@ landed ws t W a =
       word = λ i h. rw (get-apply n ws (cell (prop i)) t (a .within) (b i h) l) (a .word i (b i h));
       absent = λ i k h. rw (get-apply n ws (ctx i) t (a .within) (b i h) l, get-apply n ws (cell (prop i)) t (a .within) (b i h) l) (a .absent i (rw f at k) (b i h));
       held = λ c p q. rw (get-apply n ws (cell (rec c)) t (a .within) (p, q) l) (a .held c p q);
+      marked = λ i k h. get-apply n ws (cell (used i)) t (a .within) (rw f at k, b i h) l ∙ rw (get-apply n ws (ctx i) t (a .within) (b i h) l) (a .marked i (rw f at k) (b i h));
+      narrow = λ k h. rw f (narrow-apply n ws t (a .within) l (W .narrow) k h);
     }
 
 -- ---- a termination goes from d to x, with a property word y
 
--- what the writes leave: where x is new its record is made, g; where the termination was the last in d, the record of d ends
-pub record Moves (n : ℕ) (new last : Bool) (g d i x y : ℕ) (ws : List Write) : Type 0 where
+-- what the writes leave: where x is new its record is made, g; where the termination was the last in d, the record of d ends; where it is
+-- marked, its place in the map is
+pub record Moves (n : ℕ) (new last mark : Bool) (g d i x y : ℕ) (ws : List Write) : Type 0 where
   pub within : Within n ws
   pub context : (j v : ℕ) → holds ws (ctx j) v ≡ pick (eqb i j) x v
   pub property : (j v : ℕ) → holds ws (cell (prop j)) v ≡ pick (eqb i j) y v
   pub record′ : (c v : ℕ) → holds ws (cell (rec c)) v ≡ pick (eqb x c && new) g (pick (eqb d c && last) 0 v)
+  pub place : (j v : ℕ) → holds ws (cell (used j)) v ≡ pick (eqb i j && mark) (min x 1) v
 
 -- when a termination may go
-pub record Goes (t : List ℕ) (new last : Bool) (g d i x y : ℕ) : Type 0 where
+pub record Goes (t : List ℕ) (new last mark : Bool) (g d i x y : ℕ) : Type 0 where
   pub small : i < terminations (fitted t)
   pub from : get t (ctx i) ≡ d
   pub away : x ≢ d
@@ -60,8 +65,9 @@ pub record Goes (t : List ℕ) (new last : Bool) (g d i x y : ℕ) : Type 0 wher
   pub made : new ≡ true → (0 < g) × (g ≤ 32)
   pub there : new ≡ false → 0 < x → 0 < get t (cell (rec x))
   pub ends : 0 < d → last ≡ leb (members d t) 1
+  pub stays : mark ≡ false → lineTerminations (fitted t) ≤ i → min x 1 ≡ min d 1
 
-module _ (t : List ℕ) (new last : Bool) (g d i x y : ℕ) (ws : List Write) (W : Whole t) (M : Moves (fitted t) new last g d i x y ws) (G : Goes t new last g d i x y) where
+module _ (t : List ℕ) (new last mark : Bool) (g d i x y : ℕ) (ws : List Write) (W : Whole t) (M : Moves (fitted t) new last mark g d i x y ws) (G : Goes t new last mark g d i x y) where
   -- the termination stands there then, and the others where they stood
   moved-place : (j : ℕ) → j < terminations (fitted t) → get (apply ws t) (ctx j) ≡ pick (eqb i j) x (get t (ctx j))
   moved-place j h = get-apply (fitted t) ws (ctx j) t (M .within) h (W .long) ∙ M .context j (get t (ctx j))
@@ -107,6 +113,16 @@ module _ (t : List ℕ) (new last : Bool) (g d i x y : ℕ) (ws : List Write) (W
       omega arith
   moved-record c n p q a b false false _ _ e f k = let s = W .held c p q in omega arith
 
+  moved-mark : (j : ℕ) → lineTerminations (fitted t) ≤ j → j < terminations (fitted t) → (a b : Bool) → mark ≡ a → eqb i j ≡ b
+      → pick (b && a) (min x 1) (get t (cell (used j))) ≡ min (pick b x (get t (ctx j))) 1
+  unfolding pick
+  moved-mark j k h true true u e = refl
+  moved-mark j k h false true u e =
+      let z : i ≡ j = eqb-true i j e in
+      let o : get t (ctx j) ≡ d = subst (λ (l : ℕ). get t (ctx l) ≡ d) z (G .from) in
+      W .marked j k h ∙ ap (λ (l : ℕ). min l 1) o ∙ sym (G .stays u (omega arith))
+  moved-mark j k h a false u e = W .marked j k h
+
   pub moved-sound : Whole (apply ws t)
   moved-sound =
       landed ws t W
@@ -117,6 +133,7 @@ module _ (t : List ℕ) (new last : Bool) (g d i x y : ℕ) (ws : List Write) (W
         absent = λ j k h. rw (M .context j (get t (ctx j)), M .property j (get t (cell (prop j)))) (moved-absent j k h (eqb i j) refl);
         held = λ c p q. rw (M .record′ c (get t (cell (rec c))))
             (moved-record c (members c (apply ws t)) p q new last (eqb x c) (eqb d c) refl refl refl refl (moved-members c));
+        marked = λ j k h. rw (M .place j (get t (cell (used j))), M .context j (get t (ctx j))) (moved-mark j k h mark (eqb i j) refl refl);
       })
 
 -- ---- a word alone changes
@@ -138,6 +155,7 @@ modified-sound t i y W b s a =
       word = λ j h. pick-of SoundWord (eqb i j) (λ _. s) (λ _. W .word j h);
       absent = λ j k h z. pick-of (λ (v : ℕ). v ≡ 0) (eqb i j) (λ e. let n : i ≡ j = eqb-true i j e in a (omega arith) (rw n z)) (λ _. W .absent j k h z);
       held = λ c p q. rw (same c) (W .held c p q);
+      marked = W .marked;
     })
   where
     ws : List Write
@@ -158,6 +176,7 @@ recorded-sound t c r W p q h k l =
       word = W .word;
       absent = W .absent;
       held = λ e u v. rw (same e) (pick-of (λ (z : ℕ). SoundRecord z (members e t)) (eqb c e) (λ n. by e (eqb-true c e n) (W .held e u v)) (λ _. W .held e u v));
+      marked = W .marked;
     })
   where
     ws : List Write

@@ -1,17 +1,20 @@
--- Slots of the table: an address tells its slot back, so different slots never meet.
-use Prim.Native.Nat.{ℕ, zero, suc, _+_, _-_, _≤_, _<_}
-use mathlib.Core.Path.{_≡_, refl, sym, ap, ap₂, _∙_}
+-- Slots of the table: different slots never meet, not even where they share a word.
+use Prim.Native.Nat.{ℕ, zero, suc, _+_, _-_, _/_, _%_, _^_, _≤_, _<_}
+use mathlib.Core.Path.{_≡_, refl, sym, ap, ap₂, _∙_, subst}
 use mathlib.Core.Logic.{_≢_}
 use mathlib.Core.Bool.{Bool, true, false, _&&_}
 use mathlib.Core.List.{List, [], _∷_}
 use lib.ListN.{length, getD, set, length-set}
 use lib.Seq.{getD-set-same, getD-set-other, set-comm}
-use lib.Dec.{ltb, eqb}
-use borrow.Author.Tests.{lt-ltb, le-ltb, eqb-true, eq-eqb}
+use lib.Dec.{eqb}
+use borrow.Author.Tests.{eqb-true, eq-eqb}
 use native.Mathlib.Omega.{arith}
+use native.Mathlib.Decide.{ℕ-discrete}
 use Rattle.base.specs.Pick.{pick}
-use Rattle.megaco.specs.Table.{terminations, contexts, words, fitted, prop, rec, Slot, ctx, cell, address, get, Write, write, store, apply}
+use Rattle.megaco.specs.Table.{lineTerminations, terminations, contexts, mapStart, words, fitted, prop, rec, used, Slot, ctx, cell, address, told, kept, get, Write, write, store, apply}
+use Rattle.megaco.specs.Map.{digit, withDigit}
 use Rattle.megaco.proofs.Sizes.{fitted-is, fitted-same}
+use Rattle.megaco.proofs.Places.{digit-same, digit-other, digit-comm, with-below}
 use Rattle.base.proofs.TestLaws.{clash, and-both}
 
 -- ---- slots
@@ -21,36 +24,81 @@ abbrev pub Valid : ℕ → Slot → Type 0
 Valid n (ctx i) = i < terminations n
 Valid n (cell (prop i)) = i < terminations n
 Valid n (cell (rec c)) = (0 < c) × (c ≤ contexts)
+Valid n (cell (used i)) = (lineTerminations n ≤ i) × (i < terminations n)
 
--- the slot of an address
-unfoldable pub slotAt : ℕ → ℕ → Slot
-slotAt n a =
-    pick (ltb a (terminations n)) (ctx a)
-    (pick (ltb a (terminations n + terminations n)) (cell (prop (a - terminations n))) (cell (rec (a + 1 - (terminations n + terminations n)))))
+-- two slots share a word: they are places of the map, and other digits of it
+pub data Shared (n : ℕ) : Slot → Slot → Type 0 where
+  both : {i j : ℕ} → (i - lineTerminations n) % 32 ≢ (j - lineTerminations n) % 32 → Shared n (cell (used i)) (cell (used j))
 
-pub slot-address : (n : ℕ) (s : Slot) → Valid n s → slotAt n (address n s) ≡ s
-unfolding slotAt pick
-slot-address n (ctx i) h = rw (lt-ltb i (terminations n) h, slotAt)
-slot-address n (cell (prop i)) h =
-    let a : ℕ = terminations n + i in
-    let e : terminations n + i - terminations n ≡ i = omega arith in
-    rw (le-ltb a (terminations n) (omega arith), lt-ltb a (terminations n + terminations n) (omega arith), slotAt) (ap (λ (x : ℕ). cell (prop x)) e)
-slot-address n (cell (rec c)) h =
-    let a : ℕ = terminations n + (terminations n + (c - 1)) in
-    let e : terminations n + (terminations n + (c - 1)) + 1 - (terminations n + terminations n) ≡ c = omega arith in
-    rw (le-ltb a (terminations n) (omega arith), le-ltb a (terminations n + terminations n) (omega arith), slotAt) (ap (λ (x : ℕ). cell (rec x)) e)
+shared : (n : ℕ) (s r : Slot) → Valid n s → Valid n r → s ≢ r → address n s ≡ address n r → Shared n s r
+shared n (ctx i) (ctx j) h k d e = absurd (d (ap ctx e))
+shared n (ctx i) (cell (prop j)) h k d e = absurd (omega (arith, e))
+shared n (ctx i) (cell (rec c)) h k d e = absurd (omega (arith, e))
+shared n (ctx i) (cell (used j)) h k d e = absurd (omega (arith, e))
+shared n (cell (prop i)) (ctx j) h k d e = absurd (omega (arith, e))
+shared n (cell (prop i)) (cell (prop j)) h k d e = absurd (d (let q : i ≡ j = omega (arith, e) in ap (λ (x : ℕ). cell (prop x)) q))
+shared n (cell (prop i)) (cell (rec c)) h k d e = absurd (omega (arith, e))
+shared n (cell (prop i)) (cell (used j)) h k d e = absurd (omega (arith, e))
+shared n (cell (rec c)) (ctx j) h k d e = absurd (omega (arith, e))
+shared n (cell (rec c)) (cell (prop j)) h k d e = absurd (omega (arith, e))
+shared n (cell (rec c)) (cell (rec b)) h k d e = absurd (d (let q : c ≡ b = omega (arith, e) in ap (λ (x : ℕ). cell (rec x)) q))
+shared n (cell (rec c)) (cell (used j)) h k d e = absurd (omega (arith, e))
+shared n (cell (used i)) (ctx j) h k d e = absurd (omega (arith, e))
+shared n (cell (used i)) (cell (prop j)) h k d e = absurd (omega (arith, e))
+shared n (cell (used i)) (cell (rec c)) h k d e = absurd (omega (arith, e))
+shared n (cell (used i)) (cell (used j)) h k d e = both {i = i} {j = j} (λ z. d (let q : i ≡ j = omega (arith, e, z) in ap (λ (x : ℕ). cell (used x)) q))
 
-pub apart : (n : ℕ) (s r : Slot) → Valid n s → Valid n r → s ≢ r → address n s ≢ address n r
-apart n s r hs hr d e = d (sym (slot-address n s hs) ∙ ap (slotAt n) e ∙ slot-address n r hr)
+-- what a slot holds once v is put there
+abbrev pub held : Slot → ℕ → ℕ
+held (ctx i) v = v
+held (cell (prop i)) v = v
+held (cell (rec c)) v = v
+held (cell (used i)) v = v % 2
+
+told-kept : (n : ℕ) (s : Slot) (v word : ℕ) → told n s (kept n s v word) ≡ held s v
+told-kept n (ctx i) v word = refl
+told-kept n (cell (prop i)) v word = refl
+told-kept n (cell (rec c)) v word = refl
+told-kept n (cell (used i)) v word = digit-same ((i - lineTerminations n) % 32) (v % 2) word (omega arith) (omega arith)
+
+-- slots that share a word: the one tells nothing of the other, and they may be put in either order
+shared-told : (n : ℕ) (s r : Slot) → Shared n s r → (v word : ℕ) → told n s (kept n r v word) ≡ told n s word
+shared-told n _ _ (both {i = i} {j = j} d) v word = digit-other ((j - lineTerminations n) % 32) ((i - lineTerminations n) % 32) (v % 2) word (omega arith) d
+
+shared-comm : (n : ℕ) (s r : Slot) → Shared n s r → (u v word : ℕ) → kept n r v (kept n s u word) ≡ kept n s u (kept n r v word)
+shared-comm n _ _ (both {i = i} {j = j} d) u v word =
+    digit-comm ((i - lineTerminations n) % 32) ((j - lineTerminations n) % 32) (u % 2) (v % 2) word (omega arith) (omega arith) d
+
+-- ---- a word of a list changed by a function
+
+abbrev change : List ℕ → ℕ → (ℕ → ℕ) → List ℕ
+change t a f = set t a (f (getD t a 0))
+
+change-tells : (P f : ℕ → ℕ) (t : List ℕ) (a : ℕ) → ((w : ℕ) → P (f w) ≡ P w) → P (getD (change t a f) a 0) ≡ P (getD t a 0)
+change-tells P f [] a h = refl
+change-tells P f (x ∷ t) zero h = h x
+change-tells P f (x ∷ t) (suc a) h = change-tells P f t a h
+
+change-twice : (f g : ℕ → ℕ) (t : List ℕ) (a : ℕ) → ((w : ℕ) → g (f w) ≡ f (g w)) → change (change t a f) a g ≡ change (change t a g) a f
+change-twice f g [] a h = refl
+change-twice f g (x ∷ t) zero h = ap (λ (y : ℕ). y ∷ t) (h x)
+change-twice f g (x ∷ t) (suc a) h = ap (λ (l : List ℕ). x ∷ l) (change-twice f g t a h)
+
+change-comm : (f g : ℕ → ℕ) (t : List ℕ) (a b : ℕ) → a ≢ b → change (change t a f) b g ≡ change (change t b g) a f
+change-comm f g t a b d =
+    ap (λ (w : ℕ). set (change t a f) b (g w)) (getD-set-other t a b (f (getD t a 0)) 0 (λ e. d (sym e)))
+    ∙ set-comm t a b (f (getD t a 0)) (g (getD t b 0)) d
+    ∙ sym (ap (λ (w : ℕ). set (change t b g) a (f w)) (getD-set-other t b a (g (getD t b 0)) 0 d))
 
 -- a slot lies in the table
 pub address-below : (n : ℕ) (s : Slot) → Valid n s → address n s < words n
 address-below n (ctx i) h = omega arith
 address-below n (cell (prop i)) h = omega arith
 address-below n (cell (rec c)) h = omega arith
+address-below n (cell (used i)) h = omega arith
 
 pub length-store : (w : Write) (t : List ℕ) → length (store w t) ≡ length t
-length-store (write s v) t = length-set t (address (fitted t) s) v
+length-store (write s v) t = length-set t (address (fitted t) s) _
 
 pub fitted-store : (w : Write) (t : List ℕ) → fitted (store w t) ≡ fitted t
 fitted-store w t = fitted-same (store w t) t (length-store w t)
@@ -64,29 +112,43 @@ pub fitted-apply : (ws : List Write) (t : List ℕ) → fitted (apply ws t) ≡ 
 fitted-apply ws t = fitted-same (apply ws t) t (length-apply ws t)
 
 -- a table of n lines, by addresses
-get-is : (n : ℕ) (s : Slot) (t : List ℕ) → fitted t ≡ n → get t s ≡ getD t (address n s) 0
-get-is n s t f = ap (λ (m : ℕ). getD t (address m s) 0) f
+get-is : (n : ℕ) (s : Slot) (t : List ℕ) → fitted t ≡ n → get t s ≡ told n s (getD t (address n s) 0)
+get-is n s t f = ap (λ (m : ℕ). told m s (getD t (address m s) 0)) f
 
-store-is : (n : ℕ) (s : Slot) (v : ℕ) (t : List ℕ) → fitted t ≡ n → store (write s v) t ≡ set t (address n s) v
-store-is n s v t f = ap (λ (m : ℕ). set t (address m s) v) f
+store-is : (n : ℕ) (s : Slot) (v : ℕ) (t : List ℕ) → fitted t ≡ n → store (write s v) t ≡ change t (address n s) (kept n s v)
+store-is n s v t f = ap (λ (m : ℕ). change t (address m s) (kept m s v)) f
 
 -- what a slot holds after a store
-get-stored : (n : ℕ) (r s : Slot) (v : ℕ) (t : List ℕ) → fitted t ≡ n → get (store (write r v) t) s ≡ getD (set t (address n r) v) (address n s) 0
-get-stored n r s v t f = get-is n s (store (write r v) t) (fitted-store (write r v) t ∙ f) ∙ ap (λ (u : List ℕ). getD u (address n s) 0) (store-is n r v t f)
+get-stored : (n : ℕ) (r s : Slot) (v : ℕ) (t : List ℕ) → fitted t ≡ n → get (store (write r v) t) s ≡ told n s (getD (change t (address n r) (kept n r v)) (address n s) 0)
+get-stored n r s v t f = get-is n s (store (write r v) t) (fitted-store (write r v) t ∙ f) ∙ ap (λ (u : List ℕ). told n s (getD u (address n s) 0)) (store-is n r v t f)
 
-pub get-same : (n : ℕ) (s : Slot) (v : ℕ) (t : List ℕ) → fitted t ≡ n → address n s < length t → get (store (write s v) t) s ≡ v
-get-same n s v t f h = get-stored n s s v t f ∙ getD-set-same t (address n s) v 0 h
+pub get-same : (n : ℕ) (s : Slot) (v : ℕ) (t : List ℕ) → fitted t ≡ n → address n s < length t → get (store (write s v) t) s ≡ held s v
+get-same n s v t f h =
+    get-stored n s s v t f ∙ ap (told n s) (getD-set-same t (address n s) (kept n s v (getD t (address n s) 0)) 0 h) ∙ told-kept n s v (getD t (address n s) 0)
 
 pub get-other : (n : ℕ) (s r : Slot) (v : ℕ) (t : List ℕ) → fitted t ≡ n → Valid n s → Valid n r → s ≢ r → get (store (write r v) t) s ≡ get t s
-get-other n s r v t f hs hr d = get-stored n r s v t f ∙ getD-set-other t (address n r) (address n s) v 0 (apart n s r hs hr d) ∙ sym (get-is n s t f)
+get-other n s r v t f hs hr d = get-stored n r s v t f ∙ by (ℕ-discrete (address n s) (address n r)) ∙ sym (get-is n s t f)
+  where
+    by : Dec (address n s ≡ address n r) → told n s (getD (change t (address n r) (kept n r v)) (address n s) 0) ≡ told n s (getD t (address n s) 0)
+    by (yes e) =
+        subst (λ (a : ℕ). told n s (getD (change t a (kept n r v)) (address n s) 0) ≡ told n s (getD t (address n s) 0)) e
+        (change-tells (told n s) (kept n r v) t (address n s) (shared-told n s r (shared n s r hs hr d e) v))
+    by (no o) = ap (told n s) (getD-set-other t (address n r) (address n s) (kept n r v (getD t (address n r) 0)) 0 o)
 
 pub store-comm : (n : ℕ) (s r : Slot) (u v : ℕ) (t : List ℕ) → fitted t ≡ n → Valid n s → Valid n r → s ≢ r
     → store (write r v) (store (write s u) t) ≡ store (write s u) (store (write r v) t)
-store-comm n s r u v t f hs hr d =
-    twice s r u v ∙ set-comm t (address n s) (address n r) u v (apart n s r hs hr d) ∙ sym (twice r s v u)
+store-comm n s r u v t f hs hr d = twice s r u v ∙ by (ℕ-discrete (address n s) (address n r)) ∙ sym (twice r s v u)
   where
-    twice : (s r : Slot) (u v : ℕ) → store (write r v) (store (write s u) t) ≡ set (set t (address n s) u) (address n r) v
-    twice s r u v = store-is n r v (store (write s u) t) (fitted-store (write s u) t ∙ f) ∙ ap (λ (x : List ℕ). set x (address n r) v) (store-is n s u t f)
+    twice : (s r : Slot) (u v : ℕ) → store (write r v) (store (write s u) t) ≡ change (change t (address n s) (kept n s u)) (address n r) (kept n r v)
+    twice s r u v =
+        store-is n r v (store (write s u) t) (fitted-store (write s u) t ∙ f) ∙ ap (λ (x : List ℕ). change x (address n r) (kept n r v)) (store-is n s u t f)
+
+    by : Dec (address n s ≡ address n r)
+        → change (change t (address n s) (kept n s u)) (address n r) (kept n r v) ≡ change (change t (address n r) (kept n r v)) (address n s) (kept n s u)
+    by (yes e) =
+        subst (λ (a : ℕ). change (change t (address n s) (kept n s u)) a (kept n r v) ≡ change (change t a (kept n r v)) (address n s) (kept n s u)) e
+        (change-twice (kept n s u) (kept n r v) t (address n s) (shared-comm n s r (shared n s r hs hr d e) u v))
+    by (no o) = change-comm (kept n s u) (kept n r v) t (address n s) (address n r) o
 
 -- ---- what a slot holds after writes
 
@@ -95,21 +157,25 @@ abbrev kind : Slot → ℕ
 kind (ctx i) = 0
 kind (cell (prop i)) = 1
 kind (cell (rec c)) = 2
+kind (cell (used i)) = 3
 
 abbrev index : Slot → ℕ
 index (ctx i) = i
 index (cell (prop i)) = i
 index (cell (rec c)) = c
+index (cell (used i)) = i
 
 abbrev slotOf : ℕ → ℕ → Slot
 slotOf zero i = ctx i
 slotOf (suc zero) i = cell (prop i)
-slotOf (suc (suc k)) c = cell (rec c)
+slotOf (suc (suc zero)) c = cell (rec c)
+slotOf (suc (suc (suc k))) i = cell (used i)
 
 slot-of : (s : Slot) → slotOf (kind s) (index s) ≡ s
 slot-of (ctx i) = refl
 slot-of (cell (prop i)) = refl
 slot-of (cell (rec c)) = refl
+slot-of (cell (used i)) = refl
 
 -- the same slot: computed as far as the kinds tell
 abbrev pub alike : Slot → Slot → Bool
@@ -123,18 +189,18 @@ alike-same r s e =
 pub alike-self : (s : Slot) → alike s s ≡ true
 alike-self s = rw (eq-eqb (kind s) (kind s) refl, eq-eqb (index s) (index s) refl)
 
-pub get-store : (n : ℕ) (r s : Slot) (v : ℕ) (t : List ℕ) → Valid n r → Valid n s → length t ≡ words n → get (store (write r v) t) s ≡ pick (alike r s) v (get t s)
+pub get-store : (n : ℕ) (r s : Slot) (v : ℕ) (t : List ℕ) → Valid n r → Valid n s → length t ≡ words n → get (store (write r v) t) s ≡ pick (alike r s) (held r v) (get t s)
 unfolding pick
 get-store n r s v t hr hs l = by (alike r s) refl
   where
-    by : (b : Bool) → alike r s ≡ b → get (store (write r v) t) s ≡ pick b v (get t s)
+    by : (b : Bool) → alike r s ≡ b → get (store (write r v) t) s ≡ pick b (held r v) (get t s)
     by true e = rw (alike-same r s e) (get-same n s v t (fitted-is n t l) (omega (arith, address-below n s hs)))
     by false e = get-other n s r v t (fitted-is n t l) hs hr (λ q. clash (sym (alike-self r) ∙ ap (alike r) (sym q) ∙ e))
 
 -- what a slot holds after writes, given what it holds before
 abbrev pub holds : List Write → Slot → ℕ → ℕ
 holds [] s x = x
-holds (write r v ∷ ws) s x = holds ws s (pick (alike r s) v x)
+holds (write r v ∷ ws) s x = holds ws s (pick (alike r s) (held r v) x)
 
 -- every write is to a slot of the table
 abbrev pub Within : ℕ → List Write → Type 0
@@ -146,3 +212,28 @@ unfolding apply
 get-apply n [] s t h v l = refl
 get-apply n (write r x ∷ ws) s t h v l =
     get-apply n ws s (store (write r x) t) (h .1) v (length-store (write r x) t ∙ l) ∙ ap (holds ws s) (get-store n r s x t (h .0) v l)
+
+-- ---- the map's words keep their 32 bits
+
+-- a slot at a word of the map holds one of its digits
+kept-narrow : (n : ℕ) (s : Slot) (v word k : ℕ) → Valid n s → k < 2 → mapStart n + k ≡ address n s → kept n s v word < 2 ^ 32
+kept-narrow n (ctx i) v word k h b e = absurd (omega (arith, e))
+kept-narrow n (cell (prop i)) v word k h b e = absurd (omega (arith, e))
+kept-narrow n (cell (rec c)) v word k h b e = absurd (omega (arith, e))
+kept-narrow n (cell (used i)) v word k h b e = with-below ((i - lineTerminations n) % 32) (v % 2) word (omega arith)
+
+narrow-store : (n : ℕ) (s : Slot) (v : ℕ) (t : List ℕ) → Valid n s → length t ≡ words n → ((k : ℕ) → k < 2 → getD t (mapStart n + k) 0 < 2 ^ 32)
+    → (k : ℕ) → k < 2 → getD (store (write s v) t) (mapStart n + k) 0 < 2 ^ 32
+narrow-store n s v t h l f k b = rw (store-is n s v t (fitted-is n t l)) (by (ℕ-discrete (mapStart n + k) (address n s)))
+  where
+    by : Dec (mapStart n + k ≡ address n s) → getD (change t (address n s) (kept n s v)) (mapStart n + k) 0 < 2 ^ 32
+    by (yes e) =
+        rw (e, getD-set-same t (address n s) (kept n s v (getD t (address n s) 0)) 0 (omega (arith, address-below n s h)))
+        (kept-narrow n s v (getD t (address n s) 0) k h b e)
+    by (no o) = rw (getD-set-other t (address n s) (mapStart n + k) (kept n s v (getD t (address n s) 0)) 0 o) (f k b)
+
+pub narrow-apply : (n : ℕ) (ws : List Write) (t : List ℕ) → Within n ws → length t ≡ words n → ((k : ℕ) → k < 2 → getD t (mapStart n + k) 0 < 2 ^ 32)
+    → (k : ℕ) → k < 2 → getD (apply ws t) (mapStart n + k) 0 < 2 ^ 32
+unfolding apply
+narrow-apply n [] t h l f = f
+narrow-apply n (write s v ∷ ws) t h l f = narrow-apply n ws (store (write s v) t) (h .1) (length-store (write s v) t ∙ l) (narrow-store n s v t (h .0) l f)

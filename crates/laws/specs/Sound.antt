@@ -1,18 +1,20 @@
 -- A sound table (document 01, 'The lent table') as facts by the number of a termination and of a context, and both ways to the test `sound`.
-use Prim.Native.Nat.{ℕ, zero, suc, _+_, _-_, _≤_, _<_, min}
+use Prim.Native.Nat.{ℕ, zero, suc, _+_, _-_, _*_, _/_, _%_, _^_, _≤_, _<_, min}
 use mathlib.Core.Path.{_≡_, refl, sym, ap, _∙_}
 use mathlib.Core.Bool.{Bool, true, false, not, _&&_}
-use mathlib.Core.List.{List, [], _∷_}
-use lib.ListN.{length, replicate, getD, drop, length-take, length-drop}
+use mathlib.Core.List.{List, [], _∷_, _++_}
+use lib.ListN.{length, replicate, getD, drop, length-take, length-drop, length-append, List·getD-append}
 use lib.Seq.{getD-take, getD-drop}
 use lib.Dec.{ltb, leb, eqb}
 use borrow.Author.Tests.{eqb-true, eqb-false, eq-eqb, ne-eqb, ltb-true, lt-ltb, leb-true, le-leb, not-true, not-false}
 use native.Mathlib.Nat.{add-zero}
 use native.Mathlib.Omega.{arith}
 use Rattle.base.specs.Pick.{pick}
-use Rattle.base.specs.Lists.{every, count}
-use Rattle.megaco.specs.Table.{lineTerminations, ephemerals, terminations, contexts, words, mostLines, fitted, Sized, most, prop, rec, ctx, cell, get, contextWords, propertyWords, recordWords, ephemeralContexts, ephemeralProperties, members, modeOf, stateOf, isPropertyWord, absentAreZero, recordIsSound, recordsAreSound, sized, sound}
-use Rattle.base.proofs.TestLaws.{and-both, both-and, pick-both, both-pick, pick-other, other-pick, below, below-at}
+use Rattle.base.specs.Lists.{every, count, same, lowestAbsent}
+use Rattle.megaco.specs.Table.{lineTerminations, ephemerals, terminations, contexts, words, mostLines, fitted, Sized, most, mapStart, prop, rec, used, ctx, cell, get, mapWords, places, freeEphemeral, usedEphemerals, contextWords, propertyWords, recordWords, ephemeralContexts, ephemeralProperties, members, modeOf, stateOf, isPropertyWord, absentAreZero, recordIsSound, recordsAreSound, sized, mapIsSound, sound}
+use Rattle.megaco.specs.Map.{digits, digit, marks, inUse}
+use Rattle.megaco.proofs.Places.{length-digits, digits-joined, length-marks, marks-at, same-at, walk-marks, count-marks}
+use Rattle.base.proofs.TestLaws.{same-is, and-both, both-and, pick-both, both-pick, pick-other, other-pick, below, below-at}
 use Rattle.megaco.proofs.Sizes.{sized-is, is-sized}
 
 -- ---- facts
@@ -38,6 +40,10 @@ pub record Whole (t : List ℕ) : Type 0 where
   -- "an absent ephemeral's property 0"
   pub absent : (i : ℕ) → lineTerminations (fitted t) ≤ i → i < terminations (fitted t) → get t (ctx i) ≡ 0 → get t (cell (prop i)) ≡ 0
   pub held : (c : ℕ) → 0 < c → c ≤ contexts → SoundRecord (get t (cell (rec c))) (members c t)
+  -- "bit n − 1 set exactly when R/n exists"
+  pub marked : (i : ℕ) → lineTerminations (fitted t) ≤ i → i < terminations (fitted t) → get t (cell (used i)) ≡ min (get t (ctx i)) 1
+  -- the map's words are "of 32 bits"
+  pub narrow : (k : ℕ) → k < 2 → getD t (mapStart (fitted t) + k) 0 < 2 ^ 32
 
 -- a context has a record exactly when some termination stands in it
 pub alive : (t : List ℕ) → Whole t → (c : ℕ) → 0 < c → c ≤ contexts → 0 < members c t → 0 < get t (cell (rec c))
@@ -140,6 +146,10 @@ module _ (t : List ℕ) (l : length t ≡ words (fitted t)) where
   unfolding propertyWords
   property-words = simp (length-take, length-drop) (omega arith)
 
+  map-words : length (mapWords t) ≡ 2
+  unfolding mapWords
+  map-words = simp (length-take, length-drop) (omega arith)
+
   pub record-words : length (recordWords t) ≡ contexts
   unfolding recordWords
   record-words = simp (length-take, length-drop) (omega arith)
@@ -160,6 +170,10 @@ pub property-at : (t : List ℕ) (i : ℕ) → i < terminations (fitted t) → g
 unfolding propertyWords
 property-at t i h = getD-take (terminations (fitted t)) (drop (terminations (fitted t)) t) i 0 h ∙ getD-drop (terminations (fitted t)) t i 0
 
+map-word-at : (t : List ℕ) (k : ℕ) → k < 2 → getD (mapWords t) k 0 ≡ getD t (mapStart (fitted t) + k) 0
+unfolding mapWords
+map-word-at t k h = getD-take 2 (drop (mapStart (fitted t)) t) k 0 h ∙ getD-drop (mapStart (fitted t)) t k 0
+
 pub record-at : (t : List ℕ) (k : ℕ) → k < contexts → getD (recordWords t) k 0 ≡ get t (cell (rec (1 + k)))
 unfolding recordWords
 record-at t k h =
@@ -176,32 +190,77 @@ ephemeral-property-at t k h = getD-drop (lineTerminations (fitted t)) (propertyW
 
 -- ---- the test of a table
 
--- the five tests of `sound`, one by one
-record FiveTests (t : List ℕ) : Type 0 where
+-- the seven tests of `sound`, one by one
+record SevenTests (t : List ℕ) : Type 0 where
   size : sized t ≡ true
-  places : every (λ w. leb w contexts) (contextWords t) ≡ true
+  stand : every (λ w. leb w contexts) (contextWords t) ≡ true
   properties : every isPropertyWord (propertyWords t) ≡ true
   absents : absentAreZero (ephemeralContexts t) (ephemeralProperties t) ≡ true
   records : recordsAreSound (contextWords t) 1 (recordWords t) ≡ true
+  map : same (places t) (marks (ephemeralContexts t)) ≡ true
+  narrow : every (λ w. ltb w (2 ^ 32)) (mapWords t) ≡ true
 
-sound-tests : (t : List ℕ) → sound t ≡ true → FiveTests t
-unfolding sound
+sound-tests : (t : List ℕ) → sound t ≡ true → SevenTests t
+unfolding sound mapIsSound
 sound-tests t e =
     let b₁ = and-both _ _ e in
     let b₂ = and-both _ _ (b₁ .0) in
     let b₃ = and-both _ _ (b₂ .0) in
     let b₄ = and-both _ _ (b₃ .0) in
-    record { size = b₄ .0; places = b₄ .1; properties = b₃ .1; absents = b₂ .1; records = b₁ .1 }
+    let b₅ = and-both _ _ (b₄ .0) in
+    let m = and-both _ _ (b₁ .1) in
+    record { size = b₅ .0; stand = b₅ .1; properties = b₄ .1; absents = b₃ .1; records = b₂ .1; map = m .1; narrow = m .0 }
 
-tests-sound : (t : List ℕ) → FiveTests t → sound t ≡ true
-unfolding sound
-tests-sound t s = rw (s .size, s .places, s .properties, s .absents, s .records)
+tests-sound : (t : List ℕ) → SevenTests t → sound t ≡ true
+unfolding sound mapIsSound
+tests-sound t s = rw (s .size, s .stand, s .properties, s .absents, s .records, s .narrow, s .map)
+
+-- ---- the places of the map
+
+getD-right : (a b : List ℕ) (k j : ℕ) → k ≡ length a + j → getD (a ++ b) k 0 ≡ getD b j 0
+getD-right [] b k j e = ap (λ (x : ℕ). getD b x 0) (omega (arith, e))
+getD-right (x ∷ a) b zero j e = absurd (omega (arith, e))
+getD-right (x ∷ a) b (suc k) j e = getD-right a b k j (omega (arith, e))
+
+pub places-long : (t : List ℕ) → length (places t) ≡ ephemerals
+unfolding places
+places-long t = simp (length-append, length-digits) refl
+
+pub place-at : (t : List ℕ) (k : ℕ) → k < ephemerals → getD (places t) k 0 ≡ get t (cell (used (lineTerminations (fitted t) + k)))
+unfolding places digit
+place-at t k h = by (k / 32) refl
+  where
+    L : ℕ
+    L = lineTerminations (fitted t)
+
+    a : ℕ
+    a = mapStart (fitted t)
+
+    from : (q : ℕ) → a + (L + k - L) / 32 ≡ q → getD t q 0 ≡ getD t (terminations (fitted t) + (terminations (fitted t) + contexts + (L + k - L) / 32)) 0
+    from q e = ap (λ (x : ℕ). getD t x 0) (omega (arith, e))
+
+    by : (q : ℕ) → k / 32 ≡ q → getD (digits 32 (getD t a 0) ++ digits 32 (getD t (a + 1) 0)) k 0
+        ≡ getD (digits 32 (getD t (terminations (fitted t) + (terminations (fitted t) + contexts + (L + k - L) / 32)) 0)) ((L + k - L) % 32) 0
+    by zero e =
+        let m : k ≡ (L + k - L) % 32 = omega (arith, e) in
+        List·getD-append (digits 32 (getD t a 0)) (digits 32 (getD t (a + 1) 0)) 0 k (omega (arith, e, length-digits 32 (getD t a 0)))
+        ∙ (λ j. getD (digits 32 (from a (omega (arith, e)) j)) (m j) 0)
+    by (suc zero) e =
+        let m : k - 32 ≡ (L + k - L) % 32 = omega (arith, e) in
+        getD-right (digits 32 (getD t a 0)) (digits 32 (getD t (a + 1) 0)) k (k - 32) (omega (arith, e, length-digits 32 (getD t a 0)))
+        ∙ (λ j. getD (digits 32 (from (a + 1) (omega (arith, e)) j)) (m j) 0)
+    by (suc (suc q)) e = absurd (omega (arith, e))
+
+mark-is : (x : ℕ) → pick (eqb x 0) 0 1 ≡ min x 1
+unfolding pick
+mark-is zero = refl
+mark-is (suc x) = rw (ne-eqb (suc x) 0 (λ e. omega (arith, e))) (omega arith)
 
 pub sound-whole : (t : List ℕ) → sound t ≡ true → Whole t
 unfolding members
-sound-whole t e = record { some = size .some; few = size .few; long = long; place = place; word = word; absent = absent; held = held }
+sound-whole t e = record { some = size .some; few = size .few; long = long; place = place; word = word; absent = absent; held = held; marked = marked; narrow = narrow }
   where
-    s : FiveTests t
+    s : SevenTests t
     s = sound-tests t e
 
     size : Sized t
@@ -212,7 +271,7 @@ sound-whole t e = record { some = size .some; few = size .few; long = long; plac
 
     place : (i : ℕ) → i < terminations (fitted t) → get t (ctx i) ≤ contexts
     place i h =
-        rw (context-at t i h) at (leb-true (getD (contextWords t) i 0) contexts (every-at (λ w. leb w contexts) (contextWords t) (s .places) i (omega (arith, context-words t long))))
+        rw (context-at t i h) at (leb-true (getD (contextWords t) i 0) contexts (every-at (λ w. leb w contexts) (contextWords t) (s .stand) i (omega (arith, context-words t long))))
 
     word : (i : ℕ) → i < terminations (fitted t) → SoundWord (get t (cell (prop i)))
     word i h =
@@ -233,16 +292,30 @@ sound-whole t e = record { some = size .some; few = size .few; long = long; plac
         let b : k < contexts = omega arith in
         rw n (rw (record-at t k b) at (records-at (contextWords t) 1 (recordWords t) (s .records) k (omega (arith, record-words t long))))
 
+    narrow : (k : ℕ) → k < 2 → getD t (mapStart (fitted t) + k) 0 < 2 ^ 32
+    narrow k h = ltb-true _ _ (rw (map-word-at t k h) at (every-at (λ w. ltb w (2 ^ 32)) (mapWords t) (s .narrow) k (omega (arith, map-words t long))))
+
+    marked : (i : ℕ) → lineTerminations (fitted t) ≤ i → i < terminations (fitted t) → get t (cell (used i)) ≡ min (get t (ctx i)) 1
+    marked i k h =
+        let j : ℕ = i - lineTerminations (fitted t) in
+        let n : i ≡ lineTerminations (fitted t) + j = omega arith in
+        let b : j < ephemerals = omega arith in
+        let p : getD (places t) j 0 ≡ getD (marks (ephemeralContexts t)) j 0 = ap (λ (l : List ℕ). getD l j 0) (same-is (places t) (marks (ephemeralContexts t)) (s .map)) in
+        let q = marks-at (ephemeralContexts t) j (omega (arith, ephemeral-contexts t long)) ∙ mark-is (getD (ephemeralContexts t) j 0) in
+        rw n (sym (place-at t j b) ∙ p ∙ q ∙ ap (λ (x : ℕ). min x 1) (ephemeral-context-at t j b))
+
 pub whole-sound : (t : List ℕ) → Whole t → sound t ≡ true
 unfolding members
 whole-sound t w =
     tests-sound t
     (record {
       size = is-sized t (record { some = w .some; few = w .few; long = w .long });
-      places = at-every (λ x. leb x contexts) (contextWords t) place;
+      stand = at-every (λ x. leb x contexts) (contextWords t) place;
       properties = at-every isPropertyWord (propertyWords t) word;
       absents = at-absent (ephemeralContexts t) (ephemeralProperties t) absent;
       records = at-records (contextWords t) 1 (recordWords t) held;
+      map = same-at (places t) (marks (ephemeralContexts t)) (places-long t ∙ sym (length-marks (ephemeralContexts t) ∙ ephemeral-contexts t (w .long))) marked;
+      narrow = at-every (λ x. ltb x (2 ^ 32)) (mapWords t) narrow;
     })
   where
     place : (i : ℕ) → i < length (contextWords t) → leb (getD (contextWords t) i 0) contexts ≡ true
@@ -265,9 +338,41 @@ whole-sound t w =
         let b : i < contexts = omega (arith, record-words t (w .long)) in
         rw (record-at t i b) (w .held (1 + i) (omega arith) (omega arith))
 
+    narrow : (k : ℕ) → k < length (mapWords t) → ltb (getD (mapWords t) k 0) (2 ^ 32) ≡ true
+    narrow k h = let b : k < 2 = omega (arith, map-words t (w .long)) in rw (map-word-at t k b) (lt-ltb _ _ (w .narrow k b))
+
+    marked : (k : ℕ) → k < length (places t) → getD (places t) k 0 ≡ getD (marks (ephemeralContexts t)) k 0
+    marked k h =
+        let b : k < ephemerals = omega (arith, places-long t) in
+        place-at t k b ∙ w .marked (lineTerminations (fitted t) + k) (omega arith) (omega arith)
+        ∙ sym (marks-at (ephemeralContexts t) k (omega (arith, ephemeral-contexts t (w .long))) ∙ mark-is (getD (ephemeralContexts t) k 0) ∙ ap (λ (x : ℕ). min x 1) (ephemeral-context-at t k b))
+
+-- "on any sound table proved equal to the full walk"
+pub free-walk : (t : List ℕ) → sound t ≡ true → freeEphemeral t ≡ lowestAbsent 1 (ephemeralContexts t)
+unfolding freeEphemeral
+free-walk t e = ap (lowestAbsent 1) (same-is (places t) (marks (ephemeralContexts t)) (sound-tests t e .map)) ∙ walk-marks 1 (ephemeralContexts t)
+
+pub used-walk : (t : List ℕ) → sound t ≡ true → usedEphemerals t ≡ inUse (ephemeralContexts t)
+unfolding usedEphemerals
+used-walk t e = ap inUse (same-is (places t) (marks (ephemeralContexts t)) (sound-tests t e .map)) ∙ count-marks (ephemeralContexts t)
+
+-- the map "given as one number"
+module _ (t : List ℕ) (e : sound t ≡ true) (low high : ℕ) (p : low ≡ getD t (mapStart (fitted t)) 0) (q : high ≡ getD t (mapStart (fitted t) + 1) 0) where
+  number-places : digits 64 (low + high * 2 ^ 32) ≡ places t
+  unfolding places
+  number-places = digits-joined 32 32 low high (rw p (rw add-zero at (sound-whole t e .narrow 0 (omega arith)))) ∙ rw (p, q)
+
+  pub number-free : lowestAbsent 1 (digits 64 (low + high * 2 ^ 32)) ≡ lowestAbsent 1 (ephemeralContexts t)
+  unfolding freeEphemeral
+  number-free = ap (lowestAbsent 1) number-places ∙ free-walk t e
+
+  pub number-used : inUse (digits 64 (low + high * 2 ^ 32)) ≡ inUse (ephemeralContexts t)
+  unfolding usedEphemerals
+  number-used = ap inUse number-places ∙ used-walk t e
+
 -- "All zero is the fresh table", of any count of lines: one test computed over all of them
 fresh-all : below (λ k. sound (replicate (words (k + 1)) 0)) mostLines ≡ true
-unfolding below fitted sized sound contextWords propertyWords recordWords ephemeralContexts ephemeralProperties every isPropertyWord absentAreZero recordIsSound recordsAreSound count pick
+unfolding below fitted sized sound contextWords propertyWords recordWords ephemeralContexts ephemeralProperties mapWords places digits marks same mapIsSound every isPropertyWord absentAreZero recordIsSound recordsAreSound count pick
 fresh-all = refl
 
 pub fresh-sound : (n : ℕ) → 0 < n → n ≤ mostLines → sound (replicate (words n) 0) ≡ true

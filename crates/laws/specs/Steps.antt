@@ -136,7 +136,7 @@ module _ (lines : ℕ) (N K : ℕ → Type 0) where
         e = effect op false name given vs i w (look w i t)
 
         lies : Lies lines N K F e
-        lies = effect-lies lines N K F op false name given vs i w (look w i t) s m (unfold look in c .home i m) (seat-home lines N K op w t s l) (λ x. seat-above lines N K op w t s x b l)
+        lies = effect-lies lines N K F op false name given vs i w (look w i t) (unfold look in fit) s m (unfold look in c .home i m) (seat-home lines N K op w t s l) (λ x. seat-above lines N K op w t s x b l)
 
     module _ (op : Op) (name : List ℕ) (given : ℕ) (w : Context) (s : Seat lines N K w) (b : barred op w ≡ false) (l : lost op w (seen (numberOf w) t .held) ≡ false) where
       -- a name that means nobody to try

@@ -4,7 +4,7 @@ use Prim.Native.String.{String}
 use mathlib.Core.Path.{_≡_, refl}
 use mathlib.Core.Bool.{true, false}
 use mathlib.Core.List.{List, [], _∷_, _++_}
-use lib.ListN.{replicate, set}
+use lib.ListN.{getD, replicate, set}
 use Rattle.base.specs.Lists.{same}
 use Rattle.base.specs.Bytes.{text}
 use Rattle.megaco.specs.Tree.{Transaction, transaction, Message, wellFormed, fault400, fault403, fault406}
@@ -43,18 +43,18 @@ unfoldable pub tests : Unit {0}
 unfolding opened firstOf with-words all? ahead collect contextsIn namesThen namesIn byNumberOrNull? contextsPlain? namePlain? namesPlain? terminationOf writtenNumber named numbered standing reached noneShared? onlyZeroShared? terminationsApart? contextsApart? apart?
 tests = tt
 
--- ---- a pair that meets the conditions: L/1/1 and L/1/2 in context 1, L/1/3 in context 2, all else null
+-- ---- a pair that meets the conditions: L/1/1, L/1/2 and R/1 in context 1, L/1/3 and R/2 in context 2, all else null or absent
 
 abbrev pub start : List ℕ
-start = with-words ((0, 1) ∷ (1, 1) ∷ (2, 2) ∷ (624, 1) ∷ (625, 1) ∷ [])
+start = with-words ((0, 1) ∷ (1, 1) ∷ (2, 2) ∷ (248, 1) ∷ (249, 2) ∷ (624, 1) ∷ (625, 1) ∷ (752, 3) ∷ [])
 
--- properties, a Subtract, an Add that sets a mode, a Modify in null; an Add that fails, a Subtract that ends its context, an Add that then
+-- properties, Subtracts, an Add that sets a mode, a Modify in null; an Add that fails, a Subtract that ends its context, an Add that then
 -- fails and stops the rest
 abbrev pub one : String
-one = "T=7{C=1{PR=3,EG,S=L/1/1,A=l/8/31{M{O{MO=SR}}}},C=-{MF=L/1/1{M{TS{SI=TE}}}}}"
+one = "T=7{C=1{PR=3,EG,S=L/1/1,S=R/1,A=l/8/31{M{O{MO=SR}}}},C=-{MF=L/1/1{M{TS{SI=TE}}}}}"
 
 abbrev pub two : String
-two = "T=8{C=2{O-A=R/9,S=L/1/3},C=200{O-MV=ROOT},C=2{A=L/1/6},C=-{MF=L/1/4{M{O{MO=LB}}}}}"
+two = "T=8{C=2{O-A=R/9,S=R/2,S=L/1/3},C=200{O-MV=ROOT},C=2{A=L/1/6},C=-{MF=L/1/4{M{O{MO=LB}}}}}"
 
 reads-one : messageR (message one) ≡ wellFormed (read one ∷ [])
 unfolding tests
@@ -77,8 +77,17 @@ pub both-change : (same (runTransaction (read one) start .table) start ≡ false
 unfolding tests
 both-change = (refl, refl)
 
-pub replies : (runTransaction (read one) start .text ≡ text "P=7{C=1{S=L/1/1,A=L/8/31},C=-{MF=L/1/1}}")
-    × (runTransaction (read two) start .text ≡ text "P=8{C=2{A=R/9{ER=430{}},S=L/1/3},C=200{MV=ROOT{ER=411{}}},C=2{A=L/1/6{ER=411{}}}}")
+-- both in one word: the map
+abbrev map : List ℕ → ℕ
+map t = getD t 752 0
+
+pub share-the-map : (map start ≡ 3) × (map (runTransaction (read one) start .table) ≡ 2) × (map (runTransaction (read two) start .table) ≡ 1)
+    × (map (runTransaction (read two) (runTransaction (read one) start .table) .table) ≡ 0)
+unfolding tests
+share-the-map = (refl, refl, refl, refl)
+
+pub replies : (runTransaction (read one) start .text ≡ text "P=7{C=1{S=L/1/1,S=R/1,A=L/8/31},C=-{MF=L/1/1}}")
+    × (runTransaction (read two) start .text ≡ text "P=8{C=2{A=R/9{ER=430{}},S=R/2,S=L/1/3},C=200{MV=ROOT{ER=411{}}},C=2{A=L/1/6{ER=411{}}}}")
 unfolding tests
 replies = (refl, refl)
 

@@ -1,14 +1,14 @@
 -- What an attempt, or an action's start, writes lies in its footprint.
 use Prim.Native.Nat.{ℕ, _<_}
-use mathlib.Core.Path.{_≡_, refl}
+use mathlib.Core.Path.{_≡_, refl, sym, subst}
 use mathlib.Core.Bool.{Bool, true, false}
 use mathlib.Core.List.{List, [], _∷_}
 use lib.Dec.{eqb, leb}
-use borrow.Author.Tests.{eqb-true, eqb-false, not-false}
+use borrow.Author.Tests.{eqb-true, eqb-false, leb-true, not-false}
 use native.Mathlib.Omega.{arith}
 use Rattle.base.specs.Pick.{pick}
-use Rattle.megaco.specs.Table.{prop, rec, ctx, cell, Write}
-use Rattle.megaco.specs.Running.{Check, check, Result, refused, done, judge, seen, numberOf, isChoose, target, checks, joining, leaving, placed, changes, attempt, settled, Effect, concluded, effect}
+use Rattle.megaco.specs.Table.{lineTerminations, prop, rec, used, ctx, cell, Write, isEphemeral}
+use Rattle.megaco.specs.Running.{Check, check, Result, refused, done, judge, seen, numberOf, isChoose, target, checks, joining, leaving, placed, marking, changes, attempt, settled, Effect, concluded, effect}
 use Rattle.megaco.specs.Running.{isNull, isModify, barred, lost, anyGiven, startChecks, startWrites, Start, startedBy, started}
 use Rattle.megaco.specs.declared.Context.{Context}
 use Rattle.megaco.specs.declared.Context.the-variants.{Null, Numbered, Choose, All}
@@ -77,30 +77,42 @@ module _ (lines : ℕ) (N K : ℕ → Type 0) where
     unfolding placed
     placed-all i c word m k = also (ours-ctx i c m k) (also (ours-prop i word m) nothing)
 
+    -- the place of an ephemeral
+    marking-all : (n i d : ℕ) (ws : List Write) → n ≡ lines → N i → AllOurs lines N K ws → AllOurs lines N K (marking n i d ws)
+    unfolding marking isEphemeral
+    marking-all n i d ws f m a =
+        pick-all (isEphemeral n i) _ ws (λ e. also (record { valid = (rw (← f) (leb-true (lineTerminations n) i e), F .small i m); mine = m; fits = tt }) a) a
+
     -- no context is made where none is chosen
-    joining-all : (w : Context) (given : ℕ) (v : View) (i word : ℕ) → Seat lines N K w → N i → (0 < numberOf w → K (numberOf w))
-        → AllOurs lines N K (joining w given v (placed i (target w v) word))
-    unfolding joining target isChoose pick
-    joining-all Null given v i word s m k = placed-all i _ word m k
-    joining-all (Numbered c) given v i word s m k = placed-all i _ word m k
-    joining-all Choose given v i word s m k = absurd s
-    joining-all All given v i word s m k = absurd s
+    target-home : (w : Context) (v : View) → Seat lines N K w → (0 < numberOf w → K (numberOf w)) → 0 < target w v → K (target w v)
+    unfolding target isChoose pick
+    target-home Null v s k = k
+    target-home (Numbered c) v s k = k
+    target-home Choose v s k = absurd s
+    target-home All v s k = absurd s
+
+    joining-all : (w : Context) (given : ℕ) (v : View) (ws : List Write) → Seat lines N K w → AllOurs lines N K ws → AllOurs lines N K (joining w given v ws)
+    unfolding joining isChoose pick
+    joining-all Null given v ws s a = a
+    joining-all (Numbered c) given v ws s a = a
+    joining-all Choose given v ws s a = absurd s
+    joining-all All given v ws s a = absurd s
 
     leaving-all : (v : View) (ws : List Write) → K (v .here) → AllOurs lines N K ws → AllOurs lines N K (leaving v ws)
     unfolding leaving
     leaving-all v ws k a = pick-all (leb (v .from .members) 1) _ ws (λ e. also (ours-rec (v .here) 0 k) a) a
 
     -- an attempt that passes its tests, in a context that exists
-    changes-all : (op : Op) (w : Context) (given i : ℕ) (vs : Values) (v : View) → Seat lines N K w → N i → (0 < v .here → K (v .here))
+    changes-all : (op : Op) (w : Context) (given i : ℕ) (vs : Values) (v : View) → v .lines ≡ lines → Seat lines N K w → N i → (0 < v .here → K (v .here))
         → (0 < numberOf w → K (numberOf w)) → (isModify op ≡ false → 0 < numberOf w) → Passed (checks op w v) → AllOurs lines N K (changes op w given i vs v)
     unfolding checks changes isModify
-    changes-all Add w given i vs v s m h k z p = joining-all w given v i _ s m k
-    changes-all Modify w given i vs v s m h k z p = also (ours-prop i _ m) nothing
-    changes-all Subtract w given i vs v s m h k z p =
+    changes-all Add w given i vs v f s m h k z p = joining-all w given v _ s (marking-all _ i 1 _ f m (placed-all i _ _ m (target-home w v s k)))
+    changes-all Modify w given i vs v f s m h k z p = also (ours-prop i _ m) nothing
+    changes-all Subtract w given i vs v f s m h k z p =
         let e : v .here ≡ numberOf w = eqb-true (v .here) (numberOf w) (not-false (eqb (v .here) (numberOf w)) (search)) in
-        leaving-all v _ (h (rw e (z refl))) (placed-all i 0 _ m (λ y. absurd (omega arith)))
-    changes-all Move w given i vs v s m h k z p =
-        leaving-all v _ (h (nonzero (v .here) (eqb-false (v .here) 0 (search)))) (joining-all w given v i _ s m k)
+        leaving-all v _ (h (rw e (z refl))) (marking-all _ i 0 _ f m (placed-all i 0 _ m (λ y. absurd (omega arith))))
+    changes-all Move w given i vs v f s m h k z p =
+        leaving-all v _ (h (nonzero (v .here) (eqb-false (v .here) 0 (search)))) (joining-all w given v _ s (placed-all i _ _ m (target-home w v s k)))
 
     -- what an attempt writes, and where its action stands after it
     pub record Lies (e : Effect) : Type 0 where
@@ -119,12 +131,12 @@ module _ (lines : ℕ) (N K : ℕ → Type 0) where
     concluded-lies op wild name i w v (refused code) s fails = record { all = nothing; seat = s }
     concluded-lies op wild name i w v (done ws) s (does g) = record { all = g; seat = seat-settled w v s }
 
-    pub effect-lies : (op : Op) (wild : Bool) (name : List ℕ) (given : ℕ) (vs : Values) (i : ℕ) (w : Context) (v : View) → Seat lines N K w → N i
+    pub effect-lies : (op : Op) (wild : Bool) (name : List ℕ) (given : ℕ) (vs : Values) (i : ℕ) (w : Context) (v : View) → v .lines ≡ lines → Seat lines N K w → N i
         → (0 < v .here → K (v .here)) → (0 < numberOf w → K (numberOf w)) → (isModify op ≡ false → 0 < numberOf w)
         → Lies (effect op wild name given vs i w v)
     unfolding effect attempt
-    effect-lies op wild name given vs i w v s m h k z =
-        concluded-lies op wild name i w v _ s (judge-good (checks op w v) (changes op w given i vs v) (changes-all op w given i vs v s m h k z))
+    effect-lies op wild name given vs i w v f s m h k z =
+        concluded-lies op wild name i w v _ s (judge-good (checks op w v) (changes op w given i vs v) (changes-all op w given i vs v f s m h k z))
 
     -- ---- an action's start
 

@@ -10,7 +10,7 @@ use Rattle.base.specs.Bytes.{text, _then_}
 use Rattle.megaco.specs.Keywords.{spells}
 use Rattle.megaco.specs.declared.Token.the-variants.{AddToken, ModifyToken, SubtractToken, MoveToken}
 use Rattle.megaco.specs.Tree.{Items, Command, command, Action, action, Transaction, transaction, Message, wellFormed, fault400, fault403, fault406}
-use Rattle.megaco.specs.Table.{prop, rec, ctx, cell, Write, write, get, apply, most, lineTerminations, fitted, contextWords, isEphemeral, exists, known, members, freeContext, freeEphemeral, stateOf, priorityOf, emergencyOf}
+use Rattle.megaco.specs.Table.{prop, rec, used, ctx, cell, Write, write, get, apply, most, lineTerminations, fitted, contextWords, isEphemeral, exists, known, members, freeContext, freeEphemeral, stateOf, priorityOf, emergencyOf}
 use Rattle.megaco.specs.Names.{inRange, nameOf, nameText}
 use Rattle.megaco.specs.Items.{update, judgeItems, given?}
 use Rattle.megaco.specs.Reply.{Report, tried, failed, standing, Acted, errorText, replyText, transactionText}
@@ -90,6 +90,10 @@ leaving v ws = pick (leb (v .from .members) 1) (write (cell (rec (v .here))) 0 �
 unfoldable pub placed : ℕ → ℕ → ℕ → List Write
 placed i c word = write (ctx i) c ∷ write (cell (prop i)) word ∷ []
 
+-- the map's place of an ephemeral that comes to be, 1, or ends, 0
+unfoldable pub marking : ℕ → ℕ → ℕ → List Write → List Write
+marking n i d ws = pick (isEphemeral n i) (write (cell (used i)) d ∷ ws) ws
+
 -- "Add makes an ephemeral with property 0"
 unfoldable pub added : ℕ → ℕ → ℕ → ℕ
 added n i word = pick (isEphemeral n i) 0 word
@@ -100,9 +104,9 @@ subtracted n i word = pick (isEphemeral n i) 0 (8 * stateOf word)
 
 -- "Add, Modify and Move then set the values given"
 unfoldable pub changes : Op → Context → ℕ → ℕ → Values → View → List Write
-changes Add at given i vs v = joining at given v (placed i (target at v) (update vs (added (v .lines) i (v .word))))
+changes Add at given i vs v = joining at given v (marking (v .lines) i 1 (placed i (target at v) (update vs (added (v .lines) i (v .word)))))
 changes Modify at given i vs v = write (cell (prop i)) (update vs (v .word)) ∷ []
-changes Subtract at given i vs v = leaving v (placed i 0 (subtracted (v .lines) i (v .word)))
+changes Subtract at given i vs v = leaving v (marking (v .lines) i 0 (placed i 0 (subtracted (v .lines) i (v .word))))
 changes Move at given i vs v = leaving v (joining at given v (placed i (target at v) (update vs (v .word))))
 
 unfoldable pub attempt : Op → Context → ℕ → ℕ → Values → View → Result

@@ -11,10 +11,10 @@ use Rattle.base.specs.Pick.{pick}
 use Rattle.base.specs.Lists.{every, count}
 use Rattle.base.specs.Bytes.{text, decimal, _then_}
 use Rattle.base.proofs.PickLaws.{pick-ind}
-use Rattle.base.proofs.TestLaws.{pick-both, and-both, and-right}
+use Rattle.base.proofs.TestLaws.{pick-both, and-both}
 use Rattle.base.proofs.TextLaws.{length-then, length-below}
 use Rattle.laws.specs.Sound.{record-sound}
-use Rattle.megaco.specs.Table.{channels, terminations, contexts, words, lineTerminations, isEphemeral, contextWords, propertyWords, recordWords, ephemeralContexts, ephemeralProperties, isPropertyWord, absentAreZero, priorityOf, emergencyOf, recordIsSound, recordsAreSound, sized, sound}
+use Rattle.megaco.specs.Table.{channels, terminations, contexts, words, lineTerminations, isEphemeral, contextWords, propertyWords, recordWords, ephemeralContexts, ephemeralProperties, isPropertyWord, absentAreZero, priorityOf, emergencyOf, recordIsSound, recordsAreSound, sized, mapIsSound, sound}
 use Rattle.megaco.specs.Names.{nameText}
 use Rattle.megaco.proofs.Sizes.{fitted-is}
 use Rattle.sessions.specs.Session.{ready}
@@ -70,10 +70,9 @@ present-fits (r ∷ rs) = let one : pick (eqb r 0) 0 1 ≤ 1 = pick-ind (λ n. n
 records-of-sound : (t : List ℕ) → sound t ≡ true → recordsAreSound (contextWords t) 1 (recordWords t) ≡ true
 unfolding sound
 records-of-sound t s =
-    and-right
-    (sized t && every (λ w. leb w contexts) (contextWords t) && every isPropertyWord (propertyWords t) && absentAreZero (ephemeralContexts t) (ephemeralProperties t))
-    (recordsAreSound (contextWords t) 1 (recordWords t))
-    s
+    let r : Bool = recordsAreSound (contextWords t) 1 (recordWords t) in
+    let words′ : Bool = sized t && every (λ w. leb w contexts) (contextWords t) && every isPropertyWord (propertyWords t) && absentAreZero (ephemeralContexts t) (ephemeralProperties t) in
+    and-both words′ r (and-both (words′ && r) (mapIsSound t) s .0) .1
 
 records-of-ready : (t : List ℕ) → ready t ≡ true
     → recordsAreSound (take (terminations lines) t) 1 (take contexts (drop (terminations lines + terminations lines) t)) ≡ true

@@ -7,7 +7,7 @@ use lib.ListN.{length, take, drop, length-drop}
 use lib.Seq.{take-nil, drop-nil}
 use Rattle.base.specs.Out.{Appended}
 use Rattle.base.proofs.OutLaws.{_▸_}
-use Rattle.megaco.specs.Table.{terminations, contexts, words}
+use Rattle.megaco.specs.Table.{terminations, contexts, mapStart}
 use Rattle.sessions.specs.Listing.{lines, present, countLine, contextLines, partsText, reportText}
 
 -- a list taken or dropped up to a place, or to its end if that comes first
@@ -28,7 +28,7 @@ module _ (o : List ℕ) (at : ℕ) (o′ : List ℕ) (r : ℕ) where
   parts-are ws rs n o₁ p e f g = (rw e at f) ▸ g
 
   pub contexts-are : (t : List ℕ) (a b e : ℕ) → a ≡ min (terminations lines) (length t) → b ≡ min (terminations lines + terminations lines) (length t)
-      → e ≡ min (words lines) (length t) → Appended o at (partsText (take (a - 0) (drop 0 t)) (take (e - b) (drop b t))) o′ r → Appended o at (reportText t) o′ r
+      → e ≡ min (mapStart lines) (length t) → Appended o at (partsText (take (a - 0) (drop 0 t)) (take (e - b) (drop b t))) o′ r → Appended o at (reportText t) o′ r
   unfolding reportText
   contexts-are t a b e l m n f =
       let k : ℕ = terminations lines + terminations lines in

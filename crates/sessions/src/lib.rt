@@ -19,7 +19,7 @@ const TERMINATIONS: usize = 312;
 
 const RECORDS: usize = 624;
 
-const WORDS: usize = 752;
+const RECORDS_END: usize = 752;
 
 // ---- lines taken
 
@@ -179,6 +179,6 @@ pub fn put_contexts(out: &mut [u8], at: usize, table: &[u32]) -> usize
 {
     let a = within(table, TERMINATIONS);
     let b = within(table, RECORDS);
-    let e = within(table, WORDS);
+    let e = within(table, RECORDS_END);
     put_parts(out, at, &table[0..a], &table[b..e])
 }

@@ -1,21 +1,23 @@
 -- The laws of the passes over a table, in the form in which `search` uses them.
-use Prim.Native.Nat.{ℕ, zero, suc, _+_, _-_, _<_, _≤_}
+use Prim.Native.Nat.{ℕ, zero, suc, _+_, _-_, _/_, _%_, _^_, _<_, _≤_}
 use mathlib.Core.Path.{_≡_, refl, sym, ap, _∙_}
-use mathlib.Core.List.{List, [], _∷_}
+use mathlib.Core.List.{List, [], _∷_, _++_}
 use mathlib.Core.Bool.{Bool, true, false, not, _&&_, and-false, Bool·beq}
 use native.Mathlib.Numerals.{add-one}
-use native.Mathlib.Nat.{zero-add, add-zero, suc-add}
+use native.Mathlib.Nat.{zero-add, add-zero, suc-add, mul-comm, pow-succ', div-div-eq-div-mul}
 use native.Mathlib.Omega.{arith}
-use lib.ListN.{length, getD, set, take, drop, replicate, drop-of-length-le, length-set, length-replicate, getD-replicate}
+use lib.ListN.{length, getD, set, take, drop, replicate, drop-of-length-le, length-take, length-drop, length-set, length-replicate, getD-replicate}
 use lib.Seq.{drop-cons, drop-drop, take-nil, take-all, getD-set-same, getD-set-other}
 use lib.Dec.{ltb, leb, eqb}
 use mir.Syntax.{w32}
 use mir.Val.{Fits}
-use borrow.Author.Tests.{le-leb, lt-leb, leb-true, leb-false, ltb-true, ltb-false, eq-eqb, ne-eqb, eqb-true, eqb-false}
+use borrow.Author.Tests.{le-leb, lt-leb, leb-true, leb-false, lt-ltb, ltb-true, ltb-false, eq-eqb, ne-eqb, eqb-true, eqb-false}
 use Rattle.base.specs.Pick.{pick}
-use Rattle.base.specs.Lists.{every, count}
+use Rattle.base.specs.Lists.{every, count, same}
 use Rattle.megaco.proofs.Sizes.{sized-is}
-use Rattle.megaco.specs.Table.{lineTerminations, ephemerals, terminations, contexts, words, mostLines, fitted, Sized, sized, contextWords, propertyWords, recordWords, ephemeralContexts, ephemeralProperties, isPropertyWord, absentAreZero, recordIsSound, recordsAreSound, sound}
+use Rattle.megaco.specs.Map.{digits, marks}
+use Rattle.megaco.proofs.Places.{length-digits, length-marks}
+use Rattle.megaco.specs.Table.{lineTerminations, ephemerals, terminations, contexts, words, mostLines, fitted, Sized, sized, contextWords, propertyWords, recordWords, ephemeralContexts, ephemeralProperties, mapStart, mapWords, places, isPropertyWord, absentAreZero, recordIsSound, recordsAreSound, mapIsSound, sound}
 use Rattle.table.proofs.TableLaws.{drop-take}
 use Rattle.sound.specs.Parts.{ephemeralIsSound, recordsMeet, partsAreSound}
 use Rattle.base.proofs.TestLaws.{and-both}
@@ -286,18 +288,112 @@ module _ (t : List ℕ) where
       let e₈ : n - 64 ≡ l = omega arith in
       parts a b c (f ∙ rw (e₂, e₁, e₃)) (g ∙ rw (e₄, e)) (h ∙ rw (e₅, e₇, e₆, e₈))
 
-  pub sound-by : (x r : Bool) → x ≡ sized t → x ≡ true → r ≡ partsAreSound t → r ≡ sound t
+  pub sound-by : (x r m : Bool) → x ≡ sized t → x ≡ true → r ≡ partsAreSound t → m ≡ mapIsSound t → (r && m) ≡ sound t
   unfolding sound partsAreSound
-  sound-by x r e h k = k ∙ rw (← e, h)
+  sound-by x r m e h k f = rw (k, f, ← e, h)
 
   pub unsound : (x : Bool) → x ≡ sized t → x ≡ false → false ≡ sound t
   unfolding sound
   unsound x e h = rw (← e, h)
 
   -- the size, as the code tests it
-  pub sized-by : (n : ℕ) → n ≡ terminations (fitted t) → (leb 95 n && leb n 560 && eqb (length t) (n + n + 128)) ≡ sized t
+  pub sized-by : (n : ℕ) → n ≡ terminations (fitted t) → (leb 95 n && leb n 560 && eqb (length t) (n + n + 128 + 2)) ≡ sized t
   unfolding sized
   sized-by n e = let m : ℕ = fitted t in rw (e, same-low m, same-high m)
 
   pub sized-facts : (x : Bool) → x ≡ sized t → x ≡ true → Sized t
   sized-facts x e h = sized-is t (sym e ∙ h)
+
+-- ---- the map
+
+-- a digit of the map against a context word
+digit-by : (d x : ℕ) (z : Bool) → d < 2 → Bool·beq (eqb d 1) (not z) ≡ eqb d (pick z 0 1)
+unfolding pick
+digit-by d x true h = by (eqb d 0) refl
+  where
+    by : (b : Bool) → eqb d 0 ≡ b → Bool·beq (eqb d 1) false ≡ b
+    by true e = rw (ne-eqb d 1 (λ q. omega (arith, eqb-true d 0 e)))
+    by false e = let o : d ≡ 1 = omega (arith, eqb-false d 0 e) in rw (eq-eqb d 1 o)
+digit-by d x false h = beq-true (eqb d 1)
+  where
+    beq-true : (b : Bool) → Bool·beq b true ≡ b
+    beq-true true = refl
+    beq-true false = refl
+
+pub digit-sound : (w b x : ℕ) → Bool·beq (eqb (w / 2 ^ b % 2) 1) (not (eqb x 0)) ≡ eqb (w / 2 ^ b % 2) (pick (eqb x 0) 0 1)
+digit-sound w b x = digit-by (w / 2 ^ b % 2) x (eqb x 0) (omega arith)
+
+-- half of the map: good tells of the digits passed
+halved : (w i : ℕ) → w / 2 ^ i / 2 ≡ w / 2 ^ suc i
+halved w i = div-div-eq-div-mul w (2 ^ i) 2 ∙ ap (λ (m : ℕ). w / m) (mul-comm (2 ^ i) 2 ∙ sym (pow-succ' 2 i))
+
+module _ (row : List ℕ) (w i : ℕ) (b q : Bool) (inv : q ≡ (b && same (digits (32 - i) (w / 2 ^ i)) (marks (drop i row)))) (l : length row ≡ 32) where
+  pub half-on : (x : Bool) → i < length row → x ≡ eqb (w / 2 ^ i % 2) (pick (eqb (getD row i 0) 0) 0 1)
+      → q ≡ ((b && x) && same (digits (32 - (i + 1)) (w / 2 ^ (i + 1))) (marks (drop (i + 1) row)))
+  unfolding digits marks same
+  half-on x h e =
+      let k : 32 - i ≡ suc (32 - (i + 1)) = omega arith in
+      inv ∙ rw (k, drop-cons row i 0, halved w i, ← e, add-one i) (one-more b x _)
+
+  pub half-end : length row ≤ i → b ≡ q
+  unfolding digits marks same
+  half-end h =
+      let k : 32 - i ≡ 0 = omega arith in
+      sym (inv ∙ rw (k, drop-of-length-le row h) (no-more b))
+
+pub half-start : (row : List ℕ) (w : ℕ) → same (digits 32 w) (marks row) ≡ (true && same (digits (32 - 0) (w / 2 ^ 0)) (marks (drop 0 row)))
+half-start row w = let e : w / 2 ^ 0 ≡ w = omega arith in rw e
+
+-- two halves
+marks-part : (n m : ℕ) (l : List ℕ) → marks (take (n + m) l) ≡ marks (take n l) ++ marks (take m (drop n l))
+unfolding marks
+marks-part zero m l = rw zero-add
+marks-part (suc n) m [] = rw (take-nil, take-nil)
+marks-part (suc n) m (x ∷ l) = rw (suc-add, marks-part n m l)
+
+same-part : (a b c d : List ℕ) → length a ≡ length b → same (a ++ c) (b ++ d) ≡ (same a b && same c d)
+unfolding same pick
+same-part [] [] c d l = refl
+same-part [] (y ∷ b) c d l = absurd (omega (arith, l))
+same-part (x ∷ a) [] c d l = absurd (omega (arith, l))
+same-part (x ∷ a) (y ∷ b) c d l = by (eqb x y) (same-part a b c d (omega (arith, l)))
+  where
+    by : (t : Bool) → same (a ++ c) (b ++ d) ≡ (same a b && same c d) → pick t (same (a ++ c) (b ++ d)) false ≡ (pick t (same a b) false && same c d)
+    by true e = e
+    by false e = refl
+
+-- the words of the map have 32 bits
+two-narrow : (t : List ℕ) (a : ℕ) → a + 2 ≤ length t → getD t a 0 < 2 ^ 32 → getD t (a + 1) 0 < 2 ^ 32 → every (λ w. ltb w (2 ^ 32)) (take 2 (drop a t)) ≡ true
+unfolding every pick
+two-narrow t a l h k =
+    let m : getD t (suc a) 0 < 2 ^ 32 = rw (← add-one a) k in
+    let o : a < length t = omega arith in
+    let p : suc a < length t = omega arith in
+    rw (drop-cons t a 0 o, drop-cons t (suc a) 0 p, lt-ltb (getD t a 0) (2 ^ 32) h, lt-ltb (getD t (suc a) 0) (2 ^ 32) m)
+
+pub map-by : (t : List ℕ) (n u v : ℕ) (x y : Bool) → Sized t → n ≡ terminations (fitted t)
+    → u ≡ getD t (n + n + 128) 0 → v ≡ getD t (n + n + 128 + 1) 0 → u < 2 ^ 32 → v < 2 ^ 32
+    → x ≡ same (digits 32 u) (marks (take (n - 32 - (n - 64)) (drop (n - 64) t))) → y ≡ same (digits 32 v) (marks (take (n - (n - 32)) (drop (n - 32) t)))
+    → (x && y) ≡ mapIsSound t
+unfolding mapIsSound mapWords places L
+map-by t n u v x y s e p q h k f g =
+    let a : ℕ = mapStart (fitted t) in
+    let l : ℕ = lineTerminations (fitted t) in
+    let e₁ : n + n + 128 ≡ a = omega arith in
+    let e₂ : n - 32 - (n - 64) ≡ 32 = omega arith in
+    let e₃ : n - (n - 32) ≡ 32 = omega arith in
+    let e₄ : n - 64 ≡ l = omega arith in
+    let e₅ : n - 32 ≡ l + 32 = omega arith in
+    let u₁ : u ≡ getD t a 0 = p ∙ rw e₁ in
+    let v₁ : v ≡ getD t (a + 1) 0 = q ∙ rw e₁ in
+    let w : every (λ z. ltb z (2 ^ 32)) (take 2 (drop a t)) ≡ true = two-narrow t a (omega (arith, s .long)) (rw (← u₁) h) (rw (← v₁) k) in
+    let m : marks (ephemeralContexts t) ≡ marks (take 32 (drop l t)) ++ marks (take 32 (drop (l + 32) t)) =
+    ap marks (ephemeral-contexts t) ∙ marks-part 32 32 (drop l t) ∙ ap (λ (z : List ℕ). marks (take 32 (drop l t)) ++ marks (take 32 z)) (drop-drop 32 l t) in
+    let d : length (digits 32 (getD t a 0)) ≡ length (marks (take 32 (drop l t))) =
+    length-digits 32 (getD t a 0) ∙ sym (length-marks (take 32 (drop l t)) ∙ long) in
+    let x₁ : x ≡ same (digits 32 (getD t a 0)) (marks (take 32 (drop l t))) = f ∙ rw (e₂, e₄, u₁) in
+    let y₁ : y ≡ same (digits 32 (getD t (a + 1) 0)) (marks (take 32 (drop (l + 32) t))) = g ∙ rw (e₃, e₅, v₁) in
+    rw (w, m, same-part _ _ (digits 32 (getD t (a + 1) 0)) (marks (take 32 (drop (l + 32) t))) d, x₁, y₁)
+  where
+    long : length (take 32 (drop (lineTerminations (fitted t)) t)) ≡ 32
+    long = simp (length-take, length-drop) (omega (arith, s .long))

@@ -1,18 +1,22 @@
-// Whether a lent table is sound: a pass over the context words, one over the records, one over the lines' properties, one over the ephemerals'.
+// Whether a lent table is sound: a pass over the context words, one over the records, one over the lines' properties, one over the ephemerals',
+// one over the ephemerals' context words against the map.
 // All but the first go on past a word that is wrong: tables are sound but for rare accidents, and without a way out the compiler takes several
 // words at a time.
 use table::CHANNELS;
 use table::CONTEXTS;
 use table::EPHEMERALS;
+use table::MAP;
 use table::MOST;
 use table::MOST_TERMINATIONS;
 ghost use mathlib.Core.Path.{_≡_};
 ghost use mathlib.Core.Bool.{_&&_};
-ghost use Prim.Native.Nat.{_≤_, _<_};
+ghost use Prim.Native.Nat.{_/_, _%_, _^_, _≤_, _<_};
 ghost use lib.ListN.{length};
-ghost use lib.Dec.{leb};
-ghost use Rattle.base.specs.Lists.{every};
-ghost use Rattle.megaco.specs.Table.{contexts, isPropertyWord, absentAreZero, recordIsSound, recordsAreSound, Sized, sized, sound};
+ghost use lib.Dec.{leb, eqb};
+ghost use Rattle.base.specs.Pick.{pick};
+ghost use Rattle.base.specs.Lists.{every, same};
+ghost use Rattle.megaco.specs.Map.{digits, marks};
+ghost use Rattle.megaco.specs.Table.{contexts, isPropertyWord, absentAreZero, recordIsSound, recordsAreSound, Sized, sized, mapIsSound, sound};
 ghost use Rattle.sound.specs.Parts.{ephemeralIsSound, recordsMeet, partsAreSound};
 
 // Counters for contexts 0 to 128.
@@ -26,7 +30,7 @@ pub fn is_sound(table: &[u32]) -> bool
     ensures { λ r. ⌜ r ≡ sound (now (table .entry)) ⌝ }
 {
     if is_sized(table) {
-        return parts_are_sound(table);
+        return parts_are_sound(table) & map_is_sound(table);
     }
     false
 }
@@ -38,7 +42,7 @@ fn is_sized(table: &[u32]) -> bool
     let n = table::terminations(table);
     (FEWEST_TERMINATIONS <= n)
         & (n <= MOST_TERMINATIONS)
-        & (table.len() == n + n + CONTEXTS as usize)
+        & (table.len() == n + n + CONTEXTS as usize + MAP)
 }
 
 fn parts_are_sound(table: &[u32]) -> bool
@@ -137,4 +141,40 @@ fn ephemerals_are_sound(row: &[u32], properties: &[u32]) -> bool
         i += 1;
     }
     good
+}
+
+// ---- the map
+
+// Whether binary digit b of a word of the map is 1 exactly where x is not 0.
+fn digit_is_sound(word: u32, b: u32, x: u32) -> bool
+    requires { ⌜ b < 32 ⌝ }
+    ensures { λ r. ⌜ r ≡ eqb (word / 2 ^ b % 2) (pick (eqb x 0) 0 1) ⌝ }
+{
+    ((word >> b) % 2 == 1) == (x != 0)
+}
+
+// A word of the map against its 32 context words.
+fn half_is_sound(row: &[u32], word: u32) -> bool
+    requires { ⌜ length (now row) ≡ 32 ⌝ }
+    ensures { λ r. ⌜ r ≡ same (digits 32 word) (marks (now (row .entry))) ⌝ }
+{
+    let mut good = true;
+    let mut i: usize = 0;
+    while i < row.len() {
+        good = good & digit_is_sound(word, i as u32, row[i]);
+        i += 1;
+    }
+    good
+}
+
+fn map_is_sound(table: &[u32]) -> bool
+    requires { ⌜ Sized (now table) ⌝ }
+    ensures { λ r. ⌜ r ≡ mapIsSound (now (table .entry)) ⌝ }
+{
+    let n = table::terminations(table);
+    let first = n - EPHEMERALS as usize;
+    let middle = n - 32;
+    let a = n + n + CONTEXTS as usize;
+    half_is_sound(&table[first..middle], table::word_at(table, a))
+        & half_is_sound(&table[middle..n], table::word_at(table, a + 1))
 }

@@ -14,7 +14,7 @@ use mir.Val.{Fits, boolByte}
 use borrow.Author.Tests.{eq-eqb, ne-eqb}
 use Rattle.base.specs.Pick.{pick}
 use Rattle.base.specs.Lists.{count, lowestAbsent}
-use Rattle.megaco.specs.Table.{lineTerminations, terminations, fitted, contextWords, recordWords, ephemeralContexts, members, freeContext, freeEphemeral}
+use Rattle.megaco.specs.Table.{lineTerminations, terminations, fitted, contextWords, recordWords, members, freeContext}
 
 -- past the end stands 0, and nothing is stored there
 pub read-past : (t : List ℕ) (k : ℕ) → length t ≤ k → 0 ≡ getD t k 0
@@ -105,16 +105,3 @@ module _ (t : List ℕ) (n r : ℕ) (e : n ≡ terminations (fitted t)) where
     pub records-part : r ≡ freeContext t
     unfolding freeContext recordWords
     records-part = let m : n + n + 128 - (n + n) ≡ 128 = omega arith in h ∙ rw (m, e)
-
-  -- the ephemerals
-  module _ (h : r ≡ lowestAbsent 1 (take (n - (n - 64)) (drop (n - 64) t))) where
-    pub ephemerals-fit : Fits w32 r
-    ephemerals-fit = short-fits r (n - (n - 64)) (drop (n - 64) t) h (omega arith)
-
-    pub ephemerals-part : r ≡ freeEphemeral t
-    unfolding freeEphemeral ephemeralContexts contextWords
-    ephemerals-part =
-        let l : ℕ = lineTerminations (fitted t) in
-        let p : n - 64 ≡ l = omega arith in
-        let q : n - l ≡ 64 = omega arith in
-        h ∙ rw (p, q, drop-take l 64)

@@ -1,9 +1,12 @@
 // The lent table, whose size tells the lines fitted, read and written by the number of a termination and by the number of a context.
 ghost use mathlib.Core.Path.{_≡_};
-ghost use Prim.Native.Nat.{_+_, _*_, _≤_};
+ghost use Prim.Native.Nat.{_+_, _-_, _*_, _/_, _<_, _≤_};
+ghost use mathlib.Core.List.{_++_};
 ghost use lib.ListN.{length, getD, set};
+ghost use Rattle.base.specs.Pick.{pick};
 ghost use Rattle.base.specs.Lists.{count, lowestAbsent};
-ghost use Rattle.megaco.specs.Table.{lineTerminations, terminations, fitted, Sized, prop, rec, ctx, cell, address, get, write, store, isEphemeral, exists, members, freeContext, freeEphemeral};
+ghost use Rattle.megaco.specs.Map.{digits, withDigit, inUse};
+ghost use Rattle.megaco.specs.Table.{lineTerminations, terminations, fitted, Sized, prop, rec, used, ctx, cell, address, get, write, store, places, isEphemeral, exists, members, freeContext, freeEphemeral, usedEphemerals};
 
 // The most lines that can be fitted.
 pub const MOST_LINES: u32 = 16;
@@ -21,8 +24,11 @@ pub const MOST: usize = 8;
 // The most terminations that there can be.
 pub const MOST_TERMINATIONS: usize = CHANNELS * MOST_LINES as usize + EPHEMERALS as usize;
 
+// The words of the map.
+pub const MAP: usize = 2;
+
 // The words of a table without lines, and those that each line adds.
-const NO_LINES: usize = 2 * EPHEMERALS as usize + CONTEXTS as usize;
+const NO_LINES: usize = 2 * EPHEMERALS as usize + CONTEXTS as usize + MAP;
 
 const LINE: usize = 2 * CHANNELS;
 
@@ -62,7 +68,7 @@ pub fn line_terminations(lines: u32) -> usize
 // ---- one word
 
 // The word at a place; past the end stands 0.
-fn word_at(table: &[u32], k: usize) -> u32
+pub fn word_at(table: &[u32], k: usize) -> u32
     ensures { λ r. ⌜ r ≡ getD (now (table .entry)) k 0 ⌝ }
 {
     if k < table.len() { table[k] } else { 0 }
@@ -140,6 +146,89 @@ pub fn set_record(table: &mut [u32], c: u32, held: u32)
     put_word(table, k, held);
 }
 
+// ---- the map of the ephemerals
+
+// The lowest number absent in a map, 0 if there is none.
+pub fn free_in(map: u64) -> u32
+    ensures { λ r. ⌜ r ≡ lowestAbsent 1 (digits 64 map) ⌝ }
+{
+    let t = u64::trailing_zeros(!map);
+    if t < 64 {
+        return t + 1;
+    }
+    0
+}
+
+// How many are in use in a map.
+pub fn used_in(map: u64) -> u32
+    ensures { λ r. ⌜ r ≡ inUse (digits 64 map) ⌝ }
+{
+    u64::count_ones(map)
+}
+
+// Two halves as one number.
+fn joined(low: u32, high: u32) -> u64
+    ensures { λ r. ⌜ digits 64 r ≡ digits 32 low ++ digits 32 high ⌝ }
+{
+    (low as u64) + (high as u64) * 4294967296
+}
+
+// The map as one number.
+pub fn map_of(table: &[u32]) -> u64
+    ensures { λ r. ⌜ digits 64 r ≡ places (now (table .entry)) ⌝ }
+{
+    let n = terminations(table);
+    let a = n + n + CONTEXTS as usize;
+    joined(word_at(table, a), word_at(table, a + 1))
+}
+
+// A word with one binary digit set or cleared.
+fn with_digit(w: u32, b: u32, on: bool) -> u32
+    requires { ⌜ b < 32 ⌝ }
+    ensures { λ r. ⌜ r ≡ withDigit b (pick on 1 0) w ⌝ }
+{
+    let p = 1u32 << b;
+    if (w >> b) % 2 == 1 {
+        if on {
+            return w;
+        }
+        return w - p;
+    }
+    if on {
+        return w + p;
+    }
+    w
+}
+
+// The number of an ephemeral among the ephemerals, from 0 on.
+fn ephemeral_number(table: &[u32], i: usize) -> usize
+    ensures { λ r. ⌜ r ≡ i - lineTerminations (fitted (now (table .entry))) ⌝ }
+{
+    let first = CHANNELS * count_lines(table);
+    if i < first {
+        return 0;
+    }
+    i - first
+}
+
+// Where the map's place of an ephemeral stands, k being its number.
+fn map_place(table: &[u32], k: usize) -> usize
+    ensures { λ r. ⌜ r ≡ terminations (fitted (now (table .entry))) + (terminations (fitted (now (table .entry))) + 128 + k / 32) ⌝ }
+{
+    let n = terminations(table);
+    n + (n + CONTEXTS as usize + k / 32)
+}
+
+// Marks an ephemeral in the map as existing or absent.
+pub fn set_used(table: &mut [u32], i: usize, on: bool)
+    ensures { λ _. ⌜ now (table .exit) ≡ store (write (cell (used i)) (pick on 1 0)) (now (table .entry)) ⌝ }
+{
+    let k = ephemeral_number(table, i);
+    let a = map_place(table, k);
+    let w = word_at(table, a);
+    put_word(table, a, with_digit(w, (k % 32) as u32, on));
+}
+
 // ---- what the words tell
 
 // How often a number stands in a row of words. Counted in 32 bits, as the words are: the compiler then takes four of them at a time.
@@ -190,14 +279,18 @@ pub fn free_context(table: &[u32]) -> u32
     lowest_absent(&table[a..e]) as u32
 }
 
-// The lowest absent ephemeral's n of `R/n`, 0 if there are 64.
+// The lowest absent ephemeral's n of `R/n`, 0 if there are 64: from the map alone.
 pub fn free_ephemeral(table: &[u32]) -> u32
-    requires { ⌜ Sized (now table) ⌝ }
     ensures { λ r. ⌜ r ≡ freeEphemeral (now (table .entry)) ⌝ }
 {
-    let e = terminations(table);
-    let a = e - EPHEMERALS as usize;
-    lowest_absent(&table[a..e]) as u32
+    free_in(map_of(table))
+}
+
+// How many ephemerals exist.
+pub fn used_ephemerals(table: &[u32]) -> u32
+    ensures { λ r. ⌜ r ≡ usedEphemerals (now (table .entry)) ⌝ }
+{
+    used_in(map_of(table))
 }
 
 pub fn is_ephemeral(lines: u32, i: usize) -> bool

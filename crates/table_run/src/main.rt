@@ -11,7 +11,7 @@ ghost use Prim.Native.Nat.{_≤_};
 ghost use lib.ListN.{length};
 
 fn main() {
-    let mut room = [0u32; 753];
+    let mut room = [0u32; 755];
     let mut input = io::buffer();
     let n = io::read_full(STDIN_FILENO, &mut input);
     run(&mut room, &input[..n]);
@@ -20,7 +20,7 @@ fn main() {
 // ---- lines
 
 fn run(room: &mut [u32], s: &[u8])
-    requires { ⌜ length (now room) ≡ 753 ⌝ }
+    requires { ⌜ length (now room) ≡ 755 ⌝ }
 {
     let mut a: usize = 0;
     while a < s.len() {
@@ -47,13 +47,13 @@ fn line_end(s: &[u8], a: usize) -> usize
 }
 
 fn case(room: &mut [u32], line: &[u8])
-    requires { ⌜ length (now room) ≡ 753 ⌝ }
+    requires { ⌜ length (now room) ≡ 755 ⌝ }
 {
     if line.len() < 2 {
         return;
     }
     if line[0] == b'T' {
-        table_case(&mut room[0..752], line);
+        table_case(&mut room[0..754], line);
         return;
     }
     if line[0] == b'W' {
@@ -149,11 +149,12 @@ fn put_busy(t: &mut [u32]) {
     put_run(t, 312, 315, 3);
     put_run(t, 624, 625, 1);
     put_run(t, 751, 752, 32);
+    put_run(t, 752, 753, 1);
 }
 
 // 1: busy; 2: 128 contexts; 3: contexts of 8; 4: 64 ephemerals in contexts of 8; else fresh.
 fn start(t: &mut [u32], base: u32) {
-    put_run(t, 0, 752, 0);
+    put_run(t, 0, 754, 0);
     if base == 1 {
         put_busy(t);
         return;
@@ -161,21 +162,24 @@ fn start(t: &mut [u32], base: u32) {
     if base == 2 {
         put_spread(t);
         put_run(t, 624, 752, 17);
+        put_run(t, 752, 754, 4294967295);
         return;
     }
     if base == 3 {
         put_eights(t, 0);
         put_run(t, 624, 663, 32);
+        put_run(t, 752, 754, 4294967295);
         return;
     }
     if base == 4 {
         put_eights(t, 248);
         put_run(t, 624, 632, 1);
+        put_run(t, 752, 754, 4294967295);
     }
 }
 
 fn table_case(t: &mut [u32], line: &[u8])
-    requires { ⌜ length (now t) ≡ 752 ⌝ }
+    requires { ⌜ length (now t) ≡ 754 ⌝ }
 {
     start(t, number(line, 1));
     table::put_word(t, number(line, 2) as usize, number(line, 3));
@@ -183,16 +187,17 @@ fn table_case(t: &mut [u32], line: &[u8])
 }
 
 fn report(t: &[u32], c: u32)
-    requires { ⌜ length (now t) ≡ 752 ⌝ }
+    requires { ⌜ length (now t) ≡ 754 ⌝ }
 {
     say_sound(t);
     say_number(b", members ", table::members(t, c) as u64);
     say_number(b", free context ", table::free_context(t) as u64);
     say_number(b", free ephemeral ", table::free_ephemeral(t) as u64);
+    say_number(b", ephemerals ", table::used_ephemerals(t) as u64);
 }
 
 fn length_case(room: &mut [u32], n: u32) {
-    put_run(room, 0, 753, 0);
+    put_run(room, 0, 755, 0);
     let e = n as usize;
     if e <= room.len() {
         say_sound(&room[0..e]);

@@ -14,8 +14,10 @@ fn main() -> Result<(), Refusal> {
     for message in MESSAGES {
         let reply = gateway.answer(message.as_bytes())?;
         println!("{message}\n  {}", reply.escape_ascii());
-        let context = gateway.table().words()[4];
-        println!("  L/1/5 stands in context {context}");
+        let table = gateway.table();
+        println!("  L/1/5 stands in context {}", table.words()[4]);
+        let (used, next) = (table.in_use(), table.lowest_absent());
+        println!("  ephemerals in use: {used}, next: R/{next}");
     }
     Ok(())
 }

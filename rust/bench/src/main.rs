@@ -1,7 +1,8 @@
 //! `bench`: the archive and the reference side by side, in one table.
 //!
-//! `bench count SIDE PLACE ROUNDS` lets one side answer one workload and
-//! nothing else; the table's instruction counts come from it.
+//! `bench count SIDE PLACE ROUNDS` lets one side answer one workload, and `bench
+//! ask SIDE PLACE ROUNDS` one question about maps, and nothing else; the
+//! table's instruction counts come from them.
 
 mod workloads;
 
@@ -11,6 +12,7 @@ use std::time::Duration;
 
 use cordafina::answer_word;
 use differential::calls::{reference_word, Call};
+use reference::map;
 use workloads::{counts, fixed, requests, Workload, OWN};
 
 const SIDES: [(&str, Call); 2] = [("archive", answer_word), ("reference", reference_word)];
@@ -18,6 +20,17 @@ const SIDES: [(&str, Call); 2] = [("archive", answer_word), ("reference", refere
 const ROUNDS: usize = 15;
 /// How long one side is timed in one round.
 const ROUND: Duration = Duration::from_millis(10);
+
+type Question = fn(u64) -> u32;
+
+/// What is asked of a map of the ephemerals, for each side.
+const QUESTIONS: [(&str, [Question; 2]); 2] = [
+    (
+        "lowest absent",
+        [cordafina::lowest_absent, map::lowest_absent],
+    ),
+    ("in use", [cordafina::in_use, map::in_use]),
+];
 
 const HOW: &str = "\
 Times: CPU time of one thread, median of 15 rounds of about 10 ms, the sides by turns in each round, both in
@@ -37,6 +50,13 @@ fn main() {
             let (_, call) = call.expect("archive or reference");
             let place: usize = place.parse().expect("a workload's place");
             all()[place].run(*call, rounds.parse().expect("a number of rounds"));
+        }
+        ["ask", side, place, rounds] => {
+            let side = SIDES.iter().position(|(name, _)| *name == side);
+            let place: usize = place.parse().expect("a question's place");
+            let (_, questions) = QUESTIONS[place];
+            let question = questions[side.expect("archive or reference")];
+            ask(question, rounds.parse().expect("a number of rounds"));
         }
         _ => panic!("usage: bench"),
     }
@@ -139,6 +159,36 @@ fn report() {
             }
         );
     }
+    println!(
+        "\nAsked of a map of the ephemerals, on the 65 maps of the lowest ones. The reference loops over the places.\n"
+    );
+    println!(
+        "{:<27}{:>11}{:>14} |{:>22}{:>11}",
+        "", "archive ns", "reference ns", "archive instructions", "reference"
+    );
+    for (place, (name, questions)) in QUESTIONS.iter().enumerate() {
+        let [one, other] = questions.map(|question| {
+            let round = |_| timed(|| ask(question, 1_000)).as_nanos() as f64 / 65_000.0;
+            median((0..ROUNDS).map(round).collect())
+        });
+        println!(
+            "{name:<27}{one:>11.1}{other:>14.1} |{}",
+            match per_round("ask", place, 50) {
+                Some([one, other]) => format!("{:>22.1}{:>11.1}", one / 65.0, other / 65.0),
+                None => "  valgrind is not there".to_string(),
+            }
+        );
+    }
+}
+
+/// Asks a question of 65 maps so many times.
+fn ask(question: Question, rounds: usize) {
+    for _ in 0..rounds {
+        for used in 0..=64 {
+            let map = u64::MAX.checked_shr(64 - used).unwrap_or(0);
+            black_box(question(black_box(map)));
+        }
+    }
 }
 
 /// Nanoseconds of each side for one pass over a workload.
@@ -218,21 +268,27 @@ fn median(mut rounds: Vec<f64>) -> f64 {
 /// Instructions of each side for one pass over a workload, if valgrind is there.
 fn instructions(place: usize, workload: &Workload) -> Option<[f64; 2]> {
     let more = if workload.messages.len() > 1 { 1 } else { 50 };
+    per_round("count", place, more)
+}
+
+/// Instructions of each side for one round, by so many more in a second run.
+fn per_round(what: &str, place: usize, more: usize) -> Option<[f64; 2]> {
     let [one, other] = SIDES.map(|(side, _)| {
-        let short = collected(side, place, 1)?;
-        let long = collected(side, place, 1 + more)?;
+        let short = collected(what, side, place, 1)?;
+        let long = collected(what, side, place, 1 + more)?;
         Some((long - short) / more as f64)
     });
     Some([one?, other?])
 }
 
-/// All instructions of `bench count ..` as callgrind collects them.
-fn collected(side: &str, place: usize, rounds: usize) -> Option<f64> {
+/// All instructions of `bench count ..` or `bench ask ..` as callgrind
+/// collects them.
+fn collected(what: &str, side: &str, place: usize, rounds: usize) -> Option<f64> {
     let program = std::env::current_exe().expect("the path of this program");
     let output = Command::new("valgrind")
         .args(["--tool=callgrind", "--callgrind-out-file=/dev/null"])
         .arg(program)
-        .args(["count", side, &place.to_string(), &rounds.to_string()])
+        .args([what, side, &place.to_string(), &rounds.to_string()])
         .output()
         .ok()?;
     let text = String::from_utf8_lossy(&output.stderr);

@@ -37,7 +37,19 @@
 //! let mut gateway = Gateway::with_table(b"[10.0.0.9]", Table::with_lines(16)?)?;
 //! let reply = gateway.answer(b"!/1 [10.0.0.1] T=7{C=${A=L/16/31,A=$}}")?;
 //! assert_eq!(reply, b"!/1 [10.0.0.9] P=7{C=1{A=L/16/31,A=R/1}}");
-//! assert_eq!(gateway.table().words().len(), 1_248);
+//! assert_eq!(gateway.table().words().len(), 1_250);
+//! # Ok::<(), cordafina::Refusal>(())
+//! ```
+//!
+//! The table has a map of the ephemerals. How many are in use, and which is the
+//! next, is answered from it alone:
+//!
+//! ```
+//! # let mut gateway = cordafina::Gateway::new(b"[10.0.0.9]")?;
+//! gateway.answer(b"!/1 [10.0.0.1] T=7{C=${A=$,A=$,A=$,S=R/2}}")?;
+//! assert_eq!(gateway.table().map(), 0b101);
+//! assert_eq!(gateway.table().in_use(), 2);
+//! assert_eq!(gateway.table().lowest_absent(), 2);
 //! # Ok::<(), cordafina::Refusal>(())
 //! ```
 
@@ -76,9 +88,15 @@ pub const fn records_start(lines: u32) -> usize {
     2 * terminations(lines)
 }
 
-/// Words of a table of so many lines: 752 for eight.
-pub const fn table_words(lines: u32) -> usize {
+/// Where the map of the ephemerals starts, two words, low half first, for so
+/// many lines.
+pub const fn map_start(lines: u32) -> usize {
     records_start(lines) + CONTEXTS
+}
+
+/// Words of a table of so many lines: 754 for eight.
+pub const fn table_words(lines: u32) -> usize {
+    map_start(lines) + 2
 }
 
 /// What became of a call.
@@ -97,7 +115,7 @@ pub enum Answer {
 pub enum Refusal {
     /// "message of 0 or over 4,096 bytes"
     BadMessage = 1,
-    /// Table not of its count's words ("752" for eight lines), "or not sound"
+    /// Table not of its count's words, "or not sound"
     BadTable = 2,
     /// "reply buffer under 16,640 bytes"
     ReplyTooShort = 3,
@@ -187,6 +205,22 @@ impl Table {
     pub fn words(&self) -> &[u32] {
         &self.words[..table_words(self.lines)]
     }
+
+    /// The map of the ephemerals: bit n - 1 is set exactly when `R/n` exists.
+    pub const fn map(&self) -> u64 {
+        let start = map_start(self.lines);
+        self.words[start] as u64 | (self.words[start + 1] as u64) << 32
+    }
+
+    /// The n of the lowest absent ephemeral `R/n`, 0 if there is none.
+    pub fn lowest_absent(&self) -> u32 {
+        lowest_absent(self.map())
+    }
+
+    /// How many ephemerals are in use.
+    pub fn in_use(&self) -> u32 {
+        in_use(self.map())
+    }
 }
 
 impl Default for Table {
@@ -252,7 +286,22 @@ pub fn answer_word(
     }
 }
 
+/// The lowest absent number of a map of ephemerals, 1 to 64, or 0 if there is
+/// none: of the lowest bit that is not set, one more than its place.
+pub fn lowest_absent(map: u64) -> u32 {
+    // SAFETY: a number goes in and a number comes out.
+    unsafe { cordafina_lowest_absent(map) }
+}
+
+/// The count in use of a map of ephemerals: how many of its bits are set.
+pub fn in_use(map: u64) -> u32 {
+    // SAFETY: as above.
+    unsafe { cordafina_in_use(map) }
+}
+
 extern "C" {
+    fn cordafina_lowest_absent(map: u64) -> u32;
+    fn cordafina_in_use(map: u64) -> u32;
     fn cordafina_answer(
         lines: u32,
         message: *const u8,

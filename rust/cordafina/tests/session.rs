@@ -1,7 +1,8 @@
 //! Document 01's session and refusals, and other counts of lines, through the
 //! archive that is linked.
 
-use cordafina::{answer, answer_word, records_start, table_words, terminations};
+use cordafina::{answer, answer_word, in_use, lowest_absent};
+use cordafina::{map_start, records_start, table_words, terminations};
 use cordafina::{Answer, Gateway, Refusal, Table, MESSAGE_BYTES, MOST_LINES, REPLY_BYTES};
 
 /// Words of a table of eight lines.
@@ -151,7 +152,7 @@ fn tables_by_their_count() {
     }
     for lines in 1..=MOST_LINES {
         let table = Table::with_lines(lines).unwrap();
-        let words = vec![0; 2 * (31 * lines as usize + 64) + 128];
+        let words = vec![0; 2 * (31 * lines as usize + 64) + 128 + 2];
         assert_eq!((table.lines(), table.words()), (lines, &words[..]));
         assert_eq!(Table::from_words(lines, &words), Ok(table));
         let refused = Table::from_words(lines, &words[1..]);
@@ -179,6 +180,7 @@ fn every_count_of_lines() {
         words[ephemeral - 1] = 1;
         words[ephemeral] = 1;
         words[records_start(lines)] = 1;
+        words[map_start(lines)] = 1;
         assert_eq!(gateway.table().words(), words);
         let request = format!("T=2{{C=1{{MF=*{{M{{TS{{SI=TE}}}}}},S=R/*,S=L/{lines}/*}}}}");
         let reply = format!("P=2{{C=1{{MF=L/{lines}/31,MF=R/1,S=R/1,S=L/{lines}/31}}}}");
@@ -186,6 +188,54 @@ fn every_count_of_lines() {
         let mut words = vec![0; table_words(lines)];
         words[terminations(lines) + ephemeral - 1] = 16;
         assert_eq!(gateway.table().words(), words);
+    }
+}
+
+#[test]
+fn map_of_the_ephemerals() {
+    for (map, lowest, used) in [
+        (0, 1, 0),
+        (0b1011, 3, 3),
+        (0x7FFF_FFFF, 32, 31),
+        (0xFFFF_FFFF, 33, 32),
+        (0xFFFF_FFFF_0000_0000, 1, 32),
+        (u64::MAX >> 1, 64, 63),
+        (u64::MAX, 0, 64),
+    ] {
+        assert_eq!((lowest_absent(map), in_use(map)), (lowest, used), "{map:x}");
+    }
+    for lines in 1..=MOST_LINES {
+        let mut gateway = Gateway::with_table(OWN, Table::with_lines(lines).unwrap()).unwrap();
+        for number in 1..=64 {
+            assert_eq!(gateway.table().in_use(), number - 1);
+            assert_eq!(gateway.table().lowest_absent(), number);
+            let request = match number % 8 {
+                1 => "T=1{C=${A=$}}".to_string(),
+                _ => format!("T=1{{C={}{{A=R/$}}}}", (number + 7) / 8),
+            };
+            gateway.answer(&message(&request)).unwrap();
+            assert_eq!(gateway.table().map(), u64::MAX >> (64 - number));
+        }
+        assert_eq!(gateway.table().in_use(), 64);
+        assert_eq!(gateway.table().lowest_absent(), 0);
+        gateway.answer(&message("T=1{C=5{S=R/33,S=R/40}}")).unwrap();
+        assert_eq!(gateway.table().map(), !(1 << 32 | 1 << 39));
+        assert_eq!(gateway.table().in_use(), 62);
+        assert_eq!(gateway.table().lowest_absent(), 33);
+        // A place more, a place less and the halves exchanged are unsound.
+        let start = map_start(lines);
+        for (at, bit) in [(start, 1), (start + 1, 1), (start + 1, 1 << 7)] {
+            let mut words = gateway.table().words().to_vec();
+            words[at] ^= bit;
+            let trampled = Table::from_words(lines, &words).unwrap();
+            let refused = Gateway::with_table(OWN, trampled);
+            assert_eq!(refused.err(), Some(Refusal::BadTable));
+        }
+        let mut words = gateway.table().words().to_vec();
+        words[start..].reverse();
+        let trampled = Table::from_words(lines, &words).unwrap();
+        let refused = Gateway::with_table(OWN, trampled);
+        assert_eq!(refused.err(), Some(Refusal::BadTable));
     }
 }
 

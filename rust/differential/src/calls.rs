@@ -73,7 +73,8 @@ impl Cases {
         let table = match kind {
             0..=13 => self.left.clone(),
             14..=16 => tables::fresh(lines),
-            17..=29 => tables::sound(numbers, lines),
+            17..=28 => tables::sound(numbers, lines),
+            29 => tables::lowest(numbers, lines),
             _ => tables::trampled(numbers, lines),
         };
         let message = message(numbers, lines, &table);
@@ -350,6 +351,8 @@ pub struct Tally {
     refused: BTreeMap<u64, u64>,
     /// Calls that change the table, by their count of lines.
     lines: BTreeMap<u32, u64>,
+    /// Calls that change the low and the high half of the map.
+    map: [u64; 2],
     /// Calls whose reply has the code.
     codes: BTreeMap<u32, u64>,
     /// Transactions' replies of exactly 2,048 bytes.
@@ -365,6 +368,10 @@ impl Tally {
         }
         if outcome.table() != case.table {
             *self.lines.entry(case.lines).or_default() += 1;
+            let map = case.table.len() - 2;
+            for (half, changes) in self.map.iter_mut().enumerate() {
+                *changes += u64::from(outcome.table()[map + half] != case.table[map + half]);
+            }
         }
         let text = outcome.text();
         let mut codes: Vec<u32> = text
@@ -395,6 +402,9 @@ impl Tally {
         missing.extend(refusals.map(|number| format!("refusal {number}")));
         let counts = (1..=16).filter(|count| !self.lines.contains_key(count));
         missing.extend(counts.map(|count| format!("a change on {count} lines")));
+        if self.map.contains(&0) {
+            missing.push("a change of each half of the map".to_string());
+        }
         if self.full == 0 {
             missing.push("a reply of 2,048 bytes".to_string());
         }
@@ -418,7 +428,8 @@ impl fmt::Display for Tally {
         for (count, calls) in &self.lines {
             write!(f, " {count}:{calls}")?;
         }
-        f.write_str("; codes")?;
+        let [low, high] = self.map;
+        write!(f, "; changes of the map low:{low} high:{high}; codes")?;
         for (code, calls) in &self.codes {
             write!(f, " {code}:{calls}")?;
         }

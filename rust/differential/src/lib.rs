@@ -1,10 +1,11 @@
 //! A differential test: any callee with the gateway's face against the
-//! reference, on random, damaged and boundary calls from a seed; and demand 3
-//! on the callee alone.
+//! reference, on random, damaged and boundary calls from a seed; what it
+//! answers of the map of the ephemerals; and demand 3 on the callee alone.
 
 pub mod calls;
 pub mod damage;
 pub mod limits;
+pub mod maps;
 pub mod messages;
 pub mod numbers;
 pub mod pairs;

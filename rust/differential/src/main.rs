@@ -2,6 +2,9 @@
 //! the reference. `exact` lends buffers with nothing around them, for a memory
 //! checker.
 //!
+//! `differential maps SEED COUNT`: what the archive answers of so many maps of
+//! the ephemerals, and of the maps of so many sound tables.
+//!
 //! `differential pairs SEED COUNT`: so many pairs of transactions that meet
 //! demand 3's conditions, in both orders.
 
@@ -9,10 +12,12 @@ use std::process::ExitCode;
 
 use cordafina::answer_word;
 use differential::calls::{compare, shortened, Cases, Tally, GUARD};
+use differential::maps::{ask, Questions};
 use differential::numbers::Numbers;
 use differential::pairs::Pair;
 
-const USAGE: &str = "usage: differential calls SEED COUNT [exact] | differential pairs SEED COUNT";
+const USAGE: &str =
+    "usage: differential calls SEED COUNT [exact] | maps SEED COUNT | pairs SEED COUNT";
 
 fn main() -> ExitCode {
     let words: Vec<String> = std::env::args().skip(1).collect();
@@ -36,6 +41,7 @@ fn test(words: &[&str]) -> Option<bool> {
     match (*kind, rest) {
         ("calls", []) => Some(calls(seed, count, GUARD)),
         ("calls", ["exact"]) => Some(calls(seed, count, 0)),
+        ("maps", []) => Some(maps(seed, count)),
         ("pairs", []) => Some(pairs(seed, count)),
         _ => None,
     }
@@ -67,9 +73,31 @@ fn calls(seed: u64, count: u64, guard: usize) -> bool {
     true
 }
 
+fn maps(seed: u64, count: u64) -> bool {
+    let archive = Questions {
+        lowest_absent: cordafina::lowest_absent,
+        in_use: cordafina::in_use,
+    };
+    let mut numbers = Numbers::new(seed);
+    let mut full = 0;
+    for place in 0..count {
+        match ask(&mut numbers, &archive) {
+            Ok(map) => full += u64::from(map == u64::MAX),
+            Err(what) => {
+                println!("DIFFERENCE: {what}");
+                println!("seed {seed}, after {place} maps: 1 difference");
+                return false;
+            }
+        }
+    }
+    println!("seed {seed}, {count} maps, {full} of them full, and {count} of sound tables: 0 differences");
+    true
+}
+
 fn pairs(seed: u64, count: u64) -> bool {
     let mut numbers = Numbers::new(seed);
-    let (mut apart, mut both_change, mut others, mut unlike) = (0, 0, 0, 0);
+    let (mut apart, mut both_table, mut both_map) = (0, 0, 0);
+    let (mut others, mut unlike) = (0, 0);
     while apart < count {
         let pair = Pair::new(&mut numbers);
         let is_apart = pair.is_apart();
@@ -81,7 +109,8 @@ fn pairs(seed: u64, count: u64) -> bool {
             }
             run if is_apart => {
                 apart += 1;
-                both_change += u64::from(run == Ok(true));
+                both_table += u64::from(run.as_ref().is_ok_and(|both| both.table));
+                both_map += u64::from(run.as_ref().is_ok_and(|both| both.map));
             }
             run => {
                 others += 1;
@@ -90,8 +119,8 @@ fn pairs(seed: u64, count: u64) -> bool {
         }
     }
     println!(
-        "seed {seed}, {apart} pairs that are apart, in {both_change} both change the table: 0 end unlike; \
-         of {others} other pairs {unlike} end unlike"
+        "seed {seed}, {apart} pairs that are apart, in {both_table} both change the table, in {both_map} the map: \
+         0 end unlike; of {others} other pairs {unlike} end unlike"
     );
     true
 }

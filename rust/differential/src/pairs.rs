@@ -23,15 +23,27 @@ pub struct Pair {
     two: Vec<u8>,
 }
 
+/// What both transactions of a pair change, one after the other.
+pub struct BothChange {
+    pub table: bool,
+    /// The map, whose words the ephemerals share.
+    pub map: bool,
+}
+
 impl Pair {
     /// A pair of which most meet the conditions: contexts and terminations are
     /// shared out between the two, and sometimes not cleanly.
     pub fn new(numbers: &mut Numbers) -> Self {
         let lines = tables::lines(numbers);
-        let mut table = tables::sound(numbers, lines);
-        while tables::contexts(lines, &table).is_empty() {
-            table = tables::sound(numbers, lines);
-        }
+        let table = loop {
+            let table = match numbers.one_in(3) {
+                true => tables::lowest(numbers, lines),
+                false => tables::sound(numbers, lines),
+            };
+            if !tables::contexts(lines, &table).is_empty() {
+                break table;
+            }
+        };
         let [mut one, mut two] = shared_out(numbers, lines, &table);
         if numbers.one_in(8) {
             match numbers.under(3) {
@@ -71,9 +83,9 @@ impl Pair {
         !one.iter().any(|context| two.contains(context))
     }
 
-    /// Runs both orders, each as two messages and as one. Gives whether both
-    /// transactions change the table, or what ends unlike.
-    pub fn run(&self, call: Call) -> Result<bool, String> {
+    /// Runs both orders, each as two messages and as one. Gives what both
+    /// transactions change, or what ends unlike.
+    pub fn run(&self, call: Call) -> Result<BothChange, String> {
         let (one, two) = (&self.one, &self.two);
         let replied =
             |table: &mut [u32], texts: &[&Vec<u8>]| replied(call, self.lines, table, texts);
@@ -81,7 +93,11 @@ impl Pair {
         let first = replied(&mut table, &[one])?;
         let between = table.clone();
         let second = replied(&mut table, &[two])?;
-        let both_change = between != self.table && table != between;
+        let map = self.lines.map();
+        let both_change = BothChange {
+            table: between != self.table && table != between,
+            map: between[map..] != self.table[map..] && table[map..] != between[map..],
+        };
 
         let mut other = self.table.clone();
         let second_first = replied(&mut other, &[two])?;

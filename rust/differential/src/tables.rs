@@ -65,7 +65,50 @@ pub fn sound(numbers: &mut Numbers, lines: Lines) -> Vec<u32> {
             table[lines.properties() + termination] = property(numbers);
         }
     }
+    set_map(lines, &mut table);
     table
+}
+
+/// A sound table on which the lowest ephemerals exist, so many that the next one
+/// is about a half of the map, or all; now and then one of them is missing.
+pub fn lowest(numbers: &mut Numbers, lines: Lines) -> Vec<u32> {
+    let count = numbers.pick(&[30, 31, 32, 33, 63, 64]);
+    // Nine contexts of three or more.
+    let first = numbers.within(1..=CONTEXTS - 8);
+    let mut table = fresh(lines);
+    for place in 0..count {
+        let context = first + place % 9;
+        table[lines.line_terminations() + place] = context as u32;
+        table[lines.records() + context - 1] = 1 + numbers.under(32) as u32;
+    }
+    if numbers.one_in(2) {
+        let missing = numbers.pick(&[0, 1, 30, 31, 32, 33, 62, 63]);
+        table[lines.line_terminations() + missing] = 0;
+    }
+    set_map(lines, &mut table);
+    table
+}
+
+/// The map that the context words of the ephemerals give, by a walk over them.
+pub fn walk(lines: Lines, table: &[u32]) -> u64 {
+    let ephemerals = &table[lines.line_terminations()..lines.terminations()];
+    let present = ephemerals
+        .iter()
+        .rev()
+        .map(|&context| u64::from(context != 0));
+    present.fold(0, |map, bit| map << 1 | bit)
+}
+
+/// The map as the table has it.
+pub fn map(lines: Lines, table: &[u32]) -> u64 {
+    u64::from(table[lines.map()]) | u64::from(table[lines.map() + 1]) << 32
+}
+
+/// Sets the map by the walk.
+pub fn set_map(lines: Lines, table: &mut [u32]) {
+    let map = walk(lines, table);
+    table[lines.map()] = map as u32;
+    table[lines.map() + 1] = (map >> 32) as u32;
 }
 
 /// One of the 15 values.
@@ -88,7 +131,8 @@ pub fn trampled(numbers: &mut Numbers, lines: Lines) -> Vec<u32> {
     let context = numbers.within(1..=CONTEXTS);
     let record = records + context - 1;
     let termination = numbers.under(lines.terminations());
-    match numbers.under(12) {
+    let kind = numbers.under(16);
+    match kind {
         0 => {
             // One line less or more is 62 words.
             let lengths = [
@@ -125,6 +169,29 @@ pub fn trampled(numbers: &mut Numbers, lines: Lines) -> Vec<u32> {
         8 => table[record] = numbers.pick(&[31, 32, 33, 64, u32::MAX]),
         9 => table[record] = u32::from(table[record] == 0),
         10 => table[termination] = context as u32,
+        // "2 also when map and words disagree"
+        11 => table[lines.map() + numbers.under(2)] ^= 1 << numbers.under(32),
+        12 => {
+            // About R/32 and R/33.
+            let place = numbers.pick(&[0, 30, 31, 32, 33, 63]);
+            let ephemeral = lines.line_terminations() + place;
+            match numbers.one_in(2) {
+                true => table[lines.map() + place / 32] ^= 1 << (place % 32),
+                false => table[ephemeral] = context as u32,
+            }
+        }
+        13 => table[lines.map()..].reverse(),
+        14 => {
+            let other = match numbers.under(5) {
+                0 => 0,
+                1 => u64::MAX,
+                2 => map(lines, &table) << 1,
+                3 => map(lines, &table) >> 1,
+                _ => map(lines, &table).reverse_bits(),
+            };
+            table[lines.map()] = other as u32;
+            table[lines.map() + 1] = (other >> 32) as u32;
+        }
         // "at most 8 terminations in each non-null context"
         _ => {
             table[record] = 1;
@@ -137,6 +204,12 @@ pub fn trampled(numbers: &mut Numbers, lines: Lines) -> Vec<u32> {
             for line in null.take(count).collect::<Vec<_>>() {
                 table[line] = context as u32;
             }
+        }
+    }
+    // What was done to the words is mostly not to be found by the map alone.
+    if (3..=10).contains(&kind) || kind == 15 {
+        if !numbers.one_in(4) {
+            set_map(lines, &mut table);
         }
     }
     table

@@ -4,8 +4,9 @@
 use std::sync::atomic::{AtomicU32, Ordering::Relaxed};
 
 use differential::calls::{compare, reference_word, shortened, Call, Cases, GUARD};
+use differential::maps::{ask, Questions, REFERENCE};
 use differential::numbers::Numbers;
-use differential::pairs::Pair;
+use differential::pairs::{BothChange, Pair};
 use differential::tables;
 use reference::table::Lines;
 
@@ -37,7 +38,7 @@ fn keeps_state(lines: u32, message: &[u8], table: &mut [u32], own: &[u8], reply:
     word
 }
 
-const DEFECTS: [(&str, Call); 14] = [
+const DEFECTS: [(&str, Call); 18] = [
     ("keeps state", keeps_state),
     (
         "one byte of a long reply",
@@ -170,6 +171,51 @@ const DEFECTS: [(&str, Call); 14] = [
             word
         },
     ),
+    (
+        "the map is not judged",
+        |lines, message, table, own, reply| {
+            let before = table.to_vec();
+            if let Some(lines) = tables::lines_of(table.len()) {
+                tables::set_map(lines, table);
+            }
+            let word = reference_word(lines, message, table, own, reply);
+            if word >> 32 != 0 {
+                table.copy_from_slice(&before);
+            }
+            word
+        },
+    ),
+    (
+        "the map is not written",
+        |lines, message, table, own, reply| {
+            let map = table.len().saturating_sub(2);
+            let before = table[map..].to_vec();
+            let word = reference_word(lines, message, table, own, reply);
+            table[map..].copy_from_slice(&before);
+            word
+        },
+    ),
+    (
+        "the map's high half is not written",
+        |lines, message, table, own, reply| {
+            let before = table.last().copied();
+            let word = reference_word(lines, message, table, own, reply);
+            if let (Some(last), Some(before)) = (table.last_mut(), before) {
+                *last = before;
+            }
+            word
+        },
+    ),
+    (
+        "the map's high half comes first",
+        |lines, message, table, own, reply| {
+            let map = table.len().saturating_sub(2);
+            table[map..].reverse();
+            let word = reference_word(lines, message, table, own, reply);
+            table[map..].reverse();
+            word
+        },
+    ),
 ];
 
 #[test]
@@ -220,9 +266,46 @@ fn most_pairs_are_apart() {
     let mut numbers = Numbers::new(3);
     let pairs: Vec<Pair> = (0..2_000).map(|_| Pair::new(&mut numbers)).collect();
     let apart: Vec<&Pair> = pairs.iter().filter(|pair| pair.is_apart()).collect();
-    let both_change = apart
+    let both: Vec<BothChange> = apart
         .iter()
-        .filter(|pair| pair.run(reference_word) == Ok(true));
+        .filter_map(|pair| pair.run(reference_word).ok())
+        .collect();
     assert!(apart.len() > 1_600, "{} of 2,000", apart.len());
-    assert!(both_change.count() > 200);
+    assert!(both.iter().filter(|both| both.table).count() > 200);
+    assert!(both.iter().filter(|both| both.map).count() > 20);
+}
+
+#[test]
+fn a_map_answered_wrongly_is_found() {
+    const DEFECTS: [Questions; 5] = [
+        // From 0 on; 65 where there is none; the low half alone.
+        Questions {
+            lowest_absent: |map| (!map).trailing_zeros(),
+            ..REFERENCE
+        },
+        Questions {
+            lowest_absent: |map| (!map).trailing_zeros() + 1,
+            ..REFERENCE
+        },
+        Questions {
+            lowest_absent: |map| (!map as u32).trailing_zeros() + 1,
+            ..REFERENCE
+        },
+        Questions {
+            in_use: |map| (map as u32).count_ones(),
+            ..REFERENCE
+        },
+        // 64 in six bits is 0.
+        Questions {
+            in_use: |map| map.count_ones() & 63,
+            ..REFERENCE
+        },
+    ];
+    for (place, defect) in DEFECTS.iter().enumerate() {
+        let mut numbers = Numbers::new(1);
+        let found = (0..2_000).any(|_| ask(&mut numbers, defect).is_err());
+        assert!(found, "defect {place} is not found");
+    }
+    let mut numbers = Numbers::new(1);
+    assert!((0..2_000).all(|_| ask(&mut numbers, &REFERENCE).is_ok()));
 }

@@ -18,9 +18,9 @@ fn counts_of_lines() {
     assert!([1, 8, 9, 16].iter().all(|&often| found[often] > 200));
     for count in 1..=16 {
         let lines = Lines::fitted(count);
-        assert_eq!(tables::lines_of(62 * count as usize + 256), lines);
+        assert_eq!(tables::lines_of(62 * count as usize + 258), lines);
     }
-    assert_eq!((tables::lines_of(751), tables::lines_of(0)), (None, None));
+    assert_eq!((tables::lines_of(752), tables::lines_of(0)), (None, None));
 }
 
 #[test]
@@ -28,9 +28,11 @@ fn sound_tables_are_sound() {
     let mut numbers = Numbers::new(1);
     for _ in 0..4_000 {
         let lines = tables::lines(&mut numbers);
-        let mut table = tables::sound(&mut numbers, lines);
-        let shown = tables::shown(&table);
-        assert!(Table::sound(lines, &mut table).is_some(), "{shown}");
+        let sound = tables::sound(&mut numbers, lines);
+        for mut table in [sound, tables::lowest(&mut numbers, lines)] {
+            let shown = tables::shown(&table);
+            assert!(Table::sound(lines, &mut table).is_some(), "{shown}");
+        }
     }
 }
 

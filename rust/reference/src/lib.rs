@@ -1,11 +1,12 @@
 //! A small Megaco (H.248.1) text gateway, in plain Rust, after document 01 and
-//! document 02's request 10.
+//! document 02's requests 10 and 5.
 //!
 //! The count of lines, one message, a lent table and a lent reply buffer go in;
 //! an [`Answer`] comes out. The whole message is read to a tree before anything
 //! runs. The quoted sentences in the comments are those documents'.
 
 pub mod listing;
+pub mod map;
 pub mod reply;
 pub mod run;
 pub mod table;
@@ -29,7 +30,7 @@ pub enum Answer {
     Taken(usize),
     /// "reply buffer under 16,640 bytes"
     ReplyTooShort,
-    /// Table not of the count's words ("752" on eight lines), "or not sound"
+    /// Table not of the count's words, "or not sound"
     BadTable,
     /// "gateway's own mId not an mId as below, or over 64 bytes"
     BadMid,

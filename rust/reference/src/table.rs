@@ -2,9 +2,10 @@
 //!
 //! First "the context of each termination, 0 for null", then of each "its
 //! properties, mode + 8 × state", then "contexts 1..128, 0 if absent, else
-//! 1 + priority + 16 × emergency". Where each part starts follows from the
-//! count of lines that are fitted; with eight of them the parts are document
-//! 01's words 0..311, 312..623 and 624..751.
+//! 1 + priority + 16 × emergency", then the map of the ephemerals. Where each
+//! part starts follows from the count of lines that are fitted; with eight of
+//! them the first three are document 01's words 0..311, 312..623 and 624..751,
+//! and the map is in words 752 and 753.
 
 use std::ops::Range;
 
@@ -56,9 +57,14 @@ impl Lines {
         self.properties() + self.terminations()
     }
 
+    /// Where the map starts: "two words at its end, low half first".
+    pub const fn map(self) -> usize {
+        self.records() + CONTEXTS
+    }
+
     /// The words of a table.
     pub const fn words(self) -> usize {
-        self.records() + CONTEXTS
+        self.map() + 2
     }
 }
 
@@ -97,8 +103,13 @@ pub struct Table<'t> {
     members: [u16; CONTEXTS + 1],
     /// Bit c - 1 is set for a context c that exists.
     contexts: u128,
-    /// Bit n - 1 is set for an ephemeral `R/n` that exists.
+    /// "bit n − 1 set exactly when R/n exists"
     ephemerals: u64,
+}
+
+/// The two words of a map.
+fn halves(map: u64) -> [u32; 2] {
+    [map as u32, (map >> 32) as u32]
 }
 
 impl<'t> Table<'t> {
@@ -112,7 +123,8 @@ impl<'t> Table<'t> {
         let mut ephemerals = 0;
 
         let (stands_in, rest) = words.split_at(lines.properties());
-        let (properties, records) = rest.split_at(lines.terminations());
+        let (properties, rest) = rest.split_at(lines.terminations());
+        let (records, map) = rest.split_at(CONTEXTS);
         for (termination, (&context, &property)) in stands_in.iter().zip(properties).enumerate() {
             // "each context word at most 128"
             *members.get_mut(context as usize)? += 1;
@@ -136,6 +148,10 @@ impl<'t> Table<'t> {
                 return None;
             }
             contexts |= u128::from(count != 0) << place;
+        }
+        // "2 also when map and words disagree"
+        if map != halves(ephemerals) {
+            return None;
         }
         Some(Table {
             words,
@@ -207,9 +223,8 @@ impl<'t> Table<'t> {
         self.members[0] -= 1;
         self.members[context] += 1;
         self.contexts |= 1 << (context - 1);
-        let lines = self.lines.line_terminations();
-        if termination >= lines {
-            self.ephemerals |= 1 << (termination - lines);
+        if let Some(bit) = self.bit(termination) {
+            self.set_map(self.ephemerals | bit);
         }
     }
 
@@ -225,10 +240,20 @@ impl<'t> Table<'t> {
             self.contexts &= !(1 << (context - 1));
             self.words[self.lines.records() + context - 1] = 0;
         }
-        let lines = self.lines.line_terminations();
-        if termination >= lines {
-            self.ephemerals &= !(1 << (termination - lines));
+        if let Some(bit) = self.bit(termination) {
+            self.set_map(self.ephemerals & !bit);
         }
+    }
+
+    /// The place of an ephemeral in the map.
+    fn bit(&self, termination: usize) -> Option<u64> {
+        let place = termination.checked_sub(self.lines.line_terminations())?;
+        Some(1 << place)
+    }
+
+    fn set_map(&mut self, map: u64) {
+        self.ephemerals = map;
+        self.words[self.lines.map()..].copy_from_slice(&halves(map));
     }
 
     /// Sets the property values given and keeps the others.

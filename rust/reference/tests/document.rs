@@ -2,6 +2,7 @@
 //! lines; and document 02's request 10, on other counts.
 
 use reference::listing::listing;
+use reference::map::{in_use, lowest_absent};
 use reference::table::{write_name, Lines, Name};
 use reference::{answer, Answer};
 
@@ -37,12 +38,12 @@ fn inside_on(lines: u32, request: &str, table: &mut [u32]) -> String {
 }
 
 fn fresh(request: &str) -> String {
-    inside(request, &mut [0; 752])
+    inside(request, &mut [0; 754])
 }
 
 /// From a table with L/1/1 alone in context 1.
 fn context_1(request: &str) -> String {
-    let mut table = [0; 752];
+    let mut table = [0; 754];
     inside("T=1{C=${A=L/1/1}}", &mut table);
     inside(request, &mut table)
 }
@@ -74,14 +75,14 @@ fn words_of(table: &[u32]) -> Vec<(usize, u32)> {
 #[test]
 fn session() {
     let after: [&[(usize, u32)]; 6] = [
-        &[(4, 1), (248, 1), (624, 1)],
-        &[(4, 1), (248, 1), (624, 1)],
-        &[(4, 2), (248, 1), (624, 1), (625, 1)],
+        &[(4, 1), (248, 1), (624, 1), (752, 1)],
+        &[(4, 1), (248, 1), (624, 1), (752, 1)],
+        &[(4, 2), (248, 1), (624, 1), (625, 1), (752, 1)],
         &[(4, 2), (625, 1)],
         &[(4, 2), (316, 3), (625, 1)],
         &[(4, 2), (316, 3), (625, 1)],
     ];
-    let mut table = [0; 752];
+    let mut table = [0; 754];
     for ((request, reply), after) in SESSION.iter().zip(after) {
         assert_eq!(inside(request, &mut table), *reply);
         assert_eq!(words_of(&table), after);
@@ -149,9 +150,9 @@ fn short_cases() {
         ("T=1{C=${A=R/1}}", "P=1{C=${A=R/1{ER=430{}}}}"),
         ("T=1{C=-{MF=*}}", "P=1{ER=533{}}"),
     ] {
-        let mut table = [0; 752];
+        let mut table = [0; 754];
         assert_eq!(inside(request, &mut table), reply, "{request}");
-        assert_eq!(table, [0; 752], "{request}");
+        assert_eq!(table, [0; 754], "{request}");
     }
 }
 
@@ -160,14 +161,15 @@ fn turned_down() {
     let message = b"!/1 [10.0.0.1] T=7{C=${A=L/1/5,A=$}}";
     let long = [b' '; 4_097];
     let own_65 = [b'a'; 65];
-    let sound = [0; 752];
+    let sound = [0; 754];
     let mut unsound = sound;
     unsound[751] = 1;
     for (message, words, own, length, expected) in [
         (&message[..], &sound[..], OWN, 16_639, Answer::ReplyTooShort),
         (b"", &unsound, b"", 0, Answer::ReplyTooShort),
-        (message, &sound[..751], OWN, 16_640, Answer::BadTable),
-        (message, &[0; 753], OWN, 16_640, Answer::BadTable),
+        (message, &sound[..752], OWN, 16_640, Answer::BadTable),
+        (message, &sound[..753], OWN, 16_640, Answer::BadTable),
+        (message, &[0; 755], OWN, 16_640, Answer::BadTable),
         (message, &[], OWN, 16_640, Answer::BadTable),
         (b"", &unsound, b"", 16_640, Answer::BadTable),
         (b"", &sound, b"", 16_640, Answer::BadMid),
@@ -191,19 +193,20 @@ fn turned_down() {
     assert_eq!(Answer::LinesUnfit.number(), 8);
     // A longer buffer, and an own mId of just 64 bytes, are fine.
     let mut reply = vec![FILL; 20_000];
-    let taken = answer(8, message, &mut [0; 752], &own_65[..64], &mut reply);
+    let taken = answer(8, message, &mut [0; 754], &own_65[..64], &mut reply);
     assert_eq!(taken, Answer::Taken(4 + 64 + 1 + 23));
 }
 
 #[test]
 fn tables_not_sound() {
     // A sound one: L/1/1 and R/1 in context 3, priority 15 and emergency.
-    let mut sound = [0; 752];
+    let mut sound = [0; 754];
     sound[0] = 3;
     sound[248] = 3;
     sound[626] = 32;
     sound[312] = 20;
-    let taken = |table: &[u32; 752]| {
+    sound[752] = 1;
+    let taken = |table: &[u32; 754]| {
         let mut reply = vec![FILL; 16_640];
         let got = answer(8, b"x", &mut table.clone(), OWN, &mut reply);
         got != Answer::BadTable
@@ -222,6 +225,12 @@ fn tables_not_sound() {
         (626, 0),
         (626, 33),
         (627, 1),
+        (752, 0),
+        (752, 2),
+        (752, 3),
+        (752, u32::MAX),
+        (753, 1),
+        (753, 1 << 31),
     ] {
         let mut table = sound;
         table[place] = word;
@@ -260,7 +269,7 @@ fn headers() {
         ("! /1 [1.1.1.1] T=1{C=-{MF=ROOT}}", "ER=400{}"),
         ("!", "ER=400{}"),
     ] {
-        let mut table = [0; 752];
+        let mut table = [0; 754];
         assert_eq!(whole(message.as_bytes(), &mut table), reply, "{message:?}");
     }
 }
@@ -360,9 +369,9 @@ fn boundaries() {
 fn message_of_4096() {
     let mut message = format!("{HEADER_IN}T=1{{C=${{A=$}}}}").into_bytes();
     message.resize(4_096, b' ');
-    assert_eq!(whole(&message, &mut [0; 752]), "P=1{C=1{A=R/1}}");
+    assert_eq!(whole(&message, &mut [0; 754]), "P=1{C=1{A=R/1}}");
     message.push(b' ');
-    let refused = answer(8, &message, &mut [0; 752], OWN, &mut [0; 16_640]);
+    let refused = answer(8, &message, &mut [0; 754], OWN, &mut [0; 16_640]);
     assert_eq!(refused, Answer::BadMessage);
 }
 
@@ -399,19 +408,19 @@ fn reply_of_2048_and_2049() {
 
 #[test]
 fn subtracted_line_keeps_its_state() {
-    let mut table = [0; 752];
+    let mut table = [0; 754];
     let request = "T=1{C=${A=L/1/1{M{TS{SI=te},O{mode=LoopBack}}},A=$,S=L/1/1}}";
     assert_eq!(
         inside(request, &mut table),
         "P=1{C=1{A=L/1/1,A=R/1,S=L/1/1}}"
     );
-    assert_eq!(words_of(&table), [(248, 1), (312, 16), (624, 1)]);
+    assert_eq!(words_of(&table), [(248, 1), (312, 16), (624, 1), (752, 1)]);
 }
 
 #[test]
 fn no_context_left() {
     // Contexts 1..128, each with one line termination; no ephemeral.
-    let mut table = [0; 752];
+    let mut table = [0; 754];
     for context in 1..=128 {
         table[context as usize - 1] = context;
         table[623 + context as usize] = 1;
@@ -430,10 +439,10 @@ fn no_context_left() {
 
 /// The count, the words of its table, and where properties and records start.
 const SIZES: [(u32, usize, usize, usize); 4] = [
-    (1, 318, 95, 190),
-    (8, 752, 312, 624),
-    (9, 814, 343, 686),
-    (16, 1_248, 560, 1_120),
+    (1, 320, 95, 190),
+    (8, 754, 312, 624),
+    (9, 816, 343, 686),
+    (16, 1_250, 560, 1_120),
 ];
 
 #[test]
@@ -457,7 +466,7 @@ fn sizes_follow_from_the_count() {
 fn count_outside_1_to_16() {
     // "8 for a count outside 1..16, before 3": nothing else is right either.
     for count in [0, 17, 18, 255, 256, 264, 65_544, 1 << 31, u32::MAX] {
-        for (words, length) in [(0, 0), (752, 16_640), (1_310, 16_640)] {
+        for (words, length) in [(0, 0), (754, 16_640), (1_312, 16_640)] {
             let mut table = vec![7; words];
             let mut reply = vec![FILL; length];
             let got = answer(count, b"", &mut table, b"", &mut reply);
@@ -546,6 +555,7 @@ fn other_counts() {
             (properties + last, 3),
             (properties + ephemeral, 3),
             (records, 1),
+            (records + 128, 1),
         ];
         assert_eq!(words_of(&table), after);
         let request = format!("T=2{{C=1{{S=L/{count}/*,S=R/*}}}}");
@@ -554,13 +564,13 @@ fn other_counts() {
         assert_eq!(words_of(&table), []);
     }
     // The session has the same replies on sixteen lines.
-    let mut table = vec![0; 1_248];
+    let mut table = vec![0; 1_250];
     for (request, reply) in SESSION {
         assert_eq!(inside_on(16, request, &mut table), reply);
     }
     assert_eq!(words_of(&table), [(4, 2), (564, 3), (1_121, 1)]);
     // One line has 64 ephemerals too.
-    let mut table = vec![0; 318];
+    let mut table = vec![0; 320];
     for context in 1..=8 {
         let reply = inside_on(1, "T=1{C=${A=$,A=$,A=$,A=$,A=$,A=$,A=$,A=$}}", &mut table);
         assert!(
@@ -577,10 +587,72 @@ fn other_counts() {
         ]
         .concat()
     );
+    assert_eq!(table[318..], [u32::MAX; 2]);
     assert_eq!(
         inside_on(1, "T=1{C=${A=$}}", &mut table),
         "P=1{C=${A=${ER=432{}}}}"
     );
+}
+
+#[test]
+fn map_of_the_ephemerals() {
+    // All 64; then one at a time goes and comes back as the lowest absent one.
+    for (count, words, ..) in SIZES {
+        let mut table = vec![0; words];
+        for _ in 1..=8 {
+            let request = "T=1{C=${A=$,A=$,A=$,A=$,A=$,A=$,A=$,A=$}}";
+            inside_on(count, request, &mut table);
+        }
+        let full = table.clone();
+        assert_eq!(full[words - 2..], [u32::MAX; 2]);
+        for (number, low, high) in [
+            (1, !1, !0),
+            (31, !(1 << 30), !0),
+            (32, !(1 << 31), !0),
+            (33, !0, !1),
+            (64, !0, !(1 << 31)),
+        ] {
+            let context = (number - 1) / 8 + 1;
+            let request = format!("T=1{{C={context}{{S=r/{number}}}}}");
+            inside_on(count, &request, &mut table);
+            assert_eq!(table[words - 2..], [low, high]);
+            let request = format!("T=1{{C={context}{{A=$}}}}");
+            let reply = format!("P=1{{C={context}{{A=R/{number}}}}}");
+            assert_eq!(inside_on(count, &request, &mut table), reply);
+            assert_eq!(table, full);
+        }
+        // A Move changes no place of it.
+        inside_on(count, "T=1{C=${MV=R/33,MV=R/1}}", &mut table);
+        assert_eq!(table[words - 2..], [u32::MAX; 2]);
+        // Halves that are exchanged are unsound.
+        inside_on(count, "T=1{C=1{S=*}}", &mut table);
+        let [low, high] = table[words - 2..] else {
+            panic!("two words");
+        };
+        assert_eq!((low, high), (0xFFFF_FF01, u32::MAX));
+        table[words - 2..].reverse();
+        let got = answer(count, b"x", &mut table, OWN, &mut [0; 16_640]);
+        assert_eq!(got, Answer::BadTable);
+    }
+}
+
+#[test]
+fn asked_of_the_map_alone() {
+    for (map, lowest, used) in [
+        (0, 1, 0),
+        (1, 2, 1),
+        (0b1011, 3, 3),
+        (0x7FFF_FFFF, 32, 31),
+        (0xFFFF_FFFF, 33, 32),
+        (0x1_FFFF_FFFF, 34, 33),
+        (0xFFFF_FFFF_0000_0000, 1, 32),
+        (u64::MAX >> 1, 64, 63),
+        (u64::MAX - 1, 1, 63),
+        (u64::MAX, 0, 64),
+    ] {
+        assert_eq!(lowest_absent(map), lowest, "{map:x}");
+        assert_eq!(in_use(map), used, "{map:x}");
+    }
 }
 
 /// A small generator of numbers for the noise below.
@@ -626,7 +698,7 @@ fn line_noise() {
         "\u{7f}",
     ];
     let mut numbers = Numbers(0x9E37_79B9_7F4A_7C15);
-    let mut table = [0; 752];
+    let mut table = [0; 754];
     for round in 0..20_000 {
         let mut message = b"!/1 [1.2.3.4] T=5{C=${A=$".to_vec();
         for _ in 0..numbers.next(12) {
@@ -642,7 +714,7 @@ fn line_noise() {
         let sound = answer(8, b"x", &mut table, OWN, &mut [0; 16_640]);
         assert_ne!(sound, Answer::BadTable);
         if round % 64 == 0 {
-            table = [0; 752];
+            table = [0; 754];
         }
     }
 }

@@ -1,5 +1,5 @@
-use borrow.Author.Needs.{needs}
 use Rattle.attempt.proofs.ChangeLaws.{change-add, change-modify, change-subtract, change-move}
+use borrow.Author.Needs.{needs}
 use Rattle.attempt.proofs.change.Statement.{statement}
 use Rattle.attempt.proofs.change.Tie as tie
 
@@ -13,10 +13,12 @@ change-spec =
     (λ c κs. search needs)
     (λ c κs. search needs)
     (λ c κs. search needs)
+    (λ c κs. search needs)
     (λ c. search needs)
     (λ c κs. search needs)
     (λ c κs. search needs)
     (λ c. search needs)
+    (λ c κs. search needs)
     (λ c κs. search needs)
     (λ c κs. search needs)
     (λ c κs. search needs)

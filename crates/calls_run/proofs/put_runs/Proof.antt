@@ -9,7 +9,7 @@ abbrev Inv-loop : tie.InvT-loop
 Inv-loop table₀ runs i₀ table i = length table ≡ length table₀
 
 abbrev μ-loop : tie.MeasureT-loop
-μ-loop table₀ runs i₀ table i = length runs / 16 - i
+μ-loop table₀ runs i₀ table i = length runs / 21 - i
 
 pub put-runs-spec : {M : Type 1} → statement M
 put-runs-spec =

@@ -11,4 +11,5 @@ is-sized-spec =
     (λ c. search needs)
     (λ c. search needs)
     (λ c. search needs)
+    (λ c. search needs)
     (λ c. search sized-by))

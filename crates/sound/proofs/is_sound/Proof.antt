@@ -9,5 +9,6 @@ is-sound-spec =
     (tie.spec
     (λ c κs. search needs)
     (λ c κs. search sized-facts)
+    (λ c κs. search sized-facts)
     (λ c. search sound-by)
     (λ c. search unsound))

@@ -1,4 +1,4 @@
-use Rattle.table.proofs.TableLaws.{ephemerals-fit, ephemerals-part}
+use Rattle.table.proofs.MapLaws.{free-by}
 use borrow.Author.Needs.{needs}
 use Rattle.table.proofs.free_ephemeral.Statement.{statement}
 use Rattle.table.proofs.free_ephemeral.Tie as tie
@@ -8,12 +8,5 @@ free-ephemeral-spec =
     tie.close
     (tie.spec
     (λ c κs. search needs)
-    (λ c. search needs)
-    (λ c. search needs)
-    (λ c. search needs)
-    (λ c. search needs)
-    (λ c. search needs)
-    (λ c. search needs)
     (λ c κs. search needs)
-    (λ c. search ephemerals-fit)
-    (λ c. search ephemerals-part))
+    (λ c. search free-by))

@@ -1,0 +1,12 @@
+use Rattle.table.proofs.MapLaws.{halves}
+use borrow.Author.Needs.{needs}
+use Rattle.table.proofs.joined.Statement.{statement}
+use Rattle.table.proofs.joined.Tie as tie
+
+pub joined-spec : {M : Type 1} → statement M
+joined-spec =
+    tie.close
+    (tie.spec
+    (λ c. search needs)
+    (λ c. search needs)
+    (λ c. search halves))
