@@ -3,7 +3,8 @@
 
 usage, from the root: tools/call_cases.py [--early EARLIER.jsonl..] CALLS.jsonl
 
-EARLIER: calls recorded before the table had the map of the ephemerals; it is worked out for them.
+EARLIER: calls recorded before the table had the map of the ephemerals and before a termination out of service was barred from Move: the
+map is worked out for them, and those in which such a Move could come are left out, told by their number.
 
 Takes the rows at a boundary first, then rows that show a code, a refusal, a report or a kind that few before them show, as
 tools/evaluate.py does, and adds the calls of SESSION and SINGLE, which stand in this file: document 01 gives their replies and
@@ -45,6 +46,15 @@ def grown(row):
         used = sum(1 << k for k in range(64) if held.get(31 * lines + k))
         row[name] = sorted({**held, **{62 * lines + 256 + h: v for h, v in enumerate(divmod(used, 2 ** 32)[::-1]) if v}}.items())
     return row
+
+
+def may_be_barred(row):
+    """Whether a Move of a row recorded before 503 may meet it: one went through, was refused after 433 or is hidden by 533, and some
+    termination is out of service, or may be put there."""
+    message, reply, states = bytes.fromhex(row["message"]).upper(), bytes.fromhex(row["reply"]), 31 * row.get("lines", LINES) + 64
+    moved = re.search(rb"MV=[^{},]+(?:[,}]|\{ER=(?:412|434))", reply) or (b"ER=533" in reply and (b"MV" in message or b"MOVE" in message))
+    out = b"OS" in message or b"OUTOFSERVICE" in message or any(v // 8 == 1 for i, v in row["table"] if states <= i < 2 * states)
+    return bool(moved and out)
 
 
 def runs(pairs):
@@ -122,6 +132,19 @@ SINGLE = [
     (b"T=1{C=5{" + b"O-A=" + (X64 + b",O-A=") * 26 + b"x" * 24 + b"}}",
      b"P=1{C=5{" + (b"A=" + X64 + b"{ER=411{}},") * 26 + b"A=" + b"x" * 24 + b"{ER=411{}}}}", {}, None),
     (b"T=1{C=5{" + b"O-A=" + (X64 + b",O-A=") * 26 + b"x" * 25 + b"}}", b"P=1{ER=533{}}", {}, None),
+    # out of service: 503 after 435 and 433, whatever state the items give, a wildcard's too; before 412 and 434
+    (b"T=1{C=1{O-MV=L/1/2,O-MV=L/1/1},C=${O-MV=L/1/1,O-MV=L/1/1{M{TS{SI=IV}}},MV=*}}",
+     b"P=1{C=1{MV=L/1/2{ER=435{}},MV=L/1/1{ER=433{}}},C=${MV=L/1/1{ER=503{}},MV=L/1/1{ER=503{}},MV=L/1/1{ER=503{}}}}",
+     {0: 1, 312: 11, 313: 8, 624: 1}, None),
+    (b"T=1{C=${O-MV=L/1/1,O-MV=L/1/2}}", b"P=1{C=${MV=L/1/1{ER=503{}},MV=L/1/2{ER=412{}}}}", {**ALL, 312: 8}, None),
+    (b"T=1{C=1{O-MV=L/2/1,O-MV=L/2/2}}", b"P=1{C=1{MV=L/2/1{ER=503{}},MV=L/2/2{ER=434{}}}}", {**EIGHT, 31: 2, 32: 2, 343: 8, 625: 1}, None),
+    (b"T=1{C=${MV=R/1}}", b"P=1{C=${MV=R/1{ER=503{}}}}", {248: 1, 560: 12, 624: 1, 752: 1}, None),
+    # Test moves; the first that passes makes the context
+    (b"T=1{C=${MV=*}}", b"P=1{C=2{MV=L/1/1{ER=503{}},MV=L/1/2,MV=L/1/3}}",
+     {0: 1, 1: 1, 2: 1, 312: 8, 313: 16, 624: 1}, {0: 1, 1: 2, 2: 2, 312: 8, 313: 16, 624: 1, 625: 1}),
+    # a Move that takes out of service goes, the next does not; Add of one that is out of service goes
+    (b"T=1{C=${MV=L/1/1{M{TS{SI=OS}}}},C=${MV=L/1/1}}", b"P=1{C=2{MV=L/1/1},C=${MV=L/1/1{ER=503{}}}}", LINE, {0: 2, 312: 8, 625: 1}),
+    (b"T=1{C=${A=L/1/1}}", b"P=1{C=1{A=L/1/1}}", {312: 8}, {0: 1, 312: 8, 624: 1}),
 ]
 
 
@@ -177,7 +200,10 @@ def choose(rows, room):
 def main():
     early = sys.argv[2:] if sys.argv[1] == "--early" else []
     rows = [json.loads(line) for line in open(sys.argv[-1])]
-    rows += [r for name in early[:-1] for r in map(grown, map(json.loads, open(name))) if r]
+    before = [r for name in early[:-1] for r in map(grown, map(json.loads, open(name))) if r]
+    kept = [r for r in before if not may_be_barred(r)]
+    print(len(before) - len(kept), "of", len(before), "earlier calls left out")
+    rows += kept
     own = own_rows()
     taken = own + choose(rows, ROOM - sum(len(record(r)) for r in own))
     crate = os.path.join("crates", "calls_run")

@@ -6,7 +6,7 @@ use mathlib.Core.Bool.{Bool, true, false, not, _&&_, true≢false}
 use lib.Dec.{eqb}
 use borrow.Author.Tests.{eq-eqb, ne-eqb, le-leb, lt-leb}
 use Rattle.base.specs.Pick.{pick}
-use Rattle.megaco.specs.Table.{Write}
+use Rattle.megaco.specs.Table.{Write, stateOf}
 use Rattle.megaco.specs.Running.{Check, check, refused, done, judge, numberOf, roomChecks, checks, changes, attempt}
 use Rattle.megaco.specs.declared.Op.{Op}
 use Rattle.megaco.specs.declared.Op.the-variants.{Add, Modify, Subtract, Move}
@@ -83,7 +83,7 @@ module _ (op : Op) (at : Context) (v : View) (r n : ℕ) where
   code-subtract e f p = rw (e, ← f) p
 
   pub code-move : op ≡ Move → n ≡ numberOf at
-      → r ≡ codeOf (check (eqb (v .here) 0) 435 ∷ check (eqb (v .here) n) 433 ∷ roomChecks at v) → r ≡ codeOf (checks op at v)
+      → r ≡ codeOf (check (eqb (v .here) 0) 435 ∷ check (eqb (v .here) n) 433 ∷ check (eqb (stateOf (v .word)) 1) 503 ∷ roomChecks at v) → r ≡ codeOf (checks op at v)
   unfolding checks
   code-move e f p = rw (e, ← f) p
 

@@ -14,6 +14,9 @@ ghost use Rattle.attempt.specs.Judging.{codeOf, valueOr, Fair};
 
 // ---- judging
 
+// The state that bars Move.
+const OUT_OF_SERVICE: u32 = 1;
+
 fn is_choose(at: Context) -> bool
     ensures { λ r. ⌜ r ≡ isChoose at ⌝ }
 {
@@ -69,6 +72,9 @@ pub fn judge_attempt(op: Op, at: Context, view: View) -> u32
             }
             if view.here == c {
                 return 433;
+            }
+            if view.word / 8 == OUT_OF_SERVICE {
+                return 503;
             }
             room_code(at, view)
         }

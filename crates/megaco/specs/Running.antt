@@ -73,11 +73,13 @@ unfoldable pub roomChecks : Context → View → List Check
 roomChecks at v = check (isChoose at && eqb (v .free) 0) 412 ∷ check (leb most (v .there .members)) 434 ∷ []
 
 -- "Add: 433 if not in null. Modify, Subtract: 435 if not in the action's context. Move: 435 from null, 433 if already in the target"
+-- and document 02, request 2, by clause 7.2.4: "503 (house), after Move's 435 and 433, before 412", where "the state held before the command's own
+-- items" is 1, OutOfService; "Test state may still move"
 unfoldable pub checks : Op → Context → View → List Check
 checks Add at v = check (not (eqb (v .here) 0)) 433 ∷ roomChecks at v
 checks Modify at v = check (not (eqb (v .here) (numberOf at))) 435 ∷ []
 checks Subtract at v = check (not (eqb (v .here) (numberOf at))) 435 ∷ []
-checks Move at v = check (eqb (v .here) 0) 435 ∷ check (eqb (v .here) (numberOf at)) 433 ∷ roomChecks at v
+checks Move at v = check (eqb (v .here) 0) 435 ∷ check (eqb (v .here) (numberOf at)) 433 ∷ check (eqb (stateOf (v .word)) 1) 503 ∷ roomChecks at v
 
 -- the context that an attempt joins: `$` comes to be, with the record given
 unfoldable pub joining : Context → ℕ → View → List Write → List Write

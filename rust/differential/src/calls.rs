@@ -334,10 +334,10 @@ pub fn shortened(mut found: Box<Difference>, call: Call, guard: usize) -> Box<Di
     found
 }
 
-/// The codes that document 01 answers with.
-const CODES: [u32; 21] = [
+/// The codes that documents 01 and 02 answer with.
+const CODES: [u32; 22] = [
     400, 403, 406, 410, 411, 412, 421, 430, 431, 432, 433, 434, 435, 442, 443, 444, 445, 447, 448,
-    449, 533,
+    449, 503, 533,
 ];
 
 /// The refusals, in the order in which they are judged.

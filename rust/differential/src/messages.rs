@@ -26,6 +26,7 @@ const COMMANDS: [Forms; 4] = [
 const ADD: usize = 0;
 const MODIFY: usize = 1;
 const SUBTRACT: usize = 2;
+const MOVE: usize = 3;
 const MEDIA: Forms = (b"Media", b"M");
 const LOCAL_CONTROL: Forms = (b"LocalControl", b"O");
 const TERMINATION_STATE: Forms = (b"TerminationState", b"TS");
@@ -481,6 +482,11 @@ impl<'a> Writer<'a> {
             }
             12..=15 => {
                 let termination = self.numbers.pick(&self.scope.terminations);
+                self.name(termination);
+            }
+            // One that already is where it is to be moved.
+            16 if kind == MOVE => {
+                let termination = self.suited(MODIFY);
                 self.name(termination);
             }
             _ => {

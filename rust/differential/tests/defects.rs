@@ -8,7 +8,8 @@ use differential::maps::{ask, Questions, REFERENCE};
 use differential::numbers::Numbers;
 use differential::pairs::{BothChange, Pair};
 use differential::tables;
-use reference::table::Lines;
+use reference::table::{Lines, Name};
+use reference::text::{keyword, read, Item, Value};
 
 fn length(word: u64) -> usize {
     word as u32 as usize
@@ -38,7 +39,112 @@ fn keeps_state(lines: u32, message: &[u8], table: &mut [u32], own: &[u8], reply:
     word
 }
 
-const DEFECTS: [(&str, Call); 18] = [
+/// The states of a table: those of the terminations, by number.
+fn states(table: &mut [u32]) -> Option<&mut [u32]> {
+    let lines = tables::lines_of(table.len())?;
+    Some(&mut table[lines.properties()..lines.records()])
+}
+
+/// Whether items give the state InService.
+fn give_service(items: &[Item]) -> bool {
+    items.iter().any(|item| match item.value {
+        Some(Value::Plain(value)) => keyword(value, b"InService", b"IV"),
+        _ => give_service(&item.items),
+    })
+}
+
+/// A Move that puts into service is judged after its items.
+fn judges_after_items(
+    lines: u32,
+    message: &[u8],
+    table: &mut [u32],
+    own: &[u8],
+    reply: &mut [u8],
+) -> u64 {
+    let transactions = read(message).unwrap_or_default();
+    let actions = transactions.iter().flat_map(|one| &one.actions);
+    let commands = actions.flat_map(|action| &action.commands);
+    let moves =
+        commands.filter(|one| keyword(one.word, b"Move", b"MV") && give_service(&one.items));
+    for command in moves {
+        let fitted = Lines::fitted(lines).unwrap_or(Lines::EIGHT);
+        let Name::Termination(number) = Name::of(fitted, command.termination) else {
+            continue;
+        };
+        // It is moved as one in Test, and the items put that into service.
+        let (mut words, mut bytes) = (table.to_vec(), reply.to_vec());
+        let Some(held) = states(&mut words).and_then(|states| states.get_mut(number)) else {
+            continue;
+        };
+        if *held / 8 == 1 {
+            *held += 8;
+            let word = reference_word(lines, message, &mut words, own, &mut bytes);
+            if words[number] != table[number] && states(&mut words).unwrap()[number] < 8 {
+                table.copy_from_slice(&words);
+                reply.copy_from_slice(&bytes);
+                return word;
+            }
+        }
+    }
+    reference_word(lines, message, table, own, reply)
+}
+
+/// Test does not move either.
+fn bars_test(lines: u32, message: &[u8], table: &mut [u32], own: &[u8], reply: &mut [u8]) -> u64 {
+    let capital = message.to_ascii_uppercase();
+    let mut before = table.to_vec();
+    let Some(old) = states(&mut before) else {
+        return reference_word(lines, message, table, own, reply);
+    };
+    if has(&capital, b"OS") || has(&capital, b"OUTOFSERVICE") {
+        return reference_word(lines, message, table, own, reply);
+    }
+    // Those in Test are out of service during the call, which puts no other there.
+    let in_test = |old: u32| u32::from(old / 8 == 2);
+    for (word, &old) in states(table).unwrap().iter_mut().zip(&*old) {
+        *word -= 8 * in_test(old);
+    }
+    let result = reference_word(lines, message, table, own, reply);
+    for (word, &old) in states(table).unwrap().iter_mut().zip(&*old) {
+        *word += 8 * in_test(old) * u32::from(*word / 8 == 1);
+    }
+    result
+}
+
+/// 503 comes before 433.
+fn judges_before_433(
+    lines: u32,
+    message: &[u8],
+    table: &mut [u32],
+    own: &[u8],
+    reply: &mut [u8],
+) -> u64 {
+    let mut before = table.to_vec();
+    let word = reference_word(lines, message, table, own, reply);
+    for start in 0..length(word) {
+        let text = &mut reply[start..length(word)];
+        let Some(end) = text.iter().position(|&byte| byte == b'{') else {
+            break;
+        };
+        let (name, code) = text.split_at_mut(end);
+        if name.starts_with(b"MV=") && code.starts_with(b"{ER=433") {
+            let fitted = Lines::fitted(lines).expect("the call is taken");
+            // The code may be of a later report.
+            let Name::Termination(number) = Name::of(fitted, &name[3..]) else {
+                continue;
+            };
+            if states(&mut before).unwrap()[number] / 8 == 1 {
+                code[4..7].copy_from_slice(b"503");
+            }
+        }
+    }
+    word
+}
+
+const DEFECTS: [(&str, Call); 21] = [
+    ("503 is judged after the items", judges_after_items),
+    ("503 for Test", bars_test),
+    ("503 before 433", judges_before_433),
     ("keeps state", keeps_state),
     (
         "one byte of a long reply",

@@ -4,7 +4,7 @@ use std::ops::ControlFlow::{self, Break, Continue};
 use std::ops::Range;
 
 use crate::reply::Reply;
-use crate::table::{self, Name, Record, Table, Values, MEMBERS};
+use crate::table::{self, Name, Record, Table, Values, MEMBERS, OUT_OF_SERVICE};
 use crate::text::{keyword, Action, Command, ContextId, Item, Property, Transaction, Value};
 
 /// The commands that are built.
@@ -313,6 +313,10 @@ impl Runner<'_, '_> {
             Kind::Modify | Kind::Subtract if from != here => return Err(435),
             Kind::Move if from == 0 => return Err(435),
             Kind::Move if from == here => return Err(433),
+            // "Judge the state held before the command's own items. Test state
+            // may still move. Refusals: 503 (house), after Move's 435 and 433,
+            // before 412."
+            Kind::Move if self.table.state_of(termination) == OUT_OF_SERVICE => return Err(503),
             _ => {}
         }
         match kind {

@@ -17,6 +17,9 @@ pub const CONTEXTS: usize = 128;
 /// "at most 8 terminations in each non-null context"
 pub const MEMBERS: u16 = 8;
 
+/// "States: 0 InService/IV, 1 OutOfService/OS, 2 Test/TE."
+pub const OUT_OF_SERVICE: u32 = 1;
+
 /// How many lines are fitted, 1 to 16. "Table size follows from the count."
 #[derive(Clone, Copy, Debug, PartialEq, Eq)]
 pub struct Lines(usize);
@@ -254,6 +257,11 @@ impl<'t> Table<'t> {
     fn set_map(&mut self, map: u64) {
         self.ephemerals = map;
         self.words[self.lines.map()..].copy_from_slice(&halves(map));
+    }
+
+    /// The service state held.
+    pub fn state_of(&self, termination: usize) -> u32 {
+        self.words[self.lines.properties() + termination] / 8
     }
 
     /// Sets the property values given and keeps the others.

@@ -1,5 +1,5 @@
 //! The session, the short cases and the boundaries of document 01, on eight
-//! lines; and document 02's request 10, on other counts.
+//! lines; and document 02's requests 10, on other counts, 5 and 2.
 
 use reference::listing::listing;
 use reference::map::{in_use, lowest_absent};
@@ -404,6 +404,54 @@ fn reply_of_2048_and_2049() {
     let done = fresh(&request(18));
     assert_eq!(done.find("P=2"), Some(2_048));
     assert_eq!(fresh(&request(19)), "P=1{ER=533{}}P=2{C=1{PR=2}}");
+}
+
+#[test]
+fn out_of_service_does_not_move() {
+    // In null; in the target; elsewhere, whatever state its items give it.
+    let request = "T=1{C=${A=L/1/1{M{TS{SI=OS}}}},C=${A=L/1/2},C=-{MF=L/1/3{M{TS{SI=OS}}}}}\
+                   T=2{C=1{O-MV=L/1/3,O-MV=L/1/1},C=${O-MV=*,O-MV=L/1/1{M{TS{SI=IV}}},PR=1}}";
+    assert_eq!(fresh(request), "P=2{ER=403{}}");
+    let mut table = [0; 754];
+    assert_eq!(
+        inside(&request.replace(",PR=1", ""), &mut table),
+        "P=1{C=1{A=L/1/1},C=2{A=L/1/2},C=-{MF=L/1/3}}\
+         P=2{C=1{MV=L/1/3{ER=435{}},MV=L/1/1{ER=433{}}},\
+         C=3{MV=L/1/1{ER=503{}},MV=L/1/2,MV=L/1/1{ER=503{}}}}"
+    );
+    let words = [(0, 1), (1, 3), (312, 8), (314, 8), (624, 1), (626, 1)];
+    assert_eq!(words_of(&table), words);
+    // Test moves, and one that is put out of service by its Move.
+    assert_eq!(
+        inside(
+            "T=3{C=1{MF=L/1/1{M{TS{SI=TE}}}},C=3{O-MV=L/1/1{M{TS{SI=OS}}}},C=${O-MV=L/1/1}}",
+            &mut table
+        ),
+        "P=3{C=1{MF=L/1/1},C=3{MV=L/1/1},C=${MV=L/1/1{ER=503{}}}}"
+    );
+    // Subtract, and Add of one that is out of service.
+    assert_eq!(
+        inside("T=4{C=3{S=L/1/1,A=L/1/1,A=L/1/3}}", &mut table),
+        "P=4{C=3{S=L/1/1,A=L/1/1,A=L/1/3}}"
+    );
+}
+
+#[test]
+fn out_of_service_before_no_context_and_no_room() {
+    let mut table = [0; 754];
+    for place in 0..128 {
+        (table[place], table[624 + place]) = (place as u32 + 1, 1);
+    }
+    table[312] = 8;
+    assert_eq!(
+        inside("T=1{C=${O-MV=L/1/1,O-MV=L/1/2}}", &mut table),
+        "P=1{C=${MV=L/1/1{ER=503{}},MV=L/1/2{ER=412{}}}}"
+    );
+    table[200..207].fill(128);
+    assert_eq!(
+        inside("T=1{C=128{O-MV=L/1/1,O-MV=L/1/2}}", &mut table),
+        "P=1{C=128{MV=L/1/1{ER=503{}},MV=L/1/2{ER=434{}}}}"
+    );
 }
 
 #[test]

@@ -18,6 +18,7 @@ judge-attempt-spec =
     (λ c. search needs)
     (λ c. search (code-move, codes))
     (λ c. search (code-move, codes))
+    (λ c. search (code-move, codes))
     (λ c κs. search needs)
     (λ c. search (code-add, codes))
     (λ c. search (code-modify, codes))
