@@ -19,6 +19,8 @@
 #include <stddef.h>
 #include <stdint.h>
 
+#include "cordafina_digit_maps.h"
+
 /* Lines of a shelf: 1 to so many. */
 #define CORDAFINA_MOST_LINES 16
 

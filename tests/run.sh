@@ -50,6 +50,7 @@ step "build" rust build --workspace
 step "unit tests" rust test --workspace
 step "examples" bash examples/run.sh
 step "listing sessions" bash tests/sessions.sh
+step "digit maps" bash tests/digits.sh
 step "differential test, $calls calls" rust run -p differential -- calls "$seed" $calls
 step "map of the ephemerals, $maps maps" rust run -p differential -- maps "$seed" $maps
 step "demand 3, $pairs pairs" rust run -p differential -- pairs "$seed" $pairs

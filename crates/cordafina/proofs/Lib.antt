@@ -1,1 +1,2 @@
 pub mod FaceLaws
+mod HeadLaws

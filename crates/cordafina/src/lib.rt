@@ -1,5 +1,6 @@
 // The library's face for C: thin functions, each with the promise of the one that it calls. `rt staticlib cordafina` makes the archive
 // that include/cordafina.h declares.
+pub mod digit_maps;
 use gateway::Outcome;
 ghost use mathlib.Core.Path.{_≡_};
 ghost use Rattle.base.specs.Lists.{lowestAbsent};

@@ -57,6 +57,8 @@
 
 use core::{error, fmt};
 
+pub mod digit_map;
+
 /// The greatest count of lines; the least is 1.
 pub const MOST_LINES: u32 = 16;
 /// The ephemerals, whatever the count of lines.

@@ -1,0 +1,84 @@
+-- Laws of lines and of the second line, in the form in which `search` uses them.
+use Prim.Native.Nat.{ℕ, suc, _+_, _<_, _≤_}
+use mathlib.Core.Path.{_≡_, refl, sym, ap, _∙_}
+use mathlib.Core.Bool.{Bool, true, false}
+use mathlib.Core.List.{List, [], _∷_}
+use native.Mathlib.Omega.{arith}
+use native.Mathlib.Numerals.{add-one}
+use lib.ListN.{length, getD, drop, drop-of-length-le}
+use lib.Seq.{drop-cons}
+use lib.Dec.{eqb}
+use borrow.Author.Tests.{eq-eqb, ne-eqb}
+use Rattle.base.specs.Pick.{pick}
+use Rattle.base.specs.Lists.{same, before}
+use Rattle.base.specs.Bytes.{_then_}
+use Rattle.base.specs.Out.{Appended}
+use Rattle.base.proofs.OutLaws.{_▸_}
+use Rattle.megaco.specs.Tokens.{numberAt}
+use Rattle.megaco.specs.declared.Number.{Number}
+use Rattle.megaco.specs.declared.Number.the-variants.{Got, Bad}
+use Rattle.digits.specs.declared.Dialled.{Dialled}
+use Rattle.dial.specs.Words.{ruleOf, settingsAfter, settingsOf, answerText}
+use Rattle.dial.specs.declared.Settings.{Settings}
+use Rattle.dial.specs.declared.Settings.the-variants.{Unread}
+
+-- ---- the length of the first line
+pub line-start : (s : List ℕ) → length (before 10 s) ≡ 0 + length (before 10 (drop 0 s))
+line-start s = omega arith
+
+module _ (s : List ℕ) (i : ℕ) (inv : length (before 10 s) ≡ i + length (before 10 (drop i s))) where
+  pub line-stop : i < length s → getD s i 0 ≡ 10 → i ≡ length (before 10 s)
+  unfolding before pick
+  line-stop h e = let k : length (before 10 (drop i s)) ≡ 0 = rw (drop-cons s i 0 h, eq-eqb (getD s i 0) 10 e) in omega arith
+
+  pub line-on : i < length s → (getD s i 0 ≡ 10 → ⊥) → length (before 10 s) ≡ i + 1 + length (before 10 (drop (i + 1) s))
+  unfolding before pick
+  line-on h n = let k : length (before 10 (drop i s)) ≡ 1 + length (before 10 (drop (i + 1) s)) = rw (drop-cons s i 0 h, ne-eqb (getD s i 0) 10 n, add-one) (omega arith) in omega arith
+
+  pub line-out : length s ≤ i → i ≡ length (before 10 s)
+  unfolding before
+  line-out h = let k : length (before 10 (drop i s)) ≡ 0 = rw (drop-of-length-le s h) in omega arith
+
+-- ---- two texts
+
+pick-none : (t : Bool) → pick t false false ≡ false
+unfolding pick
+pick-none true = refl
+pick-none false = refl
+
+pub unequal : (s f : List ℕ) → (length s ≡ length f → ⊥) → false ≡ same s f
+unfolding same
+unequal [] [] n = absurd (n refl)
+unequal [] (y ∷ f) n = refl
+unequal (x ∷ s) [] n = refl
+unequal (x ∷ s) (y ∷ f) n = rw (← unequal s f (λ e. n (ap suc e))) (sym (pick-none (eqb x y)))
+
+module _ (s f : List ℕ) (i : ℕ) (q : Bool) (inv : q ≡ same (drop i s) (drop i f)) (long : length s ≡ length f) where
+  pub same-on : i < length s → getD s i 0 ≡ getD f i 0 → q ≡ same (drop (i + 1) s) (drop (i + 1) f)
+  unfolding same pick
+  same-on h e = let m : i < length f = omega arith in inv ∙ rw (drop-cons s i 0 h, drop-cons f i 0 m, eq-eqb (getD s i 0) (getD f i 0) e, add-one)
+
+  pub same-no : i < length s → (getD s i 0 ≡ getD f i 0 → ⊥) → false ≡ q
+  unfolding same pick
+  same-no h n = let m : i < length f = omega arith in sym (inv ∙ rw (drop-cons s i 0 h, drop-cons f i 0 m, ne-eqb (getD s i 0) (getD f i 0) n))
+
+  pub same-end : length s ≤ i → true ≡ q
+  unfolding same
+  same-end h = let m : length f ≤ i = omega arith in sym (inv ∙ rw (drop-of-length-le s h, drop-of-length-le f m))
+
+-- ---- the second line
+
+module _ (s : List ℕ) (x : Number) (e : x ≡ numberAt s 0 10 4294967295) where
+  pub settings-got : (v p : ℕ) (w : List ℕ) (r : Settings) → x ≡ Got v p → w ≡ drop p s → r ≡ ruleOf v w → r ≡ settingsOf s
+  unfolding settingsOf settingsAfter
+  settings-got v p w r f h g = g ∙ rw (← e, f, h)
+
+  pub settings-bad : x ≡ Bad → Unread ≡ settingsOf s
+  unfolding settingsOf settingsAfter
+  settings-bad f = rw (← e, f)
+
+-- ---- the line for a dialled string
+
+pub line-put : (o : List ℕ) (d e : Dialled) (o₁ o₂ : List ℕ) (n r : ℕ) → d ≡ e → Appended o 0 (answerText d) o₁ n → Appended o₁ n (10 ∷ []) o₂ r
+    → Appended o 0 (answerText e then (10 ∷ [])) o₂ r
+line-put o d e o₁ o₂ n r f a b = rw f at (a ▸ b)

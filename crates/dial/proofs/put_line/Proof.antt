@@ -1,0 +1,14 @@
+use Rattle.dial.proofs.LineLaws.{line-put}
+use borrow.Author.Needs.{needs}
+use Rattle.dial.proofs.put_line.Statement.{statement}
+use Rattle.dial.proofs.put_line.Tie as tie
+
+pub put-line-spec : {M : Type 1} → statement M
+put-line-spec =
+    tie.close
+    (tie.spec
+    (λ c κs. search needs)
+    (λ c κs. search needs)
+    (λ c κs. search needs)
+    (λ c. search needs)
+    (λ c. search line-put))

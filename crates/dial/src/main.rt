@@ -1,0 +1,194 @@
+// A program for support. The first line of standard input is a map, the second a start timer and `waits` or `runs out`, each further line a
+// dialled string. For each string it prints the answer and the timer, or the refusal.
+ghost use mathlib.Core.Path.{_≡_};
+ghost use mathlib.Core.List.{[], _∷_};
+ghost use Prim.Native.Nat.{_≤_};
+ghost use lib.ListN.{length};
+ghost use Rattle.base.specs.Lists.{same, before};
+ghost use Rattle.base.specs.Bytes.{_then_};
+ghost use Rattle.base.specs.Out.{Appended};
+ghost use Rattle.digits.specs.Dialling.{dial};
+ghost use Rattle.dialling.specs.Cells.{planIn};
+ghost use Rattle.dial.specs.Words.{ruleOf, settingsOf, progressText, timerText, shownText, answerText};
+use dialling::Loaded;
+use digits::Dialled;
+use digits::Progress;
+use digits::Timer;
+use digits::ZeroStart;
+use megaco::Number;
+
+// What the second line says.
+enum Settings {
+    Set { start: u32, rule: ZeroStart },
+    Unread,
+}
+
+// LF.
+const LINE_END: u8 = 10;
+
+// ---- lines taken
+
+// How many bytes the first line of a text has.
+fn line_length(s: &[u8]) -> usize
+    ensures { λ r. ⌜ r ≡ length (before 10 (now (s .entry))) ⌝ }
+    ensures { λ r. ⌜ r ≤ length (now (s .entry)) ⌝ }
+{
+    let mut i: usize = 0;
+    while i < s.len() {
+        if s[i] == LINE_END {
+            return i;
+        }
+        i += 1;
+    }
+    i
+}
+
+fn same_text(s: &[u8], form: &[u8]) -> bool
+    ensures { λ r. ⌜ r ≡ same (now (s .entry)) (now (form .entry)) ⌝ }
+{
+    if s.len() != form.len() {
+        return false;
+    }
+    let mut i: usize = 0;
+    while i < s.len() {
+        if s[i] == form[i] {
+            i += 1;
+        } else {
+            return false;
+        }
+    }
+    true
+}
+
+fn rule_of(start: u32, w: &[u8]) -> Settings
+    ensures { λ r. ⌜ r ≡ ruleOf start (now (w .entry)) ⌝ }
+{
+    if same_text(w, b" waits") {
+        return Settings::Set {
+            start: start,
+            rule: ZeroStart::Waits,
+        };
+    }
+    if same_text(w, b" runs out") {
+        return Settings::Set {
+            start: start,
+            rule: ZeroStart::RunsOut,
+        };
+    }
+    Settings::Unread
+}
+
+// The second line: a number of up to 10 digits, a space, and the rule for zero.
+fn read_settings(s: &[u8]) -> Settings
+    ensures { λ r. ⌜ r ≡ settingsOf (now (s .entry)) ⌝ }
+{
+    let x = tokens::number(s, 0, 10, 4294967295);
+    match x {
+        Number::Got { value, next } => rule_of(value, map_text::rest(s, next)),
+        Number::Bad => Settings::Unread,
+    }
+}
+
+// ---- lines printed
+
+fn put_progress(out: &mut [u8], at: usize, p: Progress) -> usize
+    ensures { λ r. ⌜ Appended (now (out .entry)) at (progressText p) (now (out .exit)) r ⌝ }
+{
+    match p {
+        Progress::NoMatch => writer::put_bytes(out, at, b"nothing can match"),
+        Progress::MoreNeeded => writer::put_bytes(out, at, b"more needed"),
+        Progress::MorePossible => writer::put_bytes(out, at, b"matched with more possible"),
+        Progress::Closed => writer::put_bytes(out, at, b"matched and closed"),
+    }
+}
+
+fn put_timer(out: &mut [u8], at: usize, t: Timer) -> usize
+    ensures { λ r. ⌜ Appended (now (out .entry)) at (timerText t) (now (out .exit)) r ⌝ }
+{
+    match t {
+        Timer::NoTimer => writer::put_bytes(out, at, b"none"),
+        Timer::StartTimer => writer::put_bytes(out, at, b"start"),
+        Timer::LongTimer => writer::put_bytes(out, at, b"long"),
+        Timer::ShortTimer => writer::put_bytes(out, at, b"short"),
+        Timer::RunOut => writer::put_bytes(out, at, b"run out"),
+    }
+}
+
+fn put_shown(out: &mut [u8], at: usize, p: Progress, t: Timer) -> usize
+    ensures { λ r. ⌜ Appended (now (out .entry)) at (shownText p t) (now (out .exit)) r ⌝ }
+{
+    let a = put_progress(out, at, p);
+    let b = writer::put_bytes(out, a, b", timer ");
+    put_timer(out, b, t)
+}
+
+fn put_answer(out: &mut [u8], at: usize, d: Dialled) -> usize
+    ensures { λ r. ⌜ Appended (now (out .entry)) at (answerText d) (now (out .exit)) r ⌝ }
+{
+    match d {
+        Dialled::Answer { progress, timer } => put_shown(out, at, progress, timer),
+        Dialled::BadMap => writer::put_bytes(out, at, b"refused 6"),
+        Dialled::BadString => writer::put_bytes(out, at, b"refused 7"),
+    }
+}
+
+// The line for one dialled string.
+fn put_line(out: &mut [u8], l: Loaded, cells: &[u32; 1040], w: &[u8]) -> usize
+    ensures { λ r. ⌜ Appended (now (out .entry)) 0 (answerText (dial (planIn l (now (cells .entry))) (now (w .entry))) then (10 ∷ [])) (now (out .exit)) r ⌝ }
+{
+    let n = put_answer(out, 0, dialling::dial(l, cells, w));
+    writer::put_byte(out, n, LINE_END)
+}
+
+// ---- the program
+
+// Tells the answer to the first line of a text; how long that line is.
+fn tell_line(t: &[u8], out: &mut [u8], l: Loaded, cells: &[u32; 1040]) -> usize
+    ensures { λ r. ⌜ r ≤ length (now (t .entry)) ⌝ }
+{
+    let n = line_length(t);
+    let k = put_line(out, l, cells, &t[0..n]);
+    io::write_all(1, &out[0..k]);
+    n
+}
+
+// Tells the answers to the lines of a text.
+fn tell(s: &[u8], out: &mut [u8], l: Loaded, cells: &[u32; 1040]) {
+    let mut from: usize = 0;
+    while from < s.len() {
+        let n = tell_line(map_text::rest(s, from), out, l, cells);
+        from += n + 1;
+    }
+}
+
+// A map, the settings, and the strings that are dialled.
+fn run(s: &[u8], out: &mut [u8], cells: &mut [u32; 1040]) {
+    let n = line_length(s);
+    let t = map_text::rest(s, n + 1);
+    let m = line_length(t);
+    let x = read_settings(&t[0..m]);
+    match x {
+        Settings::Set { start, rule } => {
+            let l = dialling::load(&s[0..n], start, rule, cells);
+            tell(map_text::rest(t, m + 1), out, l, cells);
+        }
+        Settings::Unread => {
+            io::write_all(
+                1,
+                b"the second line is a start timer and 'waits' or 'runs out'\n",
+            );
+        }
+    }
+}
+
+fn main() {
+    let mut room = io::large_buffer();
+    let mut cells = [0u32; 1040];
+    let mut out = [0u8; 64];
+    let n = io::read_full(0, &mut room);
+    if n < 65536 {
+        run(&room[0..n], &mut out, &mut cells);
+    } else {
+        io::write_all(1, b"over 65535 bytes\n");
+    }
+}

@@ -1,0 +1,15 @@
+use Rattle.dialling.proofs.DialLaws.{load-good, load-refused}
+use borrow.Author.Needs.{needs}
+use Rattle.dialling.proofs.load.Statement.{statement}
+use Rattle.dialling.proofs.load.Tie as tie
+
+pub load-spec : {M : Type 1} → statement M
+load-spec =
+    tie.close
+    (tie.spec
+    (λ c κs. search needs)
+    (λ c κs. search needs)
+    (λ c. search needs)
+    (λ c. search needs)
+    (λ c. search load-good)
+    (λ c. search load-refused))

@@ -1,0 +1,9 @@
+pub mod SymbolLaws
+pub mod SpanLaws
+pub mod RangeLaws
+pub mod SelectorLaws
+pub mod StringLaws
+pub mod MapLaws
+pub mod Theorems
+pub mod MeaningLaws
+pub mod Samples

@@ -1,0 +1,2 @@
+pub mod DigitGrammar
+pub mod Meaning
