@@ -20,7 +20,8 @@ use Rattle.megaco.specs.declared.Class.the-variants.{WordByte}
 use Rattle.megaco.specs.declared.Token.{Token}
 use Rattle.syntax.specs.declared.Piece.{Piece}
 use Rattle.syntax.specs.Pieces.{Holds}
-use Rattle.syntax.specs.Places.{numberAfter, joinedAt, commandsAt, propertyAt, bodyAt}
+use Rattle.syntax.specs.Production.{numberAfter, joinedAt}
+use Rattle.syntax.specs.Places.{commandsAt, propertyAt, bodyPlace}
 use Rattle.syntax.proofs.Onward.{property-on}
 use Rattle.syntax.proofs.ListLaws.{steps, joined-fault, joined-last, joined-cut, joined-more, comma-falls}
 
@@ -49,46 +50,46 @@ here k s at e w r h g f = rw (← h, ← g .bytes) f
 pub record Goes (q : Parsed) (s : List ℕ) (i : ℕ) : Type 0 where
   pub left : ℕ
   pub enough : length s - i < left
-  pub same : q ≡ bodyAt left s i
+  pub same : q ≡ bodyPlace left s i
 
-pub body-start : (s : List ℕ) (at : ℕ) → Goes (bodyAt (unlimited s) s at) s at
+pub body-start : (s : List ℕ) (at : ℕ) → Goes (bodyPlace (unlimited s) s at) s at
 unfolding unlimited
 body-start s at = record { left = length s + 1; enough = omega arith; same = refl }
 
 module _ (q : Parsed) (s : List ℕ) (i : ℕ) (inv : Goes q s i) (z : Bool) (d : z ≡ isProperty (wordHere s i)) where
-  turn : q ≡ pick z (joinedAt (bodyAt (inv .left - 1) s) s (propertyAt s i)) (commandsAt s i)
-  unfolding bodyAt
+  turn : q ≡ pick z (joinedAt (bodyPlace (inv .left - 1) s) s (propertyAt s i .place)) (commandsAt s i .place)
+  unfolding bodyPlace
   turn = let h : length s - i < inv .left = inv .enough in let n : inv .left ≡ suc (inv .left - 1) = omega arith in by (inv .left) (inv .left - 1) n (inv .same)
     where
-      by : (k m : ℕ) → k ≡ suc m → q ≡ bodyAt k s i → q ≡ pick z (joinedAt (bodyAt m s) s (propertyAt s i)) (commandsAt s i)
+      by : (k m : ℕ) → k ≡ suc m → q ≡ bodyPlace k s i → q ≡ pick z (joinedAt (bodyPlace m s) s (propertyAt s i .place)) (commandsAt s i .place)
       by k m n e = rw d (rw n at e)
 
-  pub body-commands : (r : Parsed) → z ≡ false → r ≡ commandsAt s i → r ≡ q
+  pub body-commands : (r : Parsed) → z ≡ false → r ≡ commandsAt s i .place → r ≡ q
   unfolding pick
   body-commands r f h = h ∙ sym (turn ∙ rw f)
 
-  module _ (b : z ≡ true) (y : Parsed) (e : y ≡ propertyAt s i) where
-    properties : q ≡ joinedAt (bodyAt (inv .left - 1) s) s (propertyAt s i)
+  module _ (b : z ≡ true) (y : Parsed) (e : y ≡ propertyAt s i .place) where
+    properties : q ≡ joinedAt (bodyPlace (inv .left - 1) s) s (propertyAt s i .place)
     unfolding pick
     properties = turn ∙ rw b
 
     pub body-fault : y ≡ Fault → Fault ≡ q
-    body-fault n = joined-fault _ s (propertyAt s i) y q properties e n
+    body-fault n = joined-fault _ s (propertyAt s i .place) y q properties e n
 
     module _ (p : ℕ) (n : y ≡ Next p) (c : Bool) (g : c ≡ isAt s p comma) where
       pub body-last : c ≡ false → Next p ≡ q
-      body-last f = joined-last _ s (propertyAt s i) y q properties e p n c g f
+      body-last f = joined-last _ s (propertyAt s i .place) y q properties e p n c g f
 
       module _ (t : c ≡ true) (w : Parsed) (l : w ≡ whiteAt s (p + 1)) where
         pub body-cut : w ≡ Fault → Fault ≡ q
-        body-cut f = joined-cut _ s (propertyAt s i) y q properties e p n c g t w l f
+        body-cut f = joined-cut _ s (propertyAt s i .place) y q properties e p n c g t w l f
 
         module _ (u : ℕ) (f : w ≡ Next u) where
           pub body-less : length s - u < length s - i
-          body-less = comma-falls (propertyAt s) s i p u c y w (property-on s) e n g t l f .1
+          body-less = comma-falls (λ j. propertyAt s j .place) s i p u c y w (property-on s) e n g t l f .1
 
           pub body-more : Goes q s u
           body-more =
               let h : length s - i < inv .left = inv .enough in
               let k : length s - u < length s - i = body-less in
-              record { left = inv .left - 1; enough = omega arith; same = joined-more _ s (propertyAt s i) y q properties e p n c g t w l u f }
+              record { left = inv .left - 1; enough = omega arith; same = joined-more _ s (propertyAt s i .place) y q properties e p n c g t w l u f }

@@ -4,7 +4,7 @@ ghost use Rattle.megaco.specs.Keywords.{spells};
 ghost use Rattle.megaco.specs.Tokens.{afterNumber};
 ghost use Rattle.megaco.specs.Reading.{keyAt, wordHere, isProperty, unlimited};
 ghost use Rattle.megaco.specs.declared.Parsed.the-variants.{Next};
-ghost use Rattle.syntax.specs.Places.{listAt, contextAt, priorityAt, propertyAt, bodyAt, openingAt, actionAt};
+ghost use Rattle.syntax.specs.Places.{contextAt, priorityAt, propertyAt, bodyAt, openingAt, actionAt, actionsAt};
 use megaco::Class;
 use megaco::Number;
 use megaco::Parsed;
@@ -37,7 +37,7 @@ fn number_place(n: Number) -> Parsed
 
 // A number, `-`, `$` or `*`.
 fn context(s: &[u8], at: usize) -> Parsed
-    ensures { λ r. ⌜ r ≡ contextAt (now (s .entry)) at ⌝ }
+    ensures { λ r. ⌜ r ≡ contextAt (now (s .entry)) at .place ⌝ }
 {
     if text::is_at(s, at, 0x2d) {
         return Parsed::Next(at + 1);
@@ -82,7 +82,7 @@ pub fn priority(s: &[u8], at: usize) -> Number
 }
 
 fn property(s: &[u8], at: usize) -> Parsed
-    ensures { λ r. ⌜ r ≡ propertyAt (now (s .entry)) at ⌝ }
+    ensures { λ r. ⌜ r ≡ propertyAt (now (s .entry)) at .place ⌝ }
 {
     if here_spells(s, at, Token::EmergencyToken) {
         return syntax::spaced(s, tokens::word(s, at));
@@ -94,7 +94,7 @@ fn property(s: &[u8], at: usize) -> Parsed
 
 // Properties, then commands, all joined by commas, at least one of either.
 fn body(s: &[u8], at: usize) -> Parsed
-    ensures { λ r. ⌜ r ≡ bodyAt (unlimited (now (s .entry))) (now (s .entry)) at ⌝ }
+    ensures { λ r. ⌜ r ≡ bodyAt (unlimited (now (s .entry))) (now (s .entry)) at .place ⌝ }
 {
     let mut i = at;
     while property_here(s, i) {
@@ -131,7 +131,7 @@ fn opening(s: &[u8], at: usize) -> Parsed
 }
 
 fn action(s: &[u8], at: usize) -> Parsed
-    ensures { λ r. ⌜ r ≡ actionAt (now (s .entry)) at ⌝ }
+    ensures { λ r. ⌜ r ≡ actionAt (now (s .entry)) at .place ⌝ }
 {
     let o = opening(s, at);
     let Parsed::Next(p) = o else {
@@ -146,7 +146,7 @@ fn action(s: &[u8], at: usize) -> Parsed
 
 // One to 16 actions.
 pub fn actions(s: &[u8], at: usize) -> Parsed
-    ensures { λ r. ⌜ r ≡ listAt (actionAt (now (s .entry))) (now (s .entry)) 16 at ⌝ }
+    ensures { λ r. ⌜ r ≡ actionsAt (now (s .entry)) at .place ⌝ }
 {
     let mut i = at;
     let mut left: usize = 16;

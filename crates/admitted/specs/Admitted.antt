@@ -7,9 +7,7 @@ use mathlib.Core.Logic.{_↔_}
 use mathlib.Core.List.{List}
 use native.Mathlib.Omega.{arith}
 use Rattle.megaco.specs.Tree.{Transaction, wellFormed, fault403, fault406}
-use Rattle.syntax.specs.Places.{verdict}
-use Rattle.syntax.specs.Extraction.{messageOf}
-use Rattle.syntax.specs.Bridge.{told, message-told}
+use Rattle.syntax.specs.Messages.{verdict, messageOf, told, message-told}
 use Rattle.syntax.specs.declared.Verdict.{Verdict}
 use Rattle.syntax.specs.declared.Verdict.the-variants.{WellFormed, Fault400, Fault403, WrongVersion406}
 use Rattle.grammar.specs.Grammar.{megacoMessage}

@@ -14,7 +14,7 @@ use Rattle.megaco.specs.declared.Op.{Op}
 use Rattle.megaco.specs.declared.Judged.{Judged}
 use Rattle.megaco.specs.declared.Judged.the-variants.{Wrong, Right}
 use Rattle.items.proofs.FairLaws.{judged-fair}
-use Rattle.syntax.specs.Extraction.{commandOf}
+use Rattle.syntax.specs.Places.{commandAt}
 use Rattle.parts.specs.Found.{itemsFrom, commandFrom, OfCommand}
 use Rattle.parts.proofs.PlaceLaws.{command-is}
 use Rattle.parts.specs.declared.CommandPlaces.{CommandPlaces}
@@ -31,7 +31,7 @@ items-given : (s : List ℕ) (r : CommandPlaces) → given? (itemsFrom s r) ≡ 
 unfolding itemsFrom
 items-given s r = by (r .braces)
   where
-    by : (b : Bool) → given? (pick {A = Items} b (some (Rattle.syntax.specs.Extraction.itemsOf 8 s (r .inside))) none) ≡ b
+    by : (b : Bool) → given? (pick {A = Items} b (some (Rattle.syntax.specs.Places.itemsAt 8 s (r .inside) .tree)) none) ≡ b
     by true = unfold pick given? in refl
     by false = unfold pick given? in refl
 
@@ -79,7 +79,7 @@ pub command-runs : (s : List ℕ) (i : ℕ) (r : CommandPlaces) (turn : Turn) (t
     → Did
     (ordered (r .optional) (opOf (r .wild) (take (r .word .to - r .word .from) (drop (r .word .from) s))) (take (r .name .to - r .name .from) (drop (r .name .from) s)) (itemsFrom s r) (turn .given) (turn .at) t)
     (turn .first) o (turn .next) t′ o′ w
-    → Did (runCommand (commandOf s i) (turn .given) (turn .at) t) (turn .first) o (turn .next) t′ o′ w
+    → Did (runCommand (commandAt s i .tree) (turn .given) (turn .at) t) (turn .first) o (turn .next) t′ o′ w
 unfolding runCommand commandFrom part
 command-runs s i r turn t o t′ o′ w f d = rw (command-is s i r f) d
 

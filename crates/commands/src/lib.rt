@@ -4,7 +4,7 @@ ghost use mathlib.Core.Option.{some};
 ghost use Rattle.megaco.specs.Table.{Sized};
 ghost use Rattle.megaco.specs.Running.{opOf, tested, ordered, runCommand};
 ghost use Rattle.parts.specs.Found.{itemsFrom, commandEndFrom};
-ghost use Rattle.syntax.specs.Extraction.{commandOf, commandEnd};
+ghost use Rattle.syntax.specs.Places.{commandAt};
 ghost use Rattle.tries.specs.Contract.{Did};
 ghost use Rattle.commands.specs.Fails.{optionally, Failed};
 use megaco::Op;
@@ -135,7 +135,7 @@ fn run_found(
 // The command that stands at a place of the message.
 pub fn run_command(s: &[u8], i: usize, turn: Turn, table: &mut [u32], out: &mut [u8]) -> Passed
     requires { ⌜ Sized (now table) ⌝ }
-    ensures { λ r. ⌜ Did (runCommand (commandOf (now (s .entry)) i) (turn .given) (turn .at) (now (table .entry))) (turn .first) (now (out .entry)) (turn .next) (now (table .exit)) (now (out .exit)) (r .went) × (r .end ≡ commandEnd (now (s .entry)) i) ⌝ }
+    ensures { λ r. ⌜ Did (runCommand (commandAt (now (s .entry)) i .tree) (turn .given) (turn .at) (now (table .entry))) (turn .first) (now (out .entry)) (turn .next) (now (table .exit)) (now (out .exit)) (r .went) × (r .end ≡ commandAt (now (s .entry)) i .end) ⌝ }
 {
     let places = parts::command_places(s, i);
     let word = places.word;

@@ -20,7 +20,8 @@ use Rattle.megaco.specs.declared.Judged.the-variants.{Wrong, Right}
 use Rattle.megaco.specs.declared.Kind.{Kind}
 use Rattle.megaco.specs.declared.Kind.the-variants.{InControl, InState}
 use Rattle.megaco.specs.declared.Values.{Values}
-use Rattle.syntax.specs.Extraction.{pastSign, itemsOf, itemsEnd}
+use Rattle.syntax.specs.Production.{pastSign}
+use Rattle.syntax.specs.Places.{itemsAt}
 use Rattle.parts.specs.declared.ItemPlaces.{ItemPlaces}
 use Rattle.parts.specs.declared.CommandPlaces.{CommandPlaces}
 use Rattle.parts.specs.Found.{itemsFrom, commandEndFrom}
@@ -113,7 +114,7 @@ module _ (s : List ℕ) (p : CommandPlaces) (subtracts : Bool) where
   unfolding judgeItems itemsFrom pick
   judge-subtract b t = rw (b, t)
 
-  pub judge-all : (r : Judged) → p .braces ≡ true → subtracts ≡ false → r ≡ topItems (itemsOf 8 s (p .inside)) false unchanged → r ≡ judgeItems subtracts (itemsFrom s p)
+  pub judge-all : (r : Judged) → p .braces ≡ true → subtracts ≡ false → r ≡ topItems (itemsAt 8 s (p .inside) .tree) false unchanged → r ≡ judgeItems subtracts (itemsFrom s p)
   unfolding judgeItems itemsFrom pick
   judge-all r b f e = rw (b, f) e
 
@@ -121,7 +122,7 @@ module _ (s : List ℕ) (p : CommandPlaces) (subtracts : Bool) where
   unfolding judgeItems itemsFrom pick
   judge-none b = rw b
 
-  pub judge-known : (y : JudgedItems) → p .braces ≡ true → Known (pastSign rightBrace s (itemsEnd 8 s (p .inside))) y → Known (commandEndFrom s p) y
+  pub judge-known : (y : JudgedItems) → p .braces ≡ true → Known (pastSign rightBrace s (itemsAt 8 s (p .inside) .end)) y → Known (commandEndFrom s p) y
   unfolding commandEndFrom pick
   judge-known y b k = rw b k
 

@@ -18,7 +18,8 @@ use Rattle.megaco.specs.declared.Judged.{Judged}
 use Rattle.megaco.specs.declared.Judged.the-variants.{Wrong, Right}
 use Rattle.megaco.specs.declared.Kind.{Kind}
 use Rattle.megaco.specs.declared.Values.{Values}
-use Rattle.syntax.specs.Extraction.{pastSign, listOf, listEnd, itemOf, itemEnd, itemsEnd, itemsOf}
+use Rattle.syntax.specs.Production.{pastSign, listOf, listEnd}
+use Rattle.syntax.specs.Places.{itemAt, itemsAt}
 use Rattle.parts.proofs.EndLaws.{all-end-last, all-end-more}
 use Rattle.items.specs.declared.Descriptors.{Descriptors}
 use Rattle.items.specs.Judging.{nextAt, kindOf, stoodAfter}
@@ -78,19 +79,22 @@ media-turn (item w x v is) xs stood vs =
 
 -- ---- the items from a place on, of which n were judged before
 
-unfoldable pub itemsLeft : {A : Type 0} → (ℕ → List A) → ℕ → List ℕ → ℕ → ℕ → List (ItemOf A)
-itemsLeft inner k s n i = listOf (itemOf inner s) (itemEnd (itemsEnd k s) s) s (length s + 1 - n) i
+unfoldable pub itemsLeft : {A : Type 0} → (ℕ → A) → (ℕ → ℕ) → List ℕ → ℕ → ℕ → List A
+itemsLeft one end s n i = listOf one end s (length s + 1 - n) i
 
-module _ {A : Type 0} (inner : ℕ → List A) (k : ℕ) (s : List ℕ) (n i : ℕ) where
-  left-none : length s < n → itemsLeft inner k s n i ≡ []
+abbrev pub levelLeft : (k : ℕ) → List ℕ → ℕ → ℕ → List (Item (suc k))
+levelLeft k s n i = itemsLeft (λ j. itemAt (itemsAt k s) s j .tree) (λ j. itemAt (itemsAt k s) s j .end) s n i
+
+module _ {A : Type 0} (one : ℕ → A) (end : ℕ → ℕ) (s : List ℕ) (n i : ℕ) where
+  left-none : length s < n → itemsLeft one end s n i ≡ []
   unfolding itemsLeft listOf
   left-none h = let z : length s + 1 - n ≡ 0 = omega arith in rw z
 
   module _ (h : n ≤ length s) where
     abbrev ends : ℕ
-    ends = itemEnd (itemsEnd k s) s i
+    ends = end i
 
-    left-some : itemsLeft inner k s n i ≡ itemOf inner s i ∷ pick (isAt s ends comma) (itemsLeft inner k s (n + 1) (pastSign comma s ends)) []
+    left-some : itemsLeft one end s n i ≡ one i ∷ pick (isAt s ends comma) (itemsLeft one end s (n + 1) (pastSign comma s ends)) []
     unfolding itemsLeft listOf
     left-some = let z : length s + 1 - n ≡ suc (length s + 1 - (n + 1)) = omega arith in rw z
 
@@ -99,19 +103,19 @@ module _ {A : Type 0} (inner : ℕ → List A) (k : ℕ) (s : List ℕ) (n i : �
       unfolding nextAt
       follows = g ∙ rw o
 
-      left-one : x ≡ Fault → itemsLeft inner k s n i ≡ itemOf inner s i ∷ []
+      left-one : x ≡ Fault → itemsLeft one end s n i ≡ one i ∷ []
       unfolding pick
       left-one w = left-some ∙ by (isAt s ends comma) (pastSign comma s ends) follows
         where
-          by : (t : Bool) (z : ℕ) → x ≡ pick t (Next z) Fault → itemOf inner s i ∷ pick t (itemsLeft inner k s (n + 1) z) [] ≡ itemOf inner s i ∷ []
+          by : (t : Bool) (z : ℕ) → x ≡ pick t (Next z) Fault → one i ∷ pick t (itemsLeft one end s (n + 1) z) [] ≡ one i ∷ []
           by true z e = let c : _≡_ {A = ℕ} 0 1 = cc in absurd (omega arith)
           by false z e = refl
 
-      left-more : (u : ℕ) → x ≡ Next u → itemsLeft inner k s n i ≡ itemOf inner s i ∷ itemsLeft inner k s (n + 1) u
+      left-more : (u : ℕ) → x ≡ Next u → itemsLeft one end s n i ≡ one i ∷ itemsLeft one end s (n + 1) u
       unfolding pick
       left-more u w = left-some ∙ by (isAt s ends comma) (pastSign comma s ends) follows
         where
-          by : (t : Bool) (z : ℕ) → x ≡ pick t (Next z) Fault → itemOf inner s i ∷ pick t (itemsLeft inner k s (n + 1) z) [] ≡ itemOf inner s i ∷ itemsLeft inner k s (n + 1) u
+          by : (t : Bool) (z : ℕ) → x ≡ pick t (Next z) Fault → one i ∷ pick t (itemsLeft one end s (n + 1) z) [] ≡ one i ∷ itemsLeft one end s (n + 1) u
           by true z e = let c : z ≡ u = cc in rw c
           by false z e = let c : _≡_ {A = ℕ} 0 1 = cc in absurd (omega arith)
 
@@ -119,52 +123,52 @@ module _ {A : Type 0} (inner : ℕ → List A) (k : ℕ) (s : List ℕ) (n i : �
 
 module _ {S : Type 0} (k : ℕ) (f : List (Item (suc k)) → S → Values → Judged) (next : Item (suc k) → S → S) (none : (stood : S) (vs : Values) → f [] stood vs ≡ Right vs)
     (turn : (x : Item (suc k)) (xs : List (Item (suc k))) (stood : S) (vs : Values) → f (x ∷ xs) stood vs ≡ onward (f (x ∷ []) stood vs) (λ us. f xs (next x stood) us)) where
-  starts : (s : List ℕ) (at : ℕ) (stood : S) (vs : Values) → f (itemsOf (suc k) s at) stood vs ≡ judgeAll f next (itemsLeft (itemsOf k s) k s 0 at) stood vs
-  unfolding itemsOf itemsLeft unlimited
+  starts : (s : List ℕ) (at : ℕ) (stood : S) (vs : Values) → f (itemsAt (suc k) s at .tree) stood vs ≡ judgeAll f next (levelLeft k s 0 at) stood vs
+  unfolding itemsAt itemsLeft unlimited
   starts s at stood vs = let z : length s + 1 - 0 ≡ length s + 1 = omega arith in rw z (one-by-one f next none turn _ stood vs)
 
 module _ (s : List ℕ) (at : ℕ) (vs : Values) where
-  pub property-starts : (k : Kind) → propertyItems k (itemsOf 6 s at) false vs ≡ judgeAll (propertyItems k) stands (itemsLeft (itemsOf 5 s) 5 s 0 at) false vs
+  pub property-starts : (k : Kind) → propertyItems k (itemsAt 6 s at .tree) false vs ≡ judgeAll (propertyItems k) stands (levelLeft 5 s 0 at) false vs
   unfolding propertyItems
   property-starts k = starts 5 (propertyItems k) stands (λ seen vs. refl) (property-turn k) s at false vs
 
-  pub media-starts : mediaItems (itemsOf 7 s at) false false vs ≡ judgeAll mediaAll stoodNext (itemsLeft (itemsOf 6 s) 6 s 0 at) (record { control = false; state = false }) vs
+  pub media-starts : mediaItems (itemsAt 7 s at .tree) false false vs ≡ judgeAll mediaAll stoodNext (levelLeft 6 s 0 at) (record { control = false; state = false }) vs
   unfolding mediaAll mediaItems
   media-starts = starts 6 mediaAll stoodNext (λ stood vs. refl) media-turn s at (record { control = false; state = false }) vs
 
-  pub top-starts : topItems (itemsOf 8 s at) false vs ≡ judgeAll topItems stands (itemsLeft (itemsOf 7 s) 7 s 0 at) false vs
+  pub top-starts : topItems (itemsAt 8 s at .tree) false vs ≡ judgeAll topItems stands (levelLeft 7 s 0 at) false vs
   unfolding topItems
   top-starts = starts 7 topItems stands (λ seen vs. refl) top-turn s at false vs
 
 -- ---- a list from the place that was reached: q is the verdict on all
 
-module _ {A S : Type 0} (f : List (ItemOf A) → S → Values → Judged) (next : ItemOf A → S → S) (inner : ℕ → List A) (k : ℕ) (s : List ℕ) (n i : ℕ) (stood : S) (vs : Values) (q : Judged)
-    (inv : q ≡ judgeAll f next (itemsLeft inner k s n i) stood vs) where
+module _ {A S : Type 0} (f : List A → S → Values → Judged) (next : A → S → S) (one : ℕ → A) (end : ℕ → ℕ) (s : List ℕ) (n i : ℕ) (stood : S) (vs : Values) (q : Judged)
+    (inv : q ≡ judgeAll f next (itemsLeft one end s n i) stood vs) where
   pub all-none : length s < n → Right vs ≡ q
   unfolding judgeAll
-  all-none h = sym (inv ∙ rw (left-none inner k s n i h))
+  all-none h = sym (inv ∙ rw (left-none one end s n i h))
 
-  module _ (h : n ≤ length s) (j : Judged) (e : j ≡ f (itemOf inner s i ∷ []) stood vs) where
+  module _ (h : n ≤ length s) (j : Judged) (e : j ≡ f (one i ∷ []) stood vs) where
     pub all-wrong : (code : ℕ) → j ≡ Wrong code → j ≡ q
     unfolding judgeAll onward
-    all-wrong code w = w ∙ sym (inv ∙ rw (left-some inner k s n i h, ← e, w))
+    all-wrong code w = w ∙ sym (inv ∙ rw (left-some one end s n i h, ← e, w))
 
-    module _ (us : Values) (r : j ≡ Right us) (y : ℕ) (x : Parsed) (o : y ≡ itemEnd (itemsEnd k s) s i) (g : x ≡ nextAt s y) where
+    module _ (us : Values) (r : j ≡ Right us) (y : ℕ) (x : Parsed) (o : y ≡ end i) (g : x ≡ nextAt s y) where
       pub all-last : x ≡ Fault → Right us ≡ q
       unfolding judgeAll onward
-      all-last w = sym (inv ∙ rw (left-one inner k s n i h y x o g w, ← e, r))
+      all-last w = sym (inv ∙ rw (left-one one end s n i h y x o g w, ← e, r))
 
       pub all-right : x ≡ Fault → j ≡ q
       all-right w = r ∙ all-last w
 
-      pub all-more : (u : ℕ) (stood′ : S) → x ≡ Next u → stood′ ≡ next (itemOf inner s i) stood → q ≡ judgeAll f next (itemsLeft inner k s (n + 1) u) stood′ us
+      pub all-more : (u : ℕ) (stood′ : S) → x ≡ Next u → stood′ ≡ next (one i) stood → q ≡ judgeAll f next (itemsLeft one end s (n + 1) u) stood′ us
       unfolding judgeAll onward
-      all-more u stood′ w m = inv ∙ rw (left-more inner k s n i h y x o g u w, ← e, r, ← m)
+      all-more u stood′ w m = inv ∙ rw (left-more one end s n i h y x o g u w, ← e, r, ← m)
 
 -- ---- where it ends: q is the end of all
 
-pub items-begin : (k : ℕ) (s : List ℕ) (at : ℕ) → itemsEnd (suc k) s at ≡ listEnd (itemEnd (itemsEnd k s) s) s (length s + 1 - 0) at
-unfolding itemsEnd unlimited
+pub items-begin : (k : ℕ) (s : List ℕ) (at : ℕ) → itemsAt (suc k) s at .end ≡ listEnd (λ j. itemAt (itemsAt k s) s j .end) s (length s + 1 - 0) at
+unfolding itemsAt unlimited
 items-begin k s at = let z : length s + 1 - 0 ≡ length s + 1 = omega arith in rw z
 
 module _ (end : ℕ → ℕ) (s : List ℕ) (n i q : ℕ) (inv : q ≡ listEnd end s (length s + 1 - n) i) (h : n ≤ length s) (e : ℕ) (d : e ≡ end i) (x : Parsed) (g : x ≡ nextAt s e) where

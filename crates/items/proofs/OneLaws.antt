@@ -20,7 +20,8 @@ use Rattle.megaco.specs.declared.Judged.the-variants.{Wrong, Right}
 use Rattle.megaco.specs.declared.Kind.{Kind}
 use Rattle.megaco.specs.declared.Kind.the-variants.{InControl, InState}
 use Rattle.megaco.specs.declared.Values.{Values}
-use Rattle.syntax.specs.Extraction.{pastSign, itemOf, itemEnd, itemsEnd, itemsOf}
+use Rattle.syntax.specs.Production.{pastSign}
+use Rattle.syntax.specs.Places.{itemAt, itemsAt}
 use Rattle.parts.specs.declared.ValuePlaces.{ValuePlaces}
 use Rattle.parts.specs.declared.ItemPlaces.{ItemPlaces}
 use Rattle.parts.specs.Found.{inQuotes, bytesOf, valueFrom, OfItem, itemFrom}
@@ -88,33 +89,33 @@ by-kind true o t x f = refl
 by-kind false o t x f = refl
 
 module _ (s : List ℕ) (at : ℕ) (p : ItemPlaces) (h : OfItem s at p) (vs : Values) (j : Judged) where
-  pub property-one : {A : Type 0} (inner : ℕ → List A) (k : Kind) (seen : Bool) → j ≡ propertyBy k seen vs s p → j ≡ propertyItems k (itemOf inner s at ∷ []) seen vs
+  pub property-one : (k : Kind) (seen : Bool) → j ≡ propertyBy k seen vs s p → j ≡ propertyItems k (itemAt (itemsAt 5 s) s at .tree ∷ []) seen vs
   unfolding propertyItems propertyBy propertyShape calledBy itemFrom
-  property-one inner k seen e =
-      e ∙ sym (rw (item-is inner s at p h, called-second, given-value, given-pick)
+  property-one k seen e =
+      e ∙ sym (rw (item-is (itemsAt 5 s) s at p h, called-second, given-value, given-pick)
       (alone 445 _ seen (propertyShapeBy p) _ _ refl (λ t. ap (λ g. setValue k g vs) (value-by k s _ p (and-left _ _ t)))))
 
-  pub media-one : (c stood : Descriptors) → c ≡ calledIn s p → j ≡ mediaBy c stood vs s p → j ≡ mediaAll (itemOf (itemsOf 6 s) s at ∷ []) stood vs
+  pub media-one : (c stood : Descriptors) → c ≡ calledIn s p → j ≡ mediaBy c stood vs s p → j ≡ mediaAll (itemAt (itemsAt 6 s) s at .tree ∷ []) stood vs
   unfolding mediaAll mediaItems mediaBy calledIn calledBy descriptorShape itemFrom
   media-one c stood d e =
-      let is : List (Item 6) = itemsIn (pick (p .braces) (some (itemsOf 6 s (p .inside))) none) in
+      let is : List (Item 6) = itemsIn (pick (p .braces) (some (itemsAt 6 s (p .inside) .tree)) none) in
       let f : Bool → Bool → Values → Judged = λ o t us. Right us in
       e ∙ sym (rw (
         d,
-        item-is (itemsOf 6 s) s at p h,
+        item-is (itemsAt 6 s) s at p h,
         called-second,
         called-second,
         given-value,
         given-pick,
         by-kind (calledBy LocalControlToken s p) (stood .control) (stood .state) (λ k. propertyItems k is false vs) f,
       )
-      (alone 444 _ _ (descriptorShapeBy p) _ _ refl (λ t. rw (items-in (p .braces) (itemsOf 6 s (p .inside)) (and-right (not (p .value .given)) (p .braces) t)))))
+      (alone 444 _ _ (descriptorShapeBy p) _ _ refl (λ t. rw (items-in (p .braces) (itemsAt 6 s (p .inside) .tree) (and-right (not (p .value .given)) (p .braces) t)))))
 
-  pub top-one : (seen : Bool) → j ≡ topBy seen vs s p → j ≡ topItems (itemOf (itemsOf 7 s) s at ∷ []) seen vs
+  pub top-one : (seen : Bool) → j ≡ topBy seen vs s p → j ≡ topItems (itemAt (itemsAt 7 s) s at .tree ∷ []) seen vs
   unfolding topItems topBy calledBy descriptorShape itemFrom
   top-one seen e =
-      e ∙ sym (rw (item-is (itemsOf 7 s) s at p h, called-second, given-value, given-pick)
-      (alone 444 _ seen (descriptorShapeBy p) _ _ refl (λ t. rw (items-in (p .braces) (itemsOf 7 s (p .inside)) (and-right (not (p .value .given)) (p .braces) t)))))
+      e ∙ sym (rw (item-is (itemsAt 7 s) s at p h, called-second, given-value, given-pick)
+      (alone 444 _ seen (descriptorShapeBy p) _ _ refl (λ t. rw (items-in (p .braces) (itemsAt 7 s (p .inside) .tree) (and-right (not (p .value .given)) (p .braces) t)))))
 
 -- ---- where an item ends that nothing is wrong with
 
@@ -128,30 +129,30 @@ shaped code true false true y us n e = refl
 
 module _ (s : List ℕ) (at : ℕ) (p : ItemPlaces) (h : OfItem s at p) (vs : Values) where
   -- a property where its value does
-  pub property-ends : (end : ℕ → ℕ) (k : Kind) (seen : Bool) (j : Judged) (us : Values) → j ≡ propertyBy k seen vs s p → j ≡ Right us → p .value .end ≡ itemEnd end s at
+  pub property-ends : (k : Kind) (seen : Bool) (j : Judged) (us : Values) → j ≡ propertyBy k seen vs s p → j ≡ Right us → p .value .end ≡ itemAt (itemsAt 5 s) s at .end
   unfolding propertyBy
-  property-ends end k seen j us e r =
-      item-plain end s at p h (not-true (p .braces) (and-right (p .value .given) (not (p .braces)) (shaped 445 _ seen (propertyShapeBy p) _ us refl (sym e ∙ r))))
+  property-ends k seen j us e r =
+      item-plain 5 s at p h (not-true (p .braces) (and-right (p .value .given) (not (p .braces)) (shaped 445 _ seen (propertyShapeBy p) _ us refl (sym e ∙ r))))
     where
       not-true : (b : Bool) → not b ≡ true → b ≡ false
       not-true true n = absurd (let w : _≡_ {A = ℕ} 0 1 = cc in omega arith)
       not-true false n = refl
 
   -- a descriptor where its braces do
-  described : (end : ℕ → ℕ) (y : JudgedItems) (us : Values) → descriptorShapeBy p ≡ true → y .judged ≡ Right us → Known (pastSign rightBrace s (end (p .inside))) y → y .end ≡ itemEnd end s at
-  described end y us g r k = item-braced end s at p h (end (p .inside)) (y .end) (and-right (not (p .value .given)) (p .braces) g) refl (k .at us r)
+  described : (m : ℕ) (y : JudgedItems) (us : Values) → descriptorShapeBy p ≡ true → y .judged ≡ Right us → Known (pastSign rightBrace s (itemsAt m s (p .inside) .end)) y → y .end ≡ itemAt (itemsAt m s) s at .end
+  described m y us g r k = item-braced m s at p h (itemsAt m s (p .inside) .end) (y .end) (and-right (not (p .value .given)) (p .braces) g) refl (k .at us r)
 
-  pub media-ends : (c stood : Descriptors) (y : JudgedItems) (us : Values) → y .judged ≡ mediaBy c stood vs s p → y .judged ≡ Right us → Known (pastSign rightBrace s (itemsEnd 6 s (p .inside))) y
-      → y .end ≡ itemEnd (itemsEnd 6 s) s at
+  pub media-ends : (c stood : Descriptors) (y : JudgedItems) (us : Values) → y .judged ≡ mediaBy c stood vs s p → y .judged ≡ Right us → Known (pastSign rightBrace s (itemsAt 6 s (p .inside) .end)) y
+      → y .end ≡ itemAt (itemsAt 6 s) s at .end
   unfolding mediaBy
-  media-ends c stood y us e r k = described (itemsEnd 6 s) y us (shaped 444 _ _ (descriptorShapeBy p) _ us refl (sym e ∙ r)) r k
+  media-ends c stood y us e r k = described 6 y us (shaped 444 _ _ (descriptorShapeBy p) _ us refl (sym e ∙ r)) r k
 
-  pub top-ends : (seen : Bool) (y : JudgedItems) (us : Values) → y .judged ≡ topBy seen vs s p → y .judged ≡ Right us → Known (pastSign rightBrace s (itemsEnd 7 s (p .inside))) y
-      → y .end ≡ itemEnd (itemsEnd 7 s) s at
+  pub top-ends : (seen : Bool) (y : JudgedItems) (us : Values) → y .judged ≡ topBy seen vs s p → y .judged ≡ Right us → Known (pastSign rightBrace s (itemsAt 7 s (p .inside) .end)) y
+      → y .end ≡ itemAt (itemsAt 7 s) s at .end
   unfolding topBy
-  top-ends seen y us e r k = described (itemsEnd 7 s) y us (shaped 444 _ seen (descriptorShapeBy p) _ us refl (sym e ∙ r)) r k
+  top-ends seen y us e r k = described 7 y us (shaped 444 _ seen (descriptorShapeBy p) _ us refl (sym e ∙ r)) r k
 
-pub stood-next : {A : Type 0} (inner : ℕ → List A) (s : List ℕ) (at : ℕ) (p : ItemPlaces) (c stood r : Descriptors) → OfItem s at p → c ≡ calledIn s p → r ≡ stoodAfter (c .control) stood
-    → r ≡ stoodNext (itemOf inner s at) stood
+pub stood-next : (s : List ℕ) (at : ℕ) (p : ItemPlaces) (c stood r : Descriptors) → OfItem s at p → c ≡ calledIn s p → r ≡ stoodAfter (c .control) stood
+    → r ≡ stoodNext (itemAt (itemsAt 6 s) s at .tree) stood
 unfolding stoodNext itemFrom calledIn calledBy
-stood-next inner s at p c stood r h d e = e ∙ sym (rw (d, item-is inner s at p h, called-second))
+stood-next s at p c stood r h d e = e ∙ sym (rw (d, item-is (itemsAt 6 s) s at p h, called-second))

@@ -23,7 +23,8 @@ use Rattle.megaco.specs.declared.Judged.the-variants.{Wrong, Right}
 use Rattle.megaco.specs.declared.Kind.{Kind}
 use Rattle.megaco.specs.declared.Kind.the-variants.{InControl, InState}
 use Rattle.megaco.specs.declared.Values.{Values}
-use Rattle.syntax.specs.Extraction.{pastSign, itemsOf}
+use Rattle.syntax.specs.Production.{pastSign}
+use Rattle.syntax.specs.Places.{itemsAt}
 use Rattle.parts.specs.declared.ItemPlaces.{ItemPlaces}
 use Rattle.parts.specs.Found.{bytesOf}
 use Rattle.items.specs.declared.Descriptors.{Descriptors}
@@ -92,7 +93,7 @@ repeatedBy called stood = (called .control && stood .control) || (called .state 
 unfoldable pub mediaBy : Descriptors → Descriptors → Values → List ℕ → ItemPlaces → Judged
 mediaBy called stood vs s p =
     judgedBy (itemCode 444 (called .control || called .state) (repeatedBy called stood) (descriptorShapeBy p))
-    (propertyItems (kindOf (called .control)) (itemsOf 6 s (p .inside)) false vs)
+    (propertyItems (kindOf (called .control)) (itemsAt 6 s (p .inside) .tree) false vs)
 
 unfoldable pub topBy : Bool → Values → List ℕ → ItemPlaces → Judged
-topBy seen vs s p = judgedBy (itemCode 444 (calledBy MediaToken s p) seen (descriptorShapeBy p)) (mediaItems (itemsOf 7 s (p .inside)) false false vs)
+topBy seen vs s p = judgedBy (itemCode 444 (calledBy MediaToken s p) seen (descriptorShapeBy p)) (mediaItems (itemsAt 7 s (p .inside) .tree) false false vs)

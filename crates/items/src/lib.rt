@@ -5,7 +5,8 @@ ghost use mathlib.Core.Option.{some};
 ghost use Rattle.megaco.specs.Tree.{plain};
 ghost use Rattle.megaco.specs.Items.{modeGiven, stateGiven, propertyToken, valueGiven, setValue, propertyItems, mediaItems, topItems, judgeItems};
 ghost use Rattle.megaco.specs.Bytes.{rightBrace};
-ghost use Rattle.syntax.specs.Extraction.{pastSign, itemsOf, itemsEnd};
+ghost use Rattle.syntax.specs.Production.{pastSign};
+ghost use Rattle.syntax.specs.Places.{itemsAt};
 ghost use Rattle.parts.specs.Found.{itemsFrom, commandEndFrom};
 ghost use Rattle.items.specs.Judging.{Lies, calledBy, itemCode, calledIn, kindOf, stoodAfter, valueBy, nextAt, propertyBy, mediaBy, topBy, Known, closedBy};
 use megaco::Given;
@@ -187,7 +188,7 @@ fn property_item(s: &[u8], p: ItemPlaces, k: Kind, seen: bool, values: Values) -
 }
 
 fn property_items(s: &[u8], at: usize, k: Kind, values: Values) -> JudgedItems
-    ensures { λ r. ⌜ (r .judged ≡ propertyItems k (itemsOf 6 (now (s .entry)) at) false values) × Known (itemsEnd 6 (now (s .entry)) at) r ⌝ }
+    ensures { λ r. ⌜ (r .judged ≡ propertyItems k (itemsAt 6 (now (s .entry)) at .tree) false values) × Known (itemsAt 6 (now (s .entry)) at .end) r ⌝ }
 {
     let mut i = at;
     let mut n = 0;
@@ -257,7 +258,7 @@ fn media_item(
     stood: Descriptors,
     values: Values,
 ) -> JudgedItems
-    ensures { λ r. ⌜ (r .judged ≡ mediaBy called stood values (now (s .entry)) p) × Known (pastSign rightBrace (now (s .entry)) (itemsEnd 6 (now (s .entry)) (p .inside))) r ⌝ }
+    ensures { λ r. ⌜ (r .judged ≡ mediaBy called stood values (now (s .entry)) p) × Known (pastSign rightBrace (now (s .entry)) (itemsAt 6 (now (s .entry)) (p .inside) .end)) r ⌝ }
 {
     let v = p.value;
     let known = called.control | called.state;
@@ -275,7 +276,7 @@ fn media_item(
 }
 
 fn media_items(s: &[u8], at: usize, values: Values) -> JudgedItems
-    ensures { λ r. ⌜ (r .judged ≡ mediaItems (itemsOf 7 (now (s .entry)) at) false false values) × Known (itemsEnd 7 (now (s .entry)) at) r ⌝ }
+    ensures { λ r. ⌜ (r .judged ≡ mediaItems (itemsAt 7 (now (s .entry)) at .tree) false false values) × Known (itemsAt 7 (now (s .entry)) at .end) r ⌝ }
 {
     let mut i = at;
     let mut n = 0;
@@ -312,7 +313,7 @@ fn media_items(s: &[u8], at: usize, values: Values) -> JudgedItems
 
 fn top_item(s: &[u8], p: ItemPlaces, seen: bool, values: Values) -> JudgedItems
     requires { ⌜ Lies (now s) p ⌝ }
-    ensures { λ r. ⌜ (r .judged ≡ topBy seen values (now (s .entry)) p) × Known (pastSign rightBrace (now (s .entry)) (itemsEnd 7 (now (s .entry)) (p .inside))) r ⌝ }
+    ensures { λ r. ⌜ (r .judged ≡ topBy seen values (now (s .entry)) p) × Known (pastSign rightBrace (now (s .entry)) (itemsAt 7 (now (s .entry)) (p .inside) .end)) r ⌝ }
 {
     let v = p.value;
     let known = item_called(s, p, Token::MediaToken);
@@ -329,7 +330,7 @@ fn top_item(s: &[u8], p: ItemPlaces, seen: bool, values: Values) -> JudgedItems
 }
 
 fn top_items(s: &[u8], at: usize, values: Values) -> JudgedItems
-    ensures { λ r. ⌜ (r .judged ≡ topItems (itemsOf 8 (now (s .entry)) at) false values) × Known (itemsEnd 8 (now (s .entry)) at) r ⌝ }
+    ensures { λ r. ⌜ (r .judged ≡ topItems (itemsAt 8 (now (s .entry)) at .tree) false values) × Known (itemsAt 8 (now (s .entry)) at .end) r ⌝ }
 {
     let mut i = at;
     let mut n = 0;

@@ -15,7 +15,7 @@ use Rattle.syntax.specs.declared.Braces.{Braces}
 use Rattle.syntax.specs.declared.Braces.the-variants.{Past, Outside, Within}
 use Rattle.syntax.specs.declared.Verdict.{Verdict}
 use Rattle.syntax.specs.declared.Verdict.the-variants.{WellFormed, Fault400, Fault403}
-use Rattle.syntax.specs.Places.{orOutside, orWithin, afterBraces, orFault400, ifNumber, transactionAt, identifierAt, transactionsAt}
+use Rattle.syntax.specs.Messages.{orOutside, orWithin, afterBraces, orFault400, ifNumber, transactionAt, identifierAt, transactionsAt}
 use Rattle.actions.proofs.ActionLaws.{parts}
 
 -- ---- the arms of a match on what a reader found
@@ -60,17 +60,17 @@ pub ruleset verdicts = (parts, outside-next, outside-fault, within-next, within-
 
 -- ---- transactions, from the place that was reached: the definition from the start, w, is the definition from here
 
-module _ (s : List ℕ) (k i : ℕ) (w : Verdict) (inv : w ≡ transactionsAt k s i) where
+module _ (s : List ℕ) (k i : ℕ) (w : Verdict) (inv : w ≡ transactionsAt k s i .verdict) where
   pub none-left : k ≤ 0 → Fault400 ≡ w
   unfolding transactionsAt
   none-left h = let z : k ≡ 0 = omega arith in sym (inv ∙ rw z)
 
   module _ (n : Number) (e : n ≡ identifierAt s i) (h : 0 < k) where
-    turn : w ≡ ifNumber n (λ id p. pick (eqb id 0) (Fault403 0) (afterBraces id (transactionAt s p) (λ q. pick (ltb q (length s)) (transactionsAt (k - 1) s q) WellFormed)))
+    turn : w ≡ ifNumber n (λ id p. pick (eqb id 0) (Fault403 0) (afterBraces id (transactionAt s p) (λ q. pick (ltb q (length s)) (transactionsAt (k - 1) s q .verdict) WellFormed)))
     unfolding transactionsAt
     turn = let z : k ≡ suc (k - 1) = omega arith in by k (k - 1) z inv
       where
-        by : (a b : ℕ) → a ≡ suc b → w ≡ transactionsAt a s i → w ≡ ifNumber n (λ id p. pick (eqb id 0) (Fault403 0) (afterBraces id (transactionAt s p) (λ q. pick (ltb q (length s)) (transactionsAt b s q) WellFormed)))
+        by : (a b : ℕ) → a ≡ suc b → w ≡ transactionsAt a s i .verdict → w ≡ ifNumber n (λ id p. pick (eqb id 0) (Fault403 0) (afterBraces id (transactionAt s p) (λ q. pick (ltb q (length s)) (transactionsAt b s q .verdict) WellFormed)))
         by a b z f = rw e (rw z at f)
 
     pub no-identifier : n ≡ Bad → Fault400 ≡ w
@@ -96,6 +96,6 @@ module _ (s : List ℕ) (k i : ℕ) (w : Verdict) (inv : w ≡ transactionsAt k 
           unfolding ifNumber pick afterBraces
           last-one l = sym (turn ∙ rw (g, ne-eqb id 0 z, ← d, f, le-ltb q (length s) l))
 
-          pub one-more : q < length s → w ≡ transactionsAt (k - 1) s q
+          pub one-more : q < length s → w ≡ transactionsAt (k - 1) s q .verdict
           unfolding ifNumber pick afterBraces
           one-more l = turn ∙ rw (g, ne-eqb id 0 z, ← d, f, lt-ltb q (length s) l)

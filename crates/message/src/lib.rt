@@ -1,7 +1,8 @@
 // Reading a whole message: the verdict. Nothing but the message is touched.
 ghost use mathlib.Core.Path.{_≡_};
 ghost use Rattle.megaco.specs.Reading.{startAt, senderAt};
-ghost use Rattle.syntax.specs.Places.{actionsAt, braceAt, transactionAt, identifierAt, transactionsAt, protocolAt, versionAt, verdict};
+ghost use Rattle.syntax.specs.Places.{bracedAt};
+ghost use Rattle.syntax.specs.Messages.{braceAt, transactionAt, identifierAt, transactionsAt, protocolAt, versionAt, verdict};
 use megaco::Number;
 use megaco::Parsed;
 use megaco::Token;
@@ -12,7 +13,7 @@ use syntax::Verdict;
 
 // From behind a transaction's opening brace through the closing one.
 fn braced(s: &[u8], at: usize) -> Parsed
-    ensures { λ r. ⌜ r ≡ actionsAt (now (s .entry)) at ⌝ }
+    ensures { λ r. ⌜ r ≡ bracedAt (now (s .entry)) at .place ⌝ }
 {
     let w = text::white(s, at);
     let Parsed::Next(p) = w else {
@@ -68,7 +69,7 @@ pub fn identifier(s: &[u8], at: usize) -> Number
 
 // One to 8 transactions, to the end of the message.
 fn transactions(s: &[u8], at: usize) -> Verdict
-    ensures { λ r. ⌜ r ≡ transactionsAt 8 (now (s .entry)) at ⌝ }
+    ensures { λ r. ⌜ r ≡ transactionsAt 8 (now (s .entry)) at .verdict ⌝ }
 {
     let mut i = at;
     let mut left: usize = 8;

@@ -19,8 +19,9 @@ use Rattle.megaco.specs.declared.Context.the-variants.{Null, Numbered, Choose, 
 use Rattle.megaco.specs.declared.Property.the-variants.{Priority, Emergency}
 use Rattle.megaco.specs.declared.Token.the-variants.{CtxToken, EmergencyToken}
 use Rattle.syntax.specs.declared.Rest.{Rest}
-use Rattle.syntax.specs.Places.{priorityAt, braceAt, identifierAt, versionAt}
-use Rattle.syntax.specs.Extraction.{endOf, valueIn, nextIn, pastWhite, pastSign, wordEnd, listEnd, listAfter, commandEnd, commandsEnd, contextStart, contextOf, contextEnd, bodyStart, propertyOf, propertyEnd, rest, restOf, restIn, bodyEnd, actionEnd, actionsStart, actionsEnd, closingEnd, transactionEnd, headerEnd}
+use Rattle.syntax.specs.Places.{priorityAt, commandAt, commandsAt, contextStart, contextAt, bodyStart, propertyAt, rest, restOf, restIn, bodyEnd, actionAt, actionsAt}
+use Rattle.syntax.specs.Messages.{braceAt, identifierAt, versionAt, actionsStart, closingEnd, transactionEnd, headerEnd}
+use Rattle.syntax.specs.Production.{endOf, valueIn, nextIn, pastWhite, pastSign, wordEnd, listEnd, listAfter, listP}
 use Rattle.outline.specs.declared.ContextPlaces.{ContextPlaces}
 use Rattle.outline.specs.declared.ActionPlaces.{ActionPlaces}
 use Rattle.outline.specs.declared.PropertyPlaces.{PropertyPlaces}
@@ -50,21 +51,21 @@ module _ (n : Number) where
 
 module _ (s : List ℕ) (at : ℕ) (x : Bool) (g : x ≡ isAt s at dash) where
   pub context-null : x ≡ true → record { context = Null; end = at + 1 } ≡ contextPlaces s at
-  unfolding contextPlaces contextOf contextEnd pick
+  unfolding contextPlaces contextAt pick
   context-null t = rw (← g, t)
 
   module _ (f : x ≡ false) (y : Bool) (h : y ≡ isAt s at dollar) where
     pub context-choose : y ≡ true → record { context = Choose; end = at + 1 } ≡ contextPlaces s at
-    unfolding contextPlaces contextOf contextEnd pick
+    unfolding contextPlaces contextAt pick
     context-choose t = rw (← g, f, ← h, t)
 
     module _ (k : y ≡ false) (z : Bool) (j : z ≡ isAt s at star) where
       pub context-all : z ≡ true → record { context = All; end = at + 1 } ≡ contextPlaces s at
-      unfolding contextPlaces contextOf contextEnd pick
+      unfolding contextPlaces contextAt pick
       context-all t = rw (← g, f, ← h, k, ← j, t)
 
       pub context-number : (n : Number) (v p : ℕ) → z ≡ false → n ≡ numberAt s at 10 4294967295 → v ≡ valueIn n → p ≡ nextIn n → record { context = Numbered v; end = p } ≡ contextPlaces s at
-      unfolding contextPlaces contextOf contextEnd pick
+      unfolding contextPlaces contextAt pick
       context-number n v p t e a b = rw (← g, f, ← h, k, ← j, t, ← e, a, b)
 
 pub action-found : (s : List ℕ) (at p e b : ℕ) (k : Parsed) (x : ContextPlaces) → k ≡ keyAt CtxToken s at → p ≡ endOf k → x ≡ contextPlaces s p → e ≡ pastWhite s (x .end) → b ≡ pastSign leftBrace s e
@@ -76,11 +77,11 @@ action-found s at p e b k x ek ep ex ee eb =
 
 module _ (s : List ℕ) (at : ℕ) (x : Bool) (g : x ≡ spells EmergencyToken (wordHere s at)) where
   pub emergency-found : (e p : ℕ) → x ≡ true → e ≡ rowAt WordByte s at → p ≡ pastWhite s e → record { property = Emergency; end = p } ≡ propertyPlaces s at
-  unfolding propertyPlaces propertyOf propertyEnd wordEnd pick
+  unfolding propertyPlaces propertyAt wordEnd pick
   emergency-found e p t a b = rw (← g, t, ← a, b)
 
   pub priority-found : (n : Number) (v q p : ℕ) → x ≡ false → n ≡ priorityAt s at → v ≡ valueIn n → q ≡ nextIn n → p ≡ pastWhite s q → record { property = Priority v; end = p } ≡ propertyPlaces s at
-  unfolding propertyPlaces propertyOf propertyEnd pick
+  unfolding propertyPlaces propertyAt pick
   priority-found n v q p t e a b d = rw (← g, t, ← e, a, d, b)
 
 -- ---- what follows the properties: n of them were read
@@ -95,11 +96,11 @@ module _ (s : List ℕ) (n i : ℕ) (q : Rest) (inv : q ≡ restOf (length s + 1
   rest-none h = let z : length s + 1 - n ≡ 0 = omega arith in sym (inv ∙ rw z)
 
   module _ (h : n ≤ length s) (z : Bool) (d : z ≡ isProperty (wordHere s i)) where
-    turn : q ≡ pick z (pick (isAt s (propertyEnd s i) comma) (restOf (length s + 1 - (n + 1)) s (pastSign comma s (propertyEnd s i))) (rest false (propertyEnd s i))) (rest true i)
+    turn : q ≡ pick z (pick (isAt s (propertyAt s i .end) comma) (restOf (length s + 1 - (n + 1)) s (pastSign comma s (propertyAt s i .end))) (rest false (propertyAt s i .end))) (rest true i)
     unfolding restOf
     turn = let k : length s + 1 - n ≡ suc (length s + 1 - (n + 1)) = omega arith in by (length s + 1 - n) (length s + 1 - (n + 1)) k inv
       where
-        by : (a b : ℕ) → a ≡ suc b → q ≡ restOf a s i → q ≡ pick z (pick (isAt s (propertyEnd s i) comma) (restOf b s (pastSign comma s (propertyEnd s i))) (rest false (propertyEnd s i))) (rest true i)
+        by : (a b : ℕ) → a ≡ suc b → q ≡ restOf a s i → q ≡ pick z (pick (isAt s (propertyAt s i .end) comma) (restOf b s (pastSign comma s (propertyAt s i .end))) (rest false (propertyAt s i .end))) (rest true i)
         by a b e f = rw d (rw e at f)
 
     pub rest-commands : z ≡ false → rest true i ≡ q
@@ -107,7 +108,7 @@ module _ (s : List ℕ) (n i : ℕ) (q : Rest) (inv : q ≡ restOf (length s + 1
     rest-commands f = sym (turn ∙ rw f)
 
     module _ (t : z ≡ true) (p : PropertyPlaces) (e : p ≡ propertyPlaces s i) (x : Bool) (g : x ≡ isAt s (p .end) comma) where
-      ends : p .end ≡ propertyEnd s i
+      ends : p .end ≡ propertyAt s i .end
       unfolding propertyPlaces
       ends = ap (λ (y : PropertyPlaces). y .end) e
 
@@ -131,12 +132,12 @@ module _ (end : ℕ → ℕ) (s : List ℕ) (k e : ℕ) (x : Bool) (g : x ≡ is
   after-none f = rw (← g, f)
 
 -- a body with commands
-pub body-commands : (s : List ℕ) (b : Rest) (r : ℕ) → b .commands ≡ true → r ≡ listEnd (commandEnd s) s 64 (b .at) → r ≡ bodyEnd s b
-unfolding bodyEnd commandsEnd pick
+pub body-commands : (s : List ℕ) (b : Rest) (r : ℕ) → b .commands ≡ true → r ≡ listP (commandAt s) s 64 (b .at) .end → r ≡ bodyEnd s b
+unfolding bodyEnd commandsAt pick
 body-commands s b r t e = e ∙ rw t
 
-pub action-ends : (s : List ℕ) (at e r : ℕ) (a : ActionPlaces) (b : Rest) → a ≡ actionPlaces s at → b ≡ restOf (unlimited s) s (a .body) → e ≡ bodyEnd s b → r ≡ pastSign rightBrace s e → r ≡ actionEnd s at
-unfolding actionEnd restIn actionPlaces
+pub action-ends : (s : List ℕ) (at e r : ℕ) (a : ActionPlaces) (b : Rest) → a ≡ actionPlaces s at → b ≡ restOf (unlimited s) s (a .body) → e ≡ bodyEnd s b → r ≡ pastSign rightBrace s e → r ≡ actionAt s at .end
+unfolding actionAt restIn actionPlaces
 action-ends s at e r a b ea eb ee er =
     let z : a .body ≡ bodyStart s at = ap (λ (y : ActionPlaces). y .body) ea in
     er ∙ rw (ee, eb, z)
@@ -152,7 +153,7 @@ pub closing-ends : (s : List ℕ) (at e r : ℕ) (x : Parsed) → x ≡ markAt r
 unfolding closingEnd
 closing-ends s at e r x ex ee er = er ∙ rw (ee, ex)
 
-pub transaction-ends : (s : List ℕ) (at e r : ℕ) (p : TransactionPlaces) → p ≡ transactionPlaces s at → e ≡ actionsEnd s (p .body) → r ≡ closingEnd s e → r ≡ transactionEnd s at
+pub transaction-ends : (s : List ℕ) (at e r : ℕ) (p : TransactionPlaces) → p ≡ transactionPlaces s at → e ≡ actionsAt s (p .body) .end → r ≡ closingEnd s e → r ≡ transactionEnd s at
 unfolding transactionEnd transactionPlaces
 transaction-ends s at e r p ep ee er =
     let z : p .body ≡ actionsStart s at = ap (λ (y : TransactionPlaces). y .body) ep in

@@ -2,7 +2,9 @@
 // stands, what is found has no meaning.
 ghost use mathlib.Core.Path.{_≡_};
 ghost use Rattle.megaco.specs.Reading.{unlimited};
-ghost use Rattle.syntax.specs.Extraction.{valueIn, nextIn, listEnd, listAfter, commandEnd, bodyEnd, restOf, actionEnd, closingEnd, headerEnd};
+ghost use Rattle.syntax.specs.Production.{valueIn, nextIn, listAfter, listP};
+ghost use Rattle.syntax.specs.Places.{commandAt, bodyEnd, restOf, actionAt};
+ghost use Rattle.syntax.specs.Messages.{closingEnd, headerEnd};
 ghost use Rattle.outline.specs.Outline.{contextPlaces, actionPlaces, propertyPlaces, transactionPlaces};
 use megaco::Class;
 use megaco::Context;
@@ -150,7 +152,7 @@ pub fn rest_of(s: &[u8], at: usize) -> Rest
 // ---- ends
 
 fn command_end(s: &[u8], at: usize) -> usize
-    ensures { λ r. ⌜ r ≡ commandEnd (now (s .entry)) at ⌝ }
+    ensures { λ r. ⌜ r ≡ commandAt (now (s .entry)) at .end ⌝ }
 {
     let p = parts::command_places(s, at);
     parts::command_end(s, p)
@@ -158,7 +160,7 @@ fn command_end(s: &[u8], at: usize) -> usize
 
 // The end of the commands, at most so many, that begin here.
 fn commands_end(s: &[u8], most: usize, at: usize) -> usize
-    ensures { λ r. ⌜ r ≡ listEnd (commandEnd (now (s .entry))) (now (s .entry)) most at ⌝ }
+    ensures { λ r. ⌜ r ≡ listP (commandAt (now (s .entry))) (now (s .entry)) most at .end ⌝ }
 {
     let mut i = at;
     let mut left = most;
@@ -176,7 +178,7 @@ fn commands_end(s: &[u8], most: usize, at: usize) -> usize
 
 // The end of the commands of which one ends here, and at most so many follow.
 pub fn commands_after(s: &[u8], most: usize, e: usize) -> usize
-    ensures { λ r. ⌜ r ≡ listAfter (commandEnd (now (s .entry))) (now (s .entry)) most e ⌝ }
+    ensures { λ r. ⌜ r ≡ listAfter (λ j. commandAt (now (s .entry)) j .end) (now (s .entry)) most e ⌝ }
 {
     if text::is_at(s, e, 0x2c) {
         return commands_end(s, most, parts::past_comma(s, e));
@@ -196,7 +198,7 @@ pub fn body_end(s: &[u8], r: Rest) -> usize
 }
 
 fn action_end(s: &[u8], at: usize) -> usize
-    ensures { λ r. ⌜ r ≡ actionEnd (now (s .entry)) at ⌝ }
+    ensures { λ r. ⌜ r ≡ actionAt (now (s .entry)) at .end ⌝ }
 {
     let a = action_places(s, at);
     let b = a.body;
@@ -205,7 +207,7 @@ fn action_end(s: &[u8], at: usize) -> usize
 
 // The end of the actions, at most so many, that begin here.
 fn actions_end(s: &[u8], most: usize, at: usize) -> usize
-    ensures { λ r. ⌜ r ≡ listEnd (actionEnd (now (s .entry))) (now (s .entry)) most at ⌝ }
+    ensures { λ r. ⌜ r ≡ listP (actionAt (now (s .entry))) (now (s .entry)) most at .end ⌝ }
 {
     let mut i = at;
     let mut left = most;
@@ -223,7 +225,7 @@ fn actions_end(s: &[u8], most: usize, at: usize) -> usize
 
 // The end of the actions of which one ends here, and at most so many follow.
 pub fn actions_after(s: &[u8], most: usize, e: usize) -> usize
-    ensures { λ r. ⌜ r ≡ listAfter (actionEnd (now (s .entry))) (now (s .entry)) most e ⌝ }
+    ensures { λ r. ⌜ r ≡ listAfter (λ j. actionAt (now (s .entry)) j .end) (now (s .entry)) most e ⌝ }
 {
     if text::is_at(s, e, 0x2c) {
         return actions_end(s, most, parts::past_comma(s, e));

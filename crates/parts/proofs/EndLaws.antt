@@ -9,7 +9,8 @@ use Rattle.base.specs.Pick.{pick}
 use Rattle.base.specs.Lists.{isAt}
 use Rattle.megaco.specs.Bytes.{comma}
 use Rattle.megaco.specs.Reading.{unlimited}
-use Rattle.syntax.specs.Extraction.{pastSign, listEnd, listAfter, itemEnd, itemsEnd}
+use Rattle.syntax.specs.Production.{pastSign, listEnd, listAfter}
+use Rattle.syntax.specs.Places.{itemAt, itemsAt}
 
 -- ---- at most k parts: q is the end of all
 
@@ -59,15 +60,15 @@ module _ (end : ℕ → ℕ) (s : List ℕ) (n i q : ℕ) (inv : q ≡ listEnd e
 
 -- ---- items
 
-pub items-end-none : (s : List ℕ) (k at : ℕ) → k ≡ 0 → at ≡ itemsEnd k s at
-unfolding itemsEnd
+pub items-end-none : (s : List ℕ) (k at : ℕ) → k ≡ 0 → at ≡ itemsAt k s at .end
+unfolding itemsAt
 items-end-none s k at z = rw z
 
-pub items-end-start : (s : List ℕ) (k at : ℕ) → (k ≡ 0 → ⊥) → itemsEnd k s at ≡ listEnd (itemEnd (itemsEnd (k - 1) s) s) s (length s + 1 - 0) at
-unfolding itemsEnd unlimited
+pub items-end-start : (s : List ℕ) (k at : ℕ) → (k ≡ 0 → ⊥) → itemsAt k s at .end ≡ listEnd (λ j. itemAt (itemsAt (k - 1) s) s j .end) s (length s + 1 - 0) at
+unfolding itemsAt unlimited
 items-end-start s k at h = let z : k ≡ suc (k - 1) = omega arith in by k (k - 1) z
   where
-    by : (a b : ℕ) → a ≡ suc b → itemsEnd a s at ≡ listEnd (itemEnd (itemsEnd b s) s) s (length s + 1 - 0) at
+    by : (a b : ℕ) → a ≡ suc b → itemsAt a s at .end ≡ listEnd (λ j. itemAt (itemsAt b s) s j .end) s (length s + 1 - 0) at
     by a b e = let z : length s + 1 - 0 ≡ length s + 1 = omega arith in rw (e, z)
 
 -- levels left fall

@@ -11,14 +11,14 @@ use Rattle.base.specs.Lists.{isAt}
 use Rattle.megaco.specs.Bytes.{equal, leftBrace, rightBrace, slash, quote}
 use Rattle.megaco.specs.Tokens.{rowAt, valueAt, terminationAt}
 use Rattle.megaco.specs.Tree.{plain, quoted}
-use Rattle.megaco.specs.Reading.{valueOf, prefixAt, prefixEnd}
+use Rattle.megaco.specs.Reading.{Read, valueOf, prefixAt, prefixEnd}
 use Rattle.megaco.specs.declared.Parsed.{Parsed}
 use Rattle.megaco.specs.declared.Parsed.the-variants.{Next, Fault}
 use Rattle.megaco.specs.declared.Class.the-variants.{WordByte}
 use Rattle.syntax.specs.declared.Piece.{Piece}
-use Rattle.syntax.specs.Places.{orderStart}
+use Rattle.syntax.specs.Places.{orderStart, orderAt, bracesAt, itemAt, itemsAt, commandAt, secondAt, equalPlace, valueEnd, valueItemAt, headEnd, orderEnd, nameStart, nameEnd, commandHeadEnd}
 use Rattle.syntax.specs.Pieces.{Holds}
-use Rattle.syntax.specs.Extraction.{bracesEnd, itemEnd, itemsEnd, commandEnd, endOf, pastWhite, pastSign, wordEnd, secondEnd, equalPlace, valueEnd, valueItemEnd, headEnd, secondOf, valueItemOf, bracesOf, itemOf, orderEnd, nameStart, nameEnd, commandHeadEnd, commandOf}
+use Rattle.syntax.specs.Production.{Production, endOf, pastWhite, pastSign, wordEnd}
 use Rattle.parts.specs.declared.ValuePlaces.{ValuePlaces}
 use Rattle.parts.specs.declared.ItemPlaces.{ItemPlaces}
 use Rattle.parts.specs.declared.Marks.{Marks}
@@ -40,27 +40,27 @@ end-by e x y h g = rw (← g) h
 
 -- ---- items: what the parts tell is the tree
 
-pub item-is : {A : Type 0} (inner : ℕ → List A) (s : List ℕ) (at : ℕ) (r : ItemPlaces) → OfItem s at r → itemOf inner s at ≡ itemFrom inner s at r
-unfolding itemOf itemFrom secondOf bracesOf
+pub item-is : {A : Type 0} {q : ℕ → Read (List A)} (inner : (i : ℕ) → Production (q i)) (s : List ℕ) (at : ℕ) (r : ItemPlaces) → OfItem s at r → itemAt inner s at .tree ≡ itemFrom (λ j. inner j .tree) s at r
+unfolding itemAt itemFrom secondAt bracesAt
 item-is inner s at r h = rw (h .word .bytes, h .second, h .braces, h .inside, h .value .tree)
 
-pub command-is : (s : List ℕ) (at : ℕ) (r : CommandPlaces) → OfCommand s at r → commandOf s at ≡ commandFrom s r
-unfolding commandOf commandFrom itemsFrom bracesOf
+pub command-is : (s : List ℕ) (at : ℕ) (r : CommandPlaces) → OfCommand s at r → commandAt s at .tree ≡ commandFrom s r
+unfolding commandAt orderAt orderStart orderEnd nameStart nameEnd commandHeadEnd commandFrom itemsFrom bracesAt
 command-is s at r h = rw (h .optional, h .wild, h .word .bytes, h .name .bytes, h .braces, h .inside)
 
 -- ---- ends: with braces, or where the part ends before them
 
-module _ (end : ℕ → ℕ) (s : List ℕ) (at : ℕ) (r : ItemPlaces) (h : OfItem s at r) where
-  pub item-braced : (x e : ℕ) → r .braces ≡ true → x ≡ end (r .inside) → e ≡ pastSign rightBrace s x → e ≡ itemEnd end s at
-  unfolding itemEnd bracesEnd pick
+module _ (k : ℕ) (s : List ℕ) (at : ℕ) (r : ItemPlaces) (h : OfItem s at r) where
+  pub item-braced : (x e : ℕ) → r .braces ≡ true → x ≡ itemsAt k s (r .inside) .end → e ≡ pastSign rightBrace s x → e ≡ itemAt (itemsAt k s) s at .end
+  unfolding itemAt bracesAt pick
   item-braced x e b f g = g ∙ sym (rw (← h .braces, b, ← h .inside, ← f))
 
-  pub item-plain : r .braces ≡ false → r .value .end ≡ itemEnd end s at
-  unfolding itemEnd bracesEnd headEnd pick
+  pub item-plain : r .braces ≡ false → r .value .end ≡ itemAt (itemsAt k s) s at .end
+  unfolding itemAt bracesAt headEnd pick
   item-plain b = h .value .end ∙ sym (rw (← (h .braces), b))
 
 module _ (s : List ℕ) (r : CommandPlaces) where
-  pub command-braced : (x e : ℕ) → r .braces ≡ true → x ≡ itemsEnd 8 s (r .inside) → e ≡ pastSign rightBrace s x → e ≡ commandEndFrom s r
+  pub command-braced : (x e : ℕ) → r .braces ≡ true → x ≡ itemsAt 8 s (r .inside) .end → e ≡ pastSign rightBrace s x → e ≡ commandEndFrom s r
   unfolding commandEndFrom pick
   command-braced x e b f g = g ∙ rw (b, f)
 
@@ -68,8 +68,8 @@ module _ (s : List ℕ) (r : CommandPlaces) where
   unfolding commandEndFrom pick
   command-plain b = rw b
 
-pub command-ends : (s : List ℕ) (at e : ℕ) (r : CommandPlaces) → OfCommand s at r → e ≡ commandEndFrom s r → e ≡ commandEnd s at
-unfolding commandEnd commandEndFrom bracesEnd
+pub command-ends : (s : List ℕ) (at e : ℕ) (r : CommandPlaces) → OfCommand s at r → e ≡ commandEndFrom s r → e ≡ commandAt s at .end
+unfolding commandAt orderAt orderStart orderEnd nameStart nameEnd commandHeadEnd commandEndFrom bracesAt
 command-ends s at e r h f = f ∙ rw (h .braces, h .inside, h .end)
 
 -- ---- a value that was found
@@ -77,7 +77,7 @@ command-ends s at e r h f = f ∙ rw (h .braces, h .inside, h .end)
 module _ (s : List ℕ) (at : ℕ) (x : Bool) (g : x ≡ isAt s at equal) where
   pub value-given : (a e z : ℕ) (v : Parsed) (q : Bool) (p : Piece) → x ≡ true → a ≡ pastSign equal s at → v ≡ valueAt s a → e ≡ endOf v → q ≡ isAt s a quote → Holds s a e p
       → z ≡ pastWhite s e → OfValue s at (record { given = true; quoted = q; plain = p; end = z })
-  unfolding valueItemOf valueItemEnd valueEnd valueFrom valueOf inQuotes pick
+  unfolding valueItemAt valueEnd valueFrom valueOf inQuotes pick
   value-given a e z v q p t ea ev ee eq w ez =
       record {
         tree = rw (← g, t, ← ea, ← ev, ← ee, eq, w .bytes);
@@ -87,18 +87,19 @@ module _ (s : List ℕ) (at : ℕ) (x : Bool) (g : x ≡ isAt s at equal) where
       }
 
   pub value-none : (p : Piece) (a e : ℕ) → x ≡ false → Holds s a e p → OfValue s at (record { given = false; quoted = false; plain = p; end = at })
-  unfolding valueItemOf valueItemEnd valueFrom pick
+  unfolding valueItemAt valueFrom pick
   value-none p a e f w = record { tree = rw (← g, f); ordered = w .ordered; inside = w .inside; end = rw (← g, f) }
 
 -- ---- an item that was found
 
-pub item-found : (s : List ℕ) (at w u q i : ℕ) (p : Piece) (x b : Bool) (v : ValuePlaces) → w ≡ rowAt WordByte s at → Holds s at w p → x ≡ isAt s w slash → u ≡ secondEnd s w
+pub item-found : (s : List ℕ) (at w u q i : ℕ) (p : Piece) (x b : Bool) (v : ValuePlaces) → w ≡ rowAt WordByte s at → Holds s at w p → x ≡ isAt s w slash → u ≡ secondAt s w .end
     → q ≡ pastWhite s u → OfValue s q v → b ≡ isAt s (v .end) leftBrace → i ≡ pastSign leftBrace s (v .end)
     → OfItem s at (record { word = p; second = x; value = v; braces = b; inside = i })
 unfolding wordEnd equalPlace headEnd
 item-found s at w u q i p x b v ew ep ex eu eq ev eb ei =
-    let e : q ≡ pastWhite s (secondEnd s (rowAt WordByte s at)) = eq ∙ rw (eu, ew) in
-    record { word = rw (← ew) ep; second = rw (← ew) ex; value = rw (← e) ev; braces = rw (← e, ← ev .end) eb; inside = rw (← e, ← ev .end) ei }
+    let e : q ≡ pastWhite s (secondAt s (rowAt WordByte s at) .end) = eq ∙ rw (eu, ew) in
+    let z : v .end ≡ valueItemAt s (pastWhite s (secondAt s (rowAt WordByte s at) .end)) .end = ev .end ∙ ap (λ x. valueItemAt s x .end) e in
+    record { word = rw (← ew) ep; second = rw (← ew) ex; value = rw (← e) ev; braces = rw (← z) eb; inside = rw (← z) ei }
 
 -- ---- a command that was found
 

@@ -1,4 +1,4 @@
--- What is promised of the parts that are found: they are those of the tree told by position (crate `syntax`, Extraction).
+-- What is promised of the parts that are found: they are those of the tree told by position (crate `syntax`, Places).
 use Prim.Native.Nat.{ℕ, _+_, _-_, _≤_}
 use mathlib.Core.Path.{_≡_}
 use mathlib.Core.List.{List}
@@ -10,9 +10,9 @@ use Rattle.megaco.specs.Bytes.{equal, leftBrace, rightBrace, slash}
 use Rattle.megaco.specs.Tree.{Value, plain, quoted, ItemOf, item, Items, Command, command}
 use Rattle.megaco.specs.Reading.{prefixAt, prefixEnd}
 use Rattle.syntax.specs.declared.Piece.{Piece}
-use Rattle.syntax.specs.Places.{orderStart}
+use Rattle.syntax.specs.Places.{orderStart, equalPlace, valueEnd, valueItemAt, headEnd, itemsAt, orderEnd, nameStart, nameEnd, commandHeadEnd}
 use Rattle.syntax.specs.Pieces.{Holds}
-use Rattle.syntax.specs.Extraction.{pastSign, wordEnd, equalPlace, valueEnd, valueItemEnd, headEnd, valueItemOf, itemsOf, itemsEnd, orderEnd, nameStart, nameEnd, commandHeadEnd}
+use Rattle.syntax.specs.Production.{pastSign, wordEnd}
 use Rattle.parts.specs.declared.ValuePlaces.{ValuePlaces}
 use Rattle.parts.specs.declared.ItemPlaces.{ItemPlaces}
 use Rattle.parts.specs.declared.Marks.{Marks}
@@ -32,10 +32,10 @@ unfoldable pub valueFrom : List ℕ → ℕ → ValuePlaces → Option Value
 valueFrom s at r = pick (r .given) (some (pick (r .quoted) (quoted (inQuotes s at)) (plain (bytesOf s (r .plain))))) none
 
 pub record OfValue (s : List ℕ) (at : ℕ) (r : ValuePlaces) : Type 0 where
-  pub tree : valueItemOf s at ≡ valueFrom s at r
+  pub tree : valueItemAt s at .tree ≡ valueFrom s at r
   pub ordered : r .plain .from ≤ r .plain .to
   pub inside : r .plain .to ≤ length s
-  pub end : r .end ≡ valueItemEnd s at
+  pub end : r .end ≡ valueItemAt s at .end
 
 pub record OfItem (s : List ℕ) (at : ℕ) (r : ItemPlaces) : Type 0 where
   pub word : Holds s at (wordEnd s at) (r .word)
@@ -66,10 +66,10 @@ pub record OfCommand (s : List ℕ) (at : ℕ) (r : CommandPlaces) : Type 0 wher
 
 -- a command as its parts tell it
 unfoldable pub itemsFrom : List ℕ → CommandPlaces → Items
-itemsFrom s r = pick (r .braces) (some (itemsOf 8 s (r .inside))) none
+itemsFrom s r = pick (r .braces) (some (itemsAt 8 s (r .inside) .tree)) none
 
 unfoldable pub commandFrom : List ℕ → CommandPlaces → Command
 commandFrom s r = command (r .optional) (r .wild) (bytesOf s (r .word)) (bytesOf s (r .name)) (itemsFrom s r)
 
 unfoldable pub commandEndFrom : List ℕ → CommandPlaces → ℕ
-commandEndFrom s r = pick (r .braces) (pastSign rightBrace s (itemsEnd 8 s (r .inside))) (r .end)
+commandEndFrom s r = pick (r .braces) (pastSign rightBrace s (itemsAt 8 s (r .inside) .end)) (r .end)

@@ -3,7 +3,8 @@
 ghost use mathlib.Core.Path.{_≡_};
 ghost use Prim.Native.Nat.{_<_};
 ghost use Rattle.megaco.specs.Bytes.{comma, leftBrace, rightBrace};
-ghost use Rattle.syntax.specs.Extraction.{endOf, pastWhite, pastSign, secondEnd, itemEnd, itemsEnd};
+ghost use Rattle.syntax.specs.Production.{endOf, pastWhite, pastSign};
+ghost use Rattle.syntax.specs.Places.{secondAt, itemAt, itemsAt};
 ghost use Rattle.parts.specs.Found.{OfValue, OfItem, marksOf, OfCommand, commandEndFrom};
 use megaco::Class;
 use megaco::Parsed;
@@ -92,7 +93,7 @@ pub fn past_closing(s: &[u8], at: usize) -> usize
 
 // The end of a second word that may stand here.
 fn second_end(s: &[u8], at: usize) -> usize
-    ensures { λ r. ⌜ r ≡ secondEnd (now (s .entry)) at ⌝ }
+    ensures { λ r. ⌜ r ≡ secondAt (now (s .entry)) at .end ⌝ }
 {
     if text::is_at(s, at, 0x2f) {
         return text::row(s, at + 1, Class::WordByte);
@@ -148,7 +149,7 @@ pub fn item_places(s: &[u8], at: usize) -> ItemPlaces
 
 // The end of an item that may hold `left` levels.
 fn item_end(s: &[u8], left: usize, at: usize) -> usize
-    ensures { λ r. ⌜ r ≡ itemEnd (itemsEnd left (now (s .entry))) (now (s .entry)) at ⌝ }
+    ensures { λ r. ⌜ r ≡ itemAt (itemsAt left (now (s .entry))) (now (s .entry)) at .end ⌝ }
 {
     let p = item_places(s, at);
     if p.braces {
@@ -161,7 +162,7 @@ fn item_end(s: &[u8], left: usize, at: usize) -> usize
 
 // The end of the items of at most `left` levels that begin here.
 fn items_end(s: &[u8], left: usize, at: usize) -> usize
-    ensures { λ r. ⌜ r ≡ itemsEnd left (now (s .entry)) at ⌝ }
+    ensures { λ r. ⌜ r ≡ itemsAt left (now (s .entry)) at .end ⌝ }
 {
     if left == 0 {
         return at;

@@ -19,7 +19,9 @@ use Rattle.megaco.specs.Tree.{Action, action, Transaction, transaction}
 use Rattle.megaco.specs.Reply.{reportsText, separator, actionText, replyText}
 use Rattle.megaco.specs.Running.{Outcome, Ran, ran, runTransaction, runTransactions}
 use Rattle.megaco.specs.declared.Context.{Context}
-use Rattle.syntax.specs.Extraction.{pastSign, listOf, commandsIn, restOf, restIn, actionOf, actionEnd, transactionOf, transactionEnd, transactionsOf}
+use Rattle.syntax.specs.Production.{pastSign, listOf, listP}
+use Rattle.syntax.specs.Places.{commandsIn, restOf, restIn, actionAt}
+use Rattle.syntax.specs.Messages.{transactionOf, transactionEnd, transactionsAt}
 use Rattle.syntax.specs.declared.Rest.{Rest}
 use Rattle.outline.specs.Outline.{actionPlaces}
 use Rattle.outline.specs.declared.ActionPlaces.{ActionPlaces}
@@ -54,8 +56,8 @@ action-copied first c inner n o at o₁ o₂ o₃ o₄ p q u r f g k m =
     }
 
 action-at : (s : List ℕ) (i : ℕ) (a : ActionPlaces) (rest : Rest) → a ≡ actionPlaces s i → rest ≡ restOf (unlimited s) s (a .body)
-    → action (a .context) (propertiesIn s (a .body)) (commandsIn s rest) ≡ actionOf s i
-unfolding actionOf actionPlaces propertiesIn restIn
+    → action (a .context) (propertiesIn s (a .body)) (commandsIn s rest) ≡ actionAt s i .tree
+unfolding actionAt actionPlaces propertiesIn restIn
 action-at s i a rest e f = rw (f, e)
 
 -- an action whose reports were put into a buffer of their own
@@ -77,10 +79,10 @@ acts-by x first t′ inner w o at o′ r d k h y =
 pub action-acts : (s : List ℕ) (i : ℕ) (a : ActionPlaces) (rest : Rest) (first : Bool) (t t′ z inner : List ℕ) (w : Went) (o : List ℕ) (at : ℕ) (o′ : List ℕ) (r y : ℕ)
     → a ≡ actionPlaces s i → rest ≡ restOf (unlimited s) s (a .body) → z ≡ replicate 2049 0
     → Did (runAction (action (a .context) (propertiesIn s (a .body)) (commandsIn s rest)) t) true z 0 t′ inner w → Copied first (w .at) inner (w .next) o at o′ r → length o ≤ 2049
-    → Acts (runAction (actionOf s i) t) first o at t′ o′ (record { next = r; going = w .going; end = y })
+    → Acts (runAction (actionAt s i .tree) t) first o at t′ o′ (record { next = r; going = w .going; end = y })
 action-acts s i a rest first t t′ z inner w o at o′ r y e f g d k h =
     let b : Action = action (a .context) (propertiesIn s (a .body)) (commandsIn s rest) in
-    let q : b ≡ actionOf s i = action-at s i a rest e f in
+    let q : b ≡ actionAt s i .tree = action-at s i a rest e f in
     let v : Did (runAction b t) true (replicate 2049 0) 0 t′ inner w = subst (λ (y : List ℕ). Did (runAction b t) true y 0 t′ inner w) g d in
     subst (λ (b : Action). Acts (runAction b t) first o at t′ o′ (record { next = r; going = w .going; end = y })) q
     (acts-by (runAction b t) first t′ inner w o at o′ r v k h y)
@@ -109,7 +111,7 @@ no-actions : (first : Bool) (t : List ℕ) → runActions [] first t ≡ ran t [
 unfolding runActions
 no-actions first t = refl
 
-no-list : (s : List ℕ) (i : ℕ) (first : Bool) (t : List ℕ) → runActions (listOf (actionOf s) (actionEnd s) s 0 i) first t ≡ ran t []
+no-list : (s : List ℕ) (i : ℕ) (first : Bool) (t : List ℕ) → runActions (listP (actionAt s) s 0 i .tree) first t ≡ ran t []
 unfolding listOf runActions
 no-list s i first t = refl
 
@@ -127,54 +129,54 @@ pub acts-sound : (a : Action) (f : Bool) (t o₁ : List ℕ) (p : ℕ) (t₂ o�
 acts-sound a f t o₁ p t₂ o₂ m d h = rw (d .table) (action-sound a t h)
 
 module _ (x : Ran) (o : List ℕ) (p₀ : ℕ) (s : List ℕ) (k i : ℕ) (f : Bool) (t o₁ : List ℕ) (p : ℕ)
-    (l : Leads x o p₀ (runActions (listOf (actionOf s) (actionEnd s) s k i) f t) o₁ p) where
+    (l : Leads x o p₀ (runActions (listP (actionAt s) s k i .tree) f t) o₁ p) where
   -- none is left
   pub actions-none : k ≤ 0 → Wrote x o p₀ t o₁ p
   actions-none h =
       let e : k ≡ 0 = omega arith in
       let m : Leads x o p₀ (ran t []) o₁ p =
-      subst (λ (z : Ran). Leads x o p₀ z o₁ p) (ap (λ (j : ℕ). runActions (listOf (actionOf s) (actionEnd s) s j i) f t) e ∙ no-list s i f t) l in
+      subst (λ (z : Ran). Leads x o p₀ z o₁ p) (ap (λ (j : ℕ). runActions (listP (actionAt s) s j i .tree) f t) e ∙ no-list s i f t) l in
       m .to t o₁ p (record { table = refl; text = none o₁ p })
 
-  module _ (t₂ o₂ : List ℕ) (m : Moved) (h : 0 < k) (d : Acts (runAction (actionOf s i) t) f o₁ p t₂ o₂ m) where
+  module _ (t₂ o₂ : List ℕ) (m : Moved) (h : 0 < k) (d : Acts (runAction (actionAt s i .tree) t) f o₁ p t₂ o₂ m) where
     abbrev rest : List Action
-    rest = pick (isAt s (actionEnd s i) comma) (listOf (actionOf s) (actionEnd s) s (k - 1) (pastSign comma s (actionEnd s i))) []
+    rest = pick (isAt s (actionAt s i .end) comma) (listP (actionAt s) s (k - 1) (pastSign comma s (actionAt s i .end)) .tree) []
 
-    opened : Leads x o p₀ (runActions (actionOf s i ∷ rest) f t) o₁ p
-    opened = subst (λ (z : List Action). Leads x o p₀ (runActions z f t) o₁ p) (list-open (actionOf s) (actionEnd s) s k i h) l
+    opened : Leads x o p₀ (runActions (actionAt s i .tree ∷ rest) f t) o₁ p
+    opened = subst (λ (z : List Action). Leads x o p₀ (runActions z f t) o₁ p) (list-open (λ j. actionAt s j .tree) (λ j. actionAt s j .end) s k i h) l
 
     -- the action stops the transaction
     pub actions-stop : m .going ≡ false → Wrote x o p₀ t₂ o₂ (m .next)
     actions-stop g =
-        let z : Leads x o p₀ (ran (runAction (actionOf s i) t .table) (outcomeText f (runAction (actionOf s i) t))) o₁ p =
-        subst (λ (z : Ran). Leads x o p₀ z o₁ p) (acts-end (actionOf s i) rest f t (sym (d .going) ∙ g)) opened in
+        let z : Leads x o p₀ (ran (runAction (actionAt s i .tree) t .table) (outcomeText f (runAction (actionAt s i .tree) t))) o₁ p =
+        subst (λ (z : Ran). Leads x o p₀ z o₁ p) (acts-end (actionAt s i .tree) rest f t (sym (d .going) ∙ g)) opened in
         z .to t₂ o₂ (m .next) (record { table = d .table; text = d .text })
 
     going-on : m .going ≡ true → Leads x o p₀ (runActions rest false t₂) o₂ (m .next)
     going-on g =
-        let y : Outcome = runAction (actionOf s i) t in
+        let y : Outcome = runAction (actionAt s i .tree) t in
         let z : Leads x o p₀ (let r = runActions rest false (y .table) in ran (r .table) (outcomeText f y then r .text)) o₁ p =
-        subst (λ (z : Ran). Leads x o p₀ z o₁ p) (acts-on (actionOf s i) rest f t (sym (d .going) ∙ g)) opened in
+        subst (λ (z : Ran). Leads x o p₀ z o₁ p) (acts-on (actionAt s i .tree) rest f t (sym (d .going) ∙ g)) opened in
         let v : Leads x o p₀ (let r = runActions rest false t₂ in ran (r .table) (outcomeText f y then r .text)) o₁ p =
         subst (λ (u : List ℕ). Leads x o p₀ (let r = runActions rest false u in ran (r .table) (outcomeText f y then r .text)) o₁ p) (sym (d .table)) z in
         record { to = λ t′ o′ r w. v .to t′ o′ r (record { table = w .table; text = d .text ▸ w .text }) }
 
     -- it is the last
-    pub actions-last : (e : ℕ) (b : Bool) → m .going ≡ true → e ≡ actionEnd s i → b ≡ isAt s e comma → b ≡ false → Wrote x o p₀ t₂ o₂ (m .next)
+    pub actions-last : (e : ℕ) (b : Bool) → m .going ≡ true → e ≡ actionAt s i .end → b ≡ isAt s e comma → b ≡ false → Wrote x o p₀ t₂ o₂ (m .next)
     actions-last e b g q u v =
-        let z : isAt s (actionEnd s i) comma ≡ false = ap (λ (j : ℕ). isAt s j comma) (sym q) ∙ sym u ∙ v in
+        let z : isAt s (actionAt s i .end) comma ≡ false = ap (λ (j : ℕ). isAt s j comma) (sym q) ∙ sym u ∙ v in
         let w : Leads x o p₀ (ran t₂ []) o₂ (m .next) =
         subst (λ (y : Ran). Leads x o p₀ y o₂ (m .next))
-        (ap (λ (y : List Action). runActions y false t₂) (left-out (isAt s (actionEnd s i) comma) (listOf (actionOf s) (actionEnd s) s (k - 1) (pastSign comma s (actionEnd s i))) [] z) ∙ no-actions false t₂) (going-on g) in
+        (ap (λ (y : List Action). runActions y false t₂) (left-out (isAt s (actionAt s i .end) comma) (listP (actionAt s) s (k - 1) (pastSign comma s (actionAt s i .end)) .tree) [] z) ∙ no-actions false t₂) (going-on g) in
         w .to t₂ o₂ (m .next) (record { table = refl; text = none o₂ (m .next) })
 
     -- another follows
-    pub actions-more : (e n : ℕ) (b : Bool) → m .going ≡ true → e ≡ actionEnd s i → b ≡ isAt s e comma → b ≡ true → n ≡ pastSign comma s e
-        → Leads x o p₀ (runActions (listOf (actionOf s) (actionEnd s) s (k - 1) n) false t₂) o₂ (m .next)
+    pub actions-more : (e n : ℕ) (b : Bool) → m .going ≡ true → e ≡ actionAt s i .end → b ≡ isAt s e comma → b ≡ true → n ≡ pastSign comma s e
+        → Leads x o p₀ (runActions (listP (actionAt s) s (k - 1) n .tree) false t₂) o₂ (m .next)
     actions-more e n b g q u v r =
-        let z : isAt s (actionEnd s i) comma ≡ true = ap (λ (j : ℕ). isAt s j comma) (sym q) ∙ sym u ∙ v in
-        let y : rest ≡ listOf (actionOf s) (actionEnd s) s (k - 1) n =
-        picked (isAt s (actionEnd s i) comma) _ _ z ∙ ap (λ (j : ℕ). listOf (actionOf s) (actionEnd s) s (k - 1) j) (sym (r ∙ ap (pastSign comma s) q)) in
+        let z : isAt s (actionAt s i .end) comma ≡ true = ap (λ (j : ℕ). isAt s j comma) (sym q) ∙ sym u ∙ v in
+        let y : rest ≡ listP (actionAt s) s (k - 1) n .tree =
+        picked (isAt s (actionAt s i .end) comma) _ _ z ∙ ap (λ (j : ℕ). listP (actionAt s) s (k - 1) j .tree) (sym (r ∙ ap (pastSign comma s) q)) in
         subst (λ (a : List Action). Leads x o p₀ (runActions a false t₂) o₂ (m .next)) y (going-on g)
 
 -- ---- a transaction
@@ -199,27 +201,27 @@ unfolding runTransactions
 no-transactions t = refl
 
 transactions-open : (s : List ℕ) (k i : ℕ) → 0 < k
-    → transactionsOf k s i ≡ transactionOf s i ∷ pick (ltb (transactionEnd s i) (length s)) (transactionsOf (k - 1) s (transactionEnd s i)) []
-unfolding transactionsOf
+    → transactionsAt k s i .tree ≡ transactionOf s i ∷ pick (ltb (transactionEnd s i) (length s)) (transactionsAt (k - 1) s (transactionEnd s i) .tree) []
+unfolding transactionsAt
 transactions-open s zero i h = absurd (omega arith)
 transactions-open s (suc m) i h =
     let e : suc m - 1 ≡ m = omega arith in
-    ap (λ (j : ℕ). transactionOf s i ∷ pick (ltb (transactionEnd s i) (length s)) (transactionsOf j s (transactionEnd s i)) []) (sym e)
+    ap (λ (j : ℕ). transactionOf s i ∷ pick (ltb (transactionEnd s i) (length s)) (transactionsAt j s (transactionEnd s i) .tree) []) (sym e)
 
-none-of : (s : List ℕ) (i : ℕ) (t : List ℕ) → runTransactions (transactionsOf 0 s i) t ≡ ran t []
-unfolding transactionsOf runTransactions
+none-of : (s : List ℕ) (i : ℕ) (t : List ℕ) → runTransactions (transactionsAt 0 s i .tree) t ≡ ran t []
+unfolding transactionsAt runTransactions
 none-of s i t = refl
 
-module _ (x : Ran) (o : List ℕ) (p₀ : ℕ) (s : List ℕ) (k i : ℕ) (t o₁ : List ℕ) (p : ℕ) (l : Leads x o p₀ (runTransactions (transactionsOf k s i) t) o₁ p) where
+module _ (x : Ran) (o : List ℕ) (p₀ : ℕ) (s : List ℕ) (k i : ℕ) (t o₁ : List ℕ) (p : ℕ) (l : Leads x o p₀ (runTransactions (transactionsAt k s i .tree) t) o₁ p) where
   pub message-none : k ≤ 0 → Wrote x o p₀ t o₁ p
   message-none h =
       let e : k ≡ 0 = omega arith in
-      let m : Leads x o p₀ (ran t []) o₁ p = subst (λ (z : Ran). Leads x o p₀ z o₁ p) (ap (λ (j : ℕ). runTransactions (transactionsOf j s i) t) e ∙ none-of s i t) l in
+      let m : Leads x o p₀ (ran t []) o₁ p = subst (λ (z : Ran). Leads x o p₀ z o₁ p) (ap (λ (j : ℕ). runTransactions (transactionsAt j s i .tree) t) e ∙ none-of s i t) l in
       m .to t o₁ p (record { table = refl; text = none o₁ p })
 
   module _ (t₂ o₂ : List ℕ) (q : ℕ) (h : 0 < k) (d : Wrote (runTransaction (transactionOf s i) t) o₁ p t₂ o₂ q) where
     abbrev others : List Transaction
-    others = pick (ltb (transactionEnd s i) (length s)) (transactionsOf (k - 1) s (transactionEnd s i)) []
+    others = pick (ltb (transactionEnd s i) (length s)) (transactionsAt (k - 1) s (transactionEnd s i) .tree) []
 
     going-past : Leads x o p₀ (runTransactions others t₂) o₂ q
     going-past =
@@ -235,11 +237,11 @@ module _ (x : Ran) (o : List ℕ) (p₀ : ℕ) (s : List ℕ) (k i : ℕ) (t o�
         let z : ltb (transactionEnd s i) (length s) ≡ false = le-ltb (transactionEnd s i) (length s) (rw (← f) g) in
         let w : Leads x o p₀ (ran t₂ []) o₂ q =
         subst (λ (y : Ran). Leads x o p₀ y o₂ q)
-        (ap (λ (y : List Transaction). runTransactions y t₂) (left-out (ltb (transactionEnd s i) (length s)) (transactionsOf (k - 1) s (transactionEnd s i)) [] z) ∙ no-transactions t₂) going-past in
+        (ap (λ (y : List Transaction). runTransactions y t₂) (left-out (ltb (transactionEnd s i) (length s)) (transactionsAt (k - 1) s (transactionEnd s i) .tree) [] z) ∙ no-transactions t₂) going-past in
         w .to t₂ o₂ q (record { table = refl; text = none o₂ q })
 
-    pub message-more : (e : ℕ) → e ≡ transactionEnd s i → e < length s → Leads x o p₀ (runTransactions (transactionsOf (k - 1) s e) t₂) o₂ q
+    pub message-more : (e : ℕ) → e ≡ transactionEnd s i → e < length s → Leads x o p₀ (runTransactions (transactionsAt (k - 1) s e .tree) t₂) o₂ q
     message-more e f g =
         let z : ltb (transactionEnd s i) (length s) ≡ true = lt-ltb (transactionEnd s i) (length s) (rw (← f) g) in
-        let y : others ≡ transactionsOf (k - 1) s e = picked (ltb (transactionEnd s i) (length s)) _ _ z ∙ ap (transactionsOf (k - 1) s) (sym f) in
+        let y : others ≡ transactionsAt (k - 1) s e .tree = picked (ltb (transactionEnd s i) (length s)) _ _ z ∙ ap (λ (j : ℕ). transactionsAt (k - 1) s j .tree) (sym f) in
         subst (λ (a : List Transaction). Leads x o p₀ (runTransactions a t₂) o₂ q) y going-past

@@ -7,7 +7,7 @@ use native.Mathlib.Omega.{arith}
 use Rattle.base.specs.Pick.{pick}
 use Rattle.base.specs.Lists.{isAt}
 use Rattle.megaco.specs.Bytes.{comma}
-use Rattle.syntax.specs.Extraction.{pastSign, listOf}
+use Rattle.syntax.specs.Production.{pastSign, listOf}
 
 pub list-open : {A : Type 0} (one : ℕ → A) (end : ℕ → ℕ) (s : List ℕ) (k i : ℕ) → 0 < k
     → listOf one end s k i ≡ one i ∷ pick (isAt s (end i) comma) (listOf one end s (k - 1) (pastSign comma s (end i))) []

@@ -21,7 +21,8 @@ use Rattle.megaco.specs.declared.Judged.{Judged}
 use Rattle.megaco.specs.declared.Judged.the-variants.{Wrong, Right}
 use Rattle.megaco.specs.declared.Name.{Name}
 use Rattle.megaco.specs.declared.Name.the-variants.{Termination, Root, Chosen, Unchosen, Wildcard, Unmatched, Unknown}
-use Rattle.syntax.specs.Extraction.{pastSign, listOf, commandOf, commandEnd}
+use Rattle.syntax.specs.Production.{pastSign, listOf, listP}
+use Rattle.syntax.specs.Places.{commandAt}
 use Rattle.tries.specs.Contract.{Did, joined}
 use Rattle.tries.specs.declared.Went.{Went}
 use Rattle.tries.proofs.DidLaws.{went, Some, some as there, Leads, leads-on, done-none}
@@ -98,10 +99,10 @@ module _ (c : Command) (cs : List Command) (given : ℕ) (at : Context) (t : Lis
 
 -- the commands from a place, at most k
 commands-open : (s : List ℕ) (k i : ℕ) → 0 < k
-    → listOf (commandOf s) (commandEnd s) s k i ≡ commandOf s i ∷ pick (isAt s (commandEnd s i) comma) (listOf (commandOf s) (commandEnd s) s (k - 1) (pastSign comma s (commandEnd s i))) []
-commands-open s k i h = list-open (commandOf s) (commandEnd s) s k i h
+    → listP (commandAt s) s k i .tree ≡ commandAt s i .tree ∷ pick (isAt s (commandAt s i .end) comma) (listP (commandAt s) s (k - 1) (pastSign comma s (commandAt s i .end)) .tree) []
+commands-open s k i h = list-open (λ j. commandAt s j .tree) (λ j. commandAt s j .end) s k i h
 
-nothing-left : (s : List ℕ) (i given : ℕ) (at : Context) (t : List ℕ) → runCommands (listOf (commandOf s) (commandEnd s) s 0 i) given at t ≡ outcome t [] at true
+nothing-left : (s : List ℕ) (i given : ℕ) (at : Context) (t : List ℕ) → runCommands (listP (commandAt s) s 0 i .tree) given at t ≡ outcome t [] at true
 unfolding listOf runCommands
 nothing-left s i given at t = refl
 
@@ -110,32 +111,32 @@ unfolding runCommands
 none-left given at t = refl
 
 module _ (x : Outcome) (first : Bool) (o : List ℕ) (p₀ : ℕ) (s : List ℕ) (given k i : ℕ) (at : Context) (t : List ℕ) (f : Bool) (o₁ : List ℕ) (p : ℕ)
-    (l : Leads x first o p₀ true (runCommands (listOf (commandOf s) (commandEnd s) s k i) given at t) f o₁ p) where
+    (l : Leads x first o p₀ true (runCommands (listP (commandAt s) s k i .tree) given at t) f o₁ p) where
   -- none is left
   pub loop-none : k ≤ 0 → Did x first o p₀ t o₁ (went p at true)
   loop-none h =
       let e : k ≡ 0 = omega arith in
       let m : Leads x first o p₀ true (outcome t [] at true) f o₁ p =
-      subst (λ (z : Outcome). Leads x first o p₀ true z f o₁ p) (ap (λ (j : ℕ). runCommands (listOf (commandOf s) (commandEnd s) s j i) given at t) e ∙ nothing-left s i given at t) l in
+      subst (λ (z : Outcome). Leads x first o p₀ true z f o₁ p) (ap (λ (j : ℕ). runCommands (listP (commandAt s) s j i .tree) given at t) e ∙ nothing-left s i given at t) l in
       m .to t o₁ p at true (done-none t o₁ f p at)
 
-  module _ (t₂ o₂ : List ℕ) (w : Went) (h : 0 < k) (d : Did (runCommand (commandOf s i) given at t) f o₁ p t₂ o₂ w) where
+  module _ (t₂ o₂ : List ℕ) (w : Went) (h : 0 < k) (d : Did (runCommand (commandAt s i .tree) given at t) f o₁ p t₂ o₂ w) where
     abbrev rest : List Command
-    rest = pick (isAt s (commandEnd s i) comma) (listOf (commandOf s) (commandEnd s) s (k - 1) (pastSign comma s (commandEnd s i))) []
+    rest = pick (isAt s (commandAt s i .end) comma) (listP (commandAt s) s (k - 1) (pastSign comma s (commandAt s i .end)) .tree) []
 
-    opened : Leads x first o p₀ true (runCommands (commandOf s i ∷ rest) given at t) f o₁ p
+    opened : Leads x first o p₀ true (runCommands (commandAt s i .tree ∷ rest) given at t) f o₁ p
     opened = subst (λ (z : List Command). Leads x first o p₀ true (runCommands z given at t) f o₁ p) (commands-open s k i h) l
 
     -- the command stops the transaction
     pub loop-stop : w .going ≡ false → Did x first o p₀ t₂ o₂ w
     loop-stop g =
-        let m : Leads x first o p₀ true (runCommand (commandOf s i) given at t) f o₁ p =
-        subst (λ (z : Outcome). Leads x first o p₀ true z f o₁ p) (commands-stop (commandOf s i) rest given at t (sym (d .going) ∙ g)) opened in
+        let m : Leads x first o p₀ true (runCommand (commandAt s i .tree) given at t) f o₁ p =
+        subst (λ (z : Outcome). Leads x first o p₀ true z f o₁ p) (commands-stop (commandAt s i .tree) rest given at t (sym (d .going) ∙ g)) opened in
         m .to t₂ o₂ (w .next) (w .at) (w .going) d
 
     going-on : w .going ≡ true → Leads x first o p₀ true (runCommands rest given (w .at) t₂) false o₂ (w .next)
     going-on g =
-        let c : Command = commandOf s i in
+        let c : Command = commandAt s i .tree in
         let y : Outcome = runCommand c given at t in
         let m : Leads x first o p₀ true (joined y (runCommands rest given (y .at) (y .table))) f o₁ p =
         subst (λ (z : Outcome). Leads x first o p₀ true z f o₁ p) (commands-join c rest given at t (sym (d .going) ∙ g)) opened in
@@ -145,19 +146,19 @@ module _ (x : Outcome) (first : Bool) (o : List ℕ) (p₀ : ℕ) (s : List ℕ)
         (leads-on x first o p₀ true y (runCommands rest given (w .at) t₂) f o₁ o₂ t₂ p w (command-tells c given at t) n d)
 
     -- it is the last
-    pub loop-last : (e : ℕ) (b : Bool) → w .going ≡ true → e ≡ commandEnd s i → b ≡ isAt s e comma → b ≡ false → Did x first o p₀ t₂ o₂ w
+    pub loop-last : (e : ℕ) (b : Bool) → w .going ≡ true → e ≡ commandAt s i .end → b ≡ isAt s e comma → b ≡ false → Did x first o p₀ t₂ o₂ w
     loop-last e b g q u v =
-        let z : isAt s (commandEnd s i) comma ≡ false = ap (λ (j : ℕ). isAt s j comma) (sym q) ∙ sym u ∙ v in
-        let r : rest ≡ [] = left-out (isAt s (commandEnd s i) comma) _ _ z in
+        let z : isAt s (commandAt s i .end) comma ≡ false = ap (λ (j : ℕ). isAt s j comma) (sym q) ∙ sym u ∙ v in
+        let r : rest ≡ [] = left-out (isAt s (commandAt s i .end) comma) _ _ z in
         let m : Leads x first o p₀ true (outcome t₂ [] (w .at) true) false o₂ (w .next) =
         subst (λ (y : Outcome). Leads x first o p₀ true y false o₂ (w .next)) (ap (λ (y : List Command). runCommands y given (w .at) t₂) r ∙ none-left given (w .at) t₂) (going-on g) in
         subst (λ (y : Bool). Did x first o p₀ t₂ o₂ (went (w .next) (w .at) y)) (sym g) (m .to t₂ o₂ (w .next) (w .at) true (done-none t₂ o₂ false (w .next) (w .at)))
 
     -- another follows
-    pub loop-more : (e n : ℕ) (b : Bool) → w .going ≡ true → e ≡ commandEnd s i → b ≡ isAt s e comma → b ≡ true → n ≡ pastSign comma s e
-        → Leads x first o p₀ true (runCommands (listOf (commandOf s) (commandEnd s) s (k - 1) n) given (w .at) t₂) false o₂ (w .next)
+    pub loop-more : (e n : ℕ) (b : Bool) → w .going ≡ true → e ≡ commandAt s i .end → b ≡ isAt s e comma → b ≡ true → n ≡ pastSign comma s e
+        → Leads x first o p₀ true (runCommands (listP (commandAt s) s (k - 1) n .tree) given (w .at) t₂) false o₂ (w .next)
     loop-more e n b g q u v r =
-        let z : isAt s (commandEnd s i) comma ≡ true = ap (λ (j : ℕ). isAt s j comma) (sym q) ∙ sym u ∙ v in
-        let y : rest ≡ listOf (commandOf s) (commandEnd s) s (k - 1) n =
-        picked (isAt s (commandEnd s i) comma) _ _ z ∙ ap (λ (j : ℕ). listOf (commandOf s) (commandEnd s) s (k - 1) j) (sym (r ∙ ap (pastSign comma s) q)) in
+        let z : isAt s (commandAt s i .end) comma ≡ true = ap (λ (j : ℕ). isAt s j comma) (sym q) ∙ sym u ∙ v in
+        let y : rest ≡ listP (commandAt s) s (k - 1) n .tree =
+        picked (isAt s (commandAt s i .end) comma) _ _ z ∙ ap (λ (j : ℕ). listP (commandAt s) s (k - 1) j .tree) (sym (r ∙ ap (pastSign comma s) q)) in
         subst (λ (a : List Command). Leads x first o p₀ true (runCommands a given (w .at) t₂) false o₂ (w .next)) y (going-on g)

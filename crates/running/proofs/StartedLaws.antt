@@ -17,7 +17,8 @@ use Rattle.megaco.specs.Reply.{standing, failed, reportsText}
 use Rattle.megaco.specs.Running.{Outcome, outcome, refused, done, judge, seen, numberOf, anyGiven, over15, newRecord, setProperties, startChecks, startWrites, startReports, startedBy, started, noCommands}
 use Rattle.megaco.specs.declared.Context.{Context}
 use Rattle.megaco.specs.declared.Property.{Property}
-use Rattle.syntax.specs.Extraction.{listOf, commandsOf, commandsEnd, commandsIn, bodyEnd}
+use Rattle.syntax.specs.Production.{listOf}
+use Rattle.syntax.specs.Places.{commandsAt, commandsIn, bodyEnd}
 use Rattle.syntax.specs.declared.Rest.{Rest}
 use Rattle.orders.specs.Orders.{heldAt}
 use Rattle.starts.specs.Starting.{propertiesIn, startCode, wroteStart, OfProperties}
@@ -33,17 +34,17 @@ use Rattle.running.specs.Fold.{runCommands, afterStart, runAction}
 use Rattle.running.proofs.Lists.{picked, left-out}
 
 -- there are no commands where none follow
-some-commands : (s : List ℕ) (at : ℕ) → noCommands (commandsOf s at) ≡ false
-unfolding commandsOf listOf noCommands
+some-commands : (s : List ℕ) (at : ℕ) → noCommands (commandsAt s at .tree) ≡ false
+unfolding commandsAt listOf noCommands
 some-commands s at = refl
 
 alone-is : (s : List ℕ) (r : Rest) → noCommands (commandsIn s r) ≡ not (r .commands)
 unfolding commandsIn
 alone-is s r = by (r .commands)
   where
-    by : (b : Bool) → noCommands (pick b (commandsOf s (r .at)) []) ≡ not b
-    by true = ap noCommands (picked true (commandsOf s (r .at)) [] refl) ∙ some-commands s (r .at)
-    by false = ap noCommands (left-out false (commandsOf s (r .at)) [] refl) ∙ (unfold noCommands in refl)
+    by : (b : Bool) → noCommands (pick b (commandsAt s (r .at) .tree) []) ≡ not b
+    by true = ap noCommands (picked true (commandsAt s (r .at) .tree) [] refl) ∙ some-commands s (r .at)
+    by false = ap noCommands (left-out false (commandsAt s (r .at) .tree) [] refl) ∙ (unfold noCommands in refl)
 
 -- an action by what its start is judged
 module _ (c : Context) (ps : List Property) (cs : List Command) (t : List ℕ) where
@@ -109,11 +110,11 @@ module _ (s : List ℕ) (c : Context) (body : ℕ) (rest : Rest) (t o : List ℕ
 
   -- commands follow
   pub inner-commands : (u t′ o′ : List ℕ) (w : Went) → code ≡ 0 → u ≡ apply (wroteStart c any (g .held)) t → rest .commands ≡ true
-      → Did (runCommands (commandsOf s (rest .at)) (g .fresh) c u) true o 0 t′ o′ w → Did (runAction (action c ps cs) t) true o 0 t′ o′ w
+      → Did (runCommands (commandsAt s (rest .at) .tree) (g .fresh) c u) true o 0 t′ o′ w → Did (runAction (action c ps cs) t) true o 0 t′ o′ w
   inner-commands u t′ o′ w z q b d =
-      let l : cs ≡ commandsOf s (rest .at) = (unfold commandsIn in picked (rest .commands) (commandsOf s (rest .at)) [] b) in
+      let l : cs ≡ commandsAt s (rest .at) .tree = (unfold commandsIn in picked (rest .commands) (commandsAt s (rest .at) .tree) [] b) in
       let r : startReports ps (noCommands cs) (heldAt c t) ≡ [] = ap (λ (x : Bool). startReports ps x (heldAt c t)) (alone-is s rest ∙ ap not b) ∙ reports-none ps (heldAt c t) in
-      let x : Outcome = runCommands (commandsOf s (rest .at)) (g .fresh) c u in
+      let x : Outcome = runCommands (commandsAt s (rest .at) .tree) (g .fresh) c u in
       let y : Outcome = runCommands cs (setProperties ps newRecord) c (apply (startWrites c ps (heldAt c t)) t) in
       let m : x ≡ y = λ i. runCommands (sym l i) (h .fresh (small z) i) c (wrote u z q i) in
       rw (action-done c ps cs t (passed z), r) (subst (λ (v : Outcome). Did (outcome (v .table) (v .reports) (v .at) (v .going)) true o 0 t′ o′ w) m d)
@@ -122,7 +123,7 @@ module _ (s : List ℕ) (c : Context) (body : ℕ) (rest : Rest) (t o : List ℕ
   pub inner-alone : (u o′ : List ℕ) (n : ℕ) → code ≡ 0 → u ≡ apply (wroteStart c any (g .held)) t → rest .commands ≡ false
       → Appended o 0 (reportsText true (standing (g .held) ∷ [])) o′ n → Did (runAction (action c ps cs) t) true o 0 u o′ (went n c true)
   inner-alone u o′ n z q b a =
-      let l : cs ≡ [] = (unfold commandsIn in left-out (rest .commands) (commandsOf s (rest .at)) [] b) in
+      let l : cs ≡ [] = (unfold commandsIn in left-out (rest .commands) (commandsAt s (rest .at) .tree) [] b) in
       let r : startReports ps (noCommands cs) (heldAt c t) ≡ standing (setProperties ps (heldAt c t)) ∷ [] =
       ap (λ (x : Bool). startReports ps x (heldAt c t)) (alone-is s rest ∙ ap not b) ∙ reports-alone ps (heldAt c t) in
       let y : runCommands cs (setProperties ps newRecord) c (apply (startWrites c ps (heldAt c t)) t) ≡ outcome (apply (startWrites c ps (heldAt c t)) t) [] c true =
@@ -131,13 +132,13 @@ module _ (s : List ℕ) (c : Context) (body : ℕ) (rest : Rest) (t o : List ℕ
       rw (action-done c ps cs t (passed z), y, r) (record { table = wrote u z q; text = rw (← v) a; place = refl; going = refl })
 
 -- where an action's body ends
-pub body-of-commands : (s : List ℕ) (r : Rest) (e : ℕ) → r .commands ≡ true → e ≡ commandsEnd s (r .at) → e ≡ bodyEnd s r
+pub body-of-commands : (s : List ℕ) (r : Rest) (e : ℕ) → r .commands ≡ true → e ≡ commandsAt s (r .at) .end → e ≡ bodyEnd s r
 unfolding bodyEnd
-body-of-commands s r e b h = h ∙ sym (picked (r .commands) (commandsEnd s (r .at)) (r .at) b)
+body-of-commands s r e b h = h ∙ sym (picked (r .commands) (commandsAt s (r .at) .end) (r .at) b)
 
 pub body-alone : (s : List ℕ) (r : Rest) → r .commands ≡ false → r .at ≡ bodyEnd s r
 unfolding bodyEnd
-body-alone s r b = sym (left-out (r .commands) (commandsEnd s (r .at)) (r .at) b)
+body-alone s r b = sym (left-out (r .commands) (commandsAt s (r .at) .end) (r .at) b)
 
 -- a sound table's record
 known-within : (n : ℕ) → known n ≡ true → (0 < n) × (n ≤ contexts)

@@ -8,7 +8,7 @@ ghost use mathlib.Core.List.{[], _∷_};
 ghost use Rattle.base.specs.Out.{Appended};
 ghost use Rattle.megaco.specs.Reply.{standing, reportsText};
 ghost use Rattle.megaco.specs.Tree.{action};
-ghost use Rattle.syntax.specs.Extraction.{commandsOf, commandsEnd, commandsIn, bodyEnd, actionOf, actionEnd, actionsOf, actionsEnd};
+ghost use Rattle.syntax.specs.Places.{commandsAt, commandsIn, bodyEnd, actionAt, actionsAt};
 ghost use Rattle.orders.specs.Orders.{heldAt};
 ghost use Rattle.starts.specs.Starting.{propertiesIn};
 ghost use Rattle.tries.specs.Contract.{Did};
@@ -36,7 +36,7 @@ pub struct Written {
 // The commands of an action, in order, until one stops the transaction.
 fn run_commands(s: &[u8], from: usize, turn: Turn, table: &mut [u32], out: &mut [u8]) -> Passed
     requires { ⌜ Sized (now table) ⌝ }
-    ensures { λ r. ⌜ Did (runCommands (commandsOf (now (s .entry)) from) (turn .given) (turn .at) (now (table .entry))) (turn .first) (now (out .entry)) (turn .next) (now (table .exit)) (now (out .exit)) (r .went) × (r .end ≡ commandsEnd (now (s .entry)) from) ⌝ }
+    ensures { λ r. ⌜ Did (runCommands (commandsAt (now (s .entry)) from .tree) (turn .given) (turn .at) (now (table .entry))) (turn .first) (now (out .entry)) (turn .next) (now (table .exit)) (now (out .exit)) (r .went) × (r .end ≡ commandsAt (now (s .entry)) from .end) ⌝ }
 {
     let mut i = from;
     let mut left: usize = 64;
@@ -153,7 +153,7 @@ fn put_action(out: &mut [u8], p: usize, first: bool, c: Context, inner: &[u8], n
 // The action that stands at a place of the message.
 fn run_action(s: &[u8], i: usize, first: bool, table: &mut [u32], out: &mut [u8], p: usize) -> Moved
     requires { ⌜ (sound (now table) ≡ true) × (length (now out) ≤ 2049) ⌝ }
-    ensures { λ r. ⌜ Acts (runAction (actionOf (now (s .entry)) i) (now (table .entry))) first (now (out .entry)) p (now (table .exit)) (now (out .exit)) r × (r .end ≡ actionEnd (now (s .entry)) i) ⌝ }
+    ensures { λ r. ⌜ Acts (runAction (actionAt (now (s .entry)) i .tree) (now (table .entry))) first (now (out .entry)) p (now (table .exit)) (now (out .exit)) r × (r .end ≡ actionAt (now (s .entry)) i .end) ⌝ }
 {
     let a = outline::action_places(s, i);
     let c = a.context;
@@ -176,7 +176,7 @@ fn run_action(s: &[u8], i: usize, first: bool, table: &mut [u32], out: &mut [u8]
 // The actions of a transaction, in order, until one stops it.
 pub fn run_actions(s: &[u8], from: usize, table: &mut [u32], out: &mut [u8], p: usize) -> Written
     requires { ⌜ (sound (now table) ≡ true) × (length (now out) ≤ 2049) ⌝ }
-    ensures { λ r. ⌜ Wrote (runActions (actionsOf (now (s .entry)) from) true (now (table .entry))) (now (out .entry)) p (now (table .exit)) (now (out .exit)) (r .next) × (r .end ≡ actionsEnd (now (s .entry)) from) ⌝ }
+    ensures { λ r. ⌜ Wrote (runActions (actionsAt (now (s .entry)) from .tree) true (now (table .entry))) (now (out .entry)) p (now (table .exit)) (now (out .exit)) (r .next) × (r .end ≡ actionsAt (now (s .entry)) from .end) ⌝ }
 {
     let mut i = from;
     let mut left: usize = 16;

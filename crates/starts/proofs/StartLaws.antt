@@ -18,7 +18,8 @@ use Rattle.megaco.specs.declared.Context.{Context}
 use Rattle.megaco.specs.declared.Context.the-variants.{Null, Numbered, Choose, All}
 use Rattle.megaco.specs.declared.Property.{Property}
 use Rattle.megaco.specs.declared.Property.the-variants.{Priority, Emergency}
-use Rattle.syntax.specs.Extraction.{pastSign, propertyOf, propertyEnd, propertiesOf}
+use Rattle.syntax.specs.Production.{pastSign}
+use Rattle.syntax.specs.Places.{propertyAt, propertiesOf}
 use Rattle.outline.specs.declared.PropertyPlaces.{PropertyPlaces}
 use Rattle.outline.specs.Outline.{propertyPlaces}
 use Rattle.attempt.specs.Judging.{codeOf, coded, byCode}
@@ -105,7 +106,7 @@ module _ (s : List ℕ) (at held n i a b : ℕ) (inv : Leads (propertiesIn s at)
 
   module _ (h : n ≤ length s) (z : Bool) (d : z ≡ isProperty (wordHere s i)) where
     turn : propertiesOf (length s + 1 - n) s i
-        ≡ pick z (propertyOf s i ∷ pick (isAt s (propertyEnd s i) comma) (propertiesOf (length s + 1 - (n + 1)) s (pastSign comma s (propertyEnd s i))) []) []
+        ≡ pick z (propertyAt s i .tree ∷ pick (isAt s (propertyAt s i .end) comma) (propertiesOf (length s + 1 - (n + 1)) s (pastSign comma s (propertyAt s i .end))) []) []
     unfolding propertiesOf
     turn = let k : length s + 1 - n ≡ suc (length s + 1 - (n + 1)) = omega arith in rw (k, d)
 
@@ -120,8 +121,8 @@ module _ (s : List ℕ) (at held n i a b : ℕ) (inv : Leads (propertiesIn s at)
       one : Leads (propertiesIn s at) (p .property ∷ behind) held a b
       unfolding pick propertyPlaces behind
       one =
-          let x : p .property ≡ propertyOf s i = ap (λ (y : PropertyPlaces). y .property) e in
-          let q : p .end ≡ propertyEnd s i = ap (λ (y : PropertyPlaces). y .end) e in
+          let x : p .property ≡ propertyAt s i .tree = ap (λ (y : PropertyPlaces). y .property) e in
+          let q : p .end ≡ propertyAt s i .end = ap (λ (y : PropertyPlaces). y .end) e in
           now (p .property ∷ behind) (turn ∙ rw (t, x, q))
 
       module _ (o : Bool) (w : o ≡ overOne (p .property)) where
@@ -255,5 +256,5 @@ any-pick false x rs = refl
 pub any-given : (s : List ℕ) (at : ℕ) → anyGiven (propertiesIn s at) ≡ isProperty (wordHere s at)
 unfolding propertiesIn unlimited propertiesOf
 any-given s at =
-    let more = pick (isAt s (propertyEnd s at) comma) (propertiesOf (length s) s (pastSign comma s (propertyEnd s at))) [] in
-    rw (add-one (length s)) (any-pick (isProperty (wordHere s at)) (propertyOf s at) more)
+    let more = pick (isAt s (propertyAt s at .end) comma) (propertiesOf (length s) s (pastSign comma s (propertyAt s at .end))) [] in
+    rw (add-one (length s)) (any-pick (isProperty (wordHere s at)) (propertyAt s at .tree) more)

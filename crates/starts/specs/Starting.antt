@@ -12,7 +12,7 @@ use Rattle.megaco.specs.declared.Context.{Context}
 use Rattle.megaco.specs.declared.Context.the-variants.{Null, Numbered, Choose, All}
 use Rattle.megaco.specs.declared.Property.{Property}
 use Rattle.megaco.specs.declared.Property.the-variants.{Priority, Emergency}
-use Rattle.syntax.specs.Extraction.{propertiesOf}
+use Rattle.syntax.specs.Places.{propertiesOf}
 use Rattle.starts.specs.declared.Given.{Given}
 
 -- a priority over 15

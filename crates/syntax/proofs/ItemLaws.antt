@@ -20,16 +20,16 @@ use Rattle.syntax.proofs.ListLaws.{Goes, goes-more, comma-falls}
 -- ---- one item, where `left` more levels may be opened
 
 -- no level is left
-no-level : (s : List ℕ) (x : Parsed) → Fault ≡ after x (λ p. after (itemsAt zero s p) (signAt rightBrace s))
+no-level : (s : List ℕ) (x : Parsed) → Fault ≡ after x (λ p. after (itemsAt zero s p .place) (signAt rightBrace s))
 unfolding after itemsAt
 no-level s (Next p) = refl
 no-level s Fault = refl
 
 -- the items inside have a level less
-pub items-level : (s : List ℕ) (left at : ℕ) (y : Parsed) → (left ≡ 0 → ⊥) → y ≡ itemsAt (suc (left - 1)) s at → y ≡ itemsAt left s at
+pub items-level : (s : List ℕ) (left at : ℕ) (y : Parsed) → (left ≡ 0 → ⊥) → y ≡ itemsAt (suc (left - 1)) s at .place → y ≡ itemsAt left s at .place
 items-level s left at y h e = let z : suc (left - 1) ≡ left = omega arith in rw z at e
 
-pub braces-deep : (s : List ℕ) (left at : ℕ) (x : Bool) → x ≡ isAt s at leftBrace → x ≡ true → left ≡ 0 → Fault ≡ bracesAt (itemsAt left s) s at
+pub braces-deep : (s : List ℕ) (left at : ℕ) (x : Bool) → x ≡ isAt s at leftBrace → x ≡ true → left ≡ 0 → Fault ≡ bracesAt (itemsAt left s) s at .place
 unfolding bracesAt pick
 braces-deep s left at x g t z = rw (z, ← g, t) (no-level s (signAt leftBrace s at))
 
@@ -42,21 +42,24 @@ braces-falls s left at q m w z l f k = let b : at + 1 ≤ q = white-on s (at + 1
 
 -- ---- items joined by commas
 
+pub record GoesOn (q : Parsed) (left : ℕ) (s : List ℕ) (i : ℕ) : Type 0 where
+  pub goes : Goes q (λ j. itemAt (itemsAt left s) s j .place) s i
+
 module _ (s : List ℕ) (left at : ℕ) where
-  pub items-start : Goes (itemsAt (suc left) s at) (itemAt (itemsAt left s) s) s at
+  pub items-start : GoesOn (itemsAt (suc left) s at .place) left s at
   unfolding itemsAt unlimited
-  items-start = record { left = length s + 1; enough = omega arith; same = refl }
+  items-start = record { goes = record { left = length s + 1; enough = omega arith; same = refl } }
 
   -- a list calls the reader of an item at its own place or past it
   pub items-falls : (i m : ℕ) → at ≤ i → 3 * (left + (length s - at)) + 2 ≡ m → 3 * (left + (length s - i)) + 1 < m
   items-falls i m h k = omega arith
 
-  module _ (i p u : ℕ) (x : Bool) (y w : Parsed) (e : y ≡ itemAt (itemsAt left s) s i) (n : y ≡ Next p) (g : x ≡ isAt s p comma) (t : x ≡ true) (l : w ≡ whiteAt s (p + 1)) (f : w ≡ Next u) where
+  module _ (i p u : ℕ) (x : Bool) (y w : Parsed) (e : y ≡ itemAt (itemsAt left s) s i .place) (n : y ≡ Next p) (g : x ≡ isAt s p comma) (t : x ≡ true) (l : w ≡ whiteAt s (p + 1)) (f : w ≡ Next u) where
     pub items-less : length s - u < length s - i
-    items-less = comma-falls (itemAt (itemsAt left s) s) s i p u x y w (item-on left s) e n g t l f .1
+    items-less = comma-falls (λ j. itemAt (itemsAt left s) s j .place) s i p u x y w (item-on left s) e n g t l f .1
 
     pub items-past : at ≤ i → at ≤ u
-    items-past h = let d : (i < u) × (length s - u < length s - i) = comma-falls (itemAt (itemsAt left s) s) s i p u x y w (item-on left s) e n g t l f in omega (arith, d .0)
+    items-past h = let d : (i < u) × (length s - u < length s - i) = comma-falls (λ j. itemAt (itemsAt left s) s j .place) s i p u x y w (item-on left s) e n g t l f in omega (arith, d .0)
 
-    pub items-more : (q : Parsed) → Goes q (itemAt (itemsAt left s) s) s i → Goes q (itemAt (itemsAt left s) s) s u
-    items-more q inv = goes-more q (itemAt (itemsAt left s) s) s i inv y e p n x g t w l u (item-on left s) f
+    pub items-more : (q : Parsed) → GoesOn q left s i → GoesOn q left s u
+    items-more q inv = record { goes = goes-more q (λ j. itemAt (itemsAt left s) s j .place) s i (inv .goes) y e p n x g t w l u (item-on left s) f }

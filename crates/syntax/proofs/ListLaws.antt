@@ -13,7 +13,7 @@ use Rattle.megaco.specs.White.{after, whiteAt}
 use Rattle.megaco.specs.Tokens.{markAt, signAt}
 use Rattle.megaco.specs.declared.Parsed.{Parsed}
 use Rattle.megaco.specs.declared.Parsed.the-variants.{Next, Fault}
-use Rattle.syntax.specs.Places.{spacedAt, joinedAt, listAt}
+use Rattle.syntax.specs.Production.{spacedAt, joinedAt, listAt}
 use Rattle.text.proofs.TextLaws.{within, reads}
 use Rattle.syntax.proofs.Onward.{Onward, white-on}
 

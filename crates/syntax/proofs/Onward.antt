@@ -13,7 +13,7 @@ use Rattle.megaco.specs.Bytes.{equal, comma, leftBrace, rightBrace, slash, quot
 use Rattle.megaco.specs.White.{after, goesOn, insideAfter, stopAt, whiteFrom, whiteAt}
 use Rattle.megaco.specs.Keywords.{spells}
 use Rattle.megaco.specs.Tokens.{markAt, signAt, rowAt, upTo64, letterAt, wordAt, keywordAt, numberEnd, numberFrom, numberAt, afterNumber, quotedAt, plainAt, valueAt}
-use Rattle.megaco.specs.Reading.{unlimited, keyAt, wordHere}
+use Rattle.megaco.specs.Reading.{Read, unlimited, keyAt, wordHere}
 use Rattle.megaco.specs.declared.Parsed.{Parsed}
 use Rattle.megaco.specs.declared.Parsed.the-variants.{Next, Fault}
 use Rattle.megaco.specs.declared.Number.{Number}
@@ -23,7 +23,8 @@ use Rattle.megaco.specs.declared.Class.the-variants.{WordByte, SafeByte, Quoted
 use Rattle.megaco.specs.declared.Token.{Token}
 use Rattle.megaco.specs.declared.Token.the-variants.{PriorityToken, EmergencyToken}
 use Rattle.tokens.proofs.TokenLaws.{pick-ind, row-ahead}
-use Rattle.syntax.specs.Places.{spacedAt, numberAfter, joinedAt, listAt, secondAt, valueItemAt, bracesAt, headAt, itemAt, itemsAt, priorityAt, propertyAt}
+use Rattle.syntax.specs.Production.{Production, numberAfter, spacedAt, joinedAt, listAt}
+use Rattle.syntax.specs.Places.{secondAt, valueItemAt, bracesAt, headAt, itemAt, itemsAt, priorityAt, propertyAt}
 
 abbrev pub Onward : ℕ → Parsed → Type 0
 Onward at x = (p : ℕ) → x ≡ Next p → at ≤ p
@@ -104,11 +105,11 @@ spaced-on s at x h = after-on at x (whiteAt s) h (white-on s)
 sign-past : (b : ℕ) (s : List ℕ) (at : ℕ) → Onward at (signAt b s at)
 sign-past b s at = earlier at (at + 1) _ (le-add-right at 1) (sign-on b s at)
 
-second-on : (s : List ℕ) (at : ℕ) → Onward at (secondAt s at)
+second-on : (s : List ℕ) (at : ℕ) → Onward at (secondAt s at .place)
 unfolding secondAt
 second-on s at = pick-on at (isAt s at slash) _ _ (earlier at (at + 1) _ (le-add-right at 1) (word-on s (at + 1))) (next-on at at (le-refl at))
 
-value-item-on : (s : List ℕ) (at : ℕ) → Onward at (valueItemAt s at)
+value-item-on : (s : List ℕ) (at : ℕ) → Onward at (valueItemAt s at .place)
 unfolding valueItemAt
 value-item-on s at =
     pick-on at (isAt s at equal) _ _
@@ -119,33 +120,33 @@ pub head-on : (s : List ℕ) (at : ℕ) → Onward at (headAt s at)
 unfolding headAt
 head-on s at =
     after-on at (wordAt s at) _ (word-on s at)
-    (λ p. after-on p (spacedAt s (secondAt s p)) (valueItemAt s) (spaced-on s p (secondAt s p) (second-on s p)) (value-item-on s))
+    (λ p. after-on p (spacedAt s (secondAt s p .place)) _ (spaced-on s p (secondAt s p .place) (second-on s p)) (value-item-on s))
 
-module _ (inner : ℕ → Parsed) (s : List ℕ) (h : (i : ℕ) → Onward i (inner i)) where
-  braces-on : (at : ℕ) → Onward at (bracesAt inner s at)
+list-on : (one : ℕ → Parsed) (s : List ℕ) → ((i : ℕ) → Onward i (one i)) → (k at : ℕ) → Onward at (listAt one s k at)
+unfolding listAt joinedAt
+list-on one s h zero at = fault-on at
+list-on one s h (suc k) at =
+    after-on at (one at) _ (h at)
+    (λ p. pick-on p (isAt s p comma) _ _ (after-on p (signAt comma s p) (listAt one s k) (sign-past comma s p) (list-on one s h k)) (next-on p p (le-refl p)))
+
+module _ {A : Type 0} {r : ℕ → Read (List A)} (inner : (i : ℕ) → Production (r i)) (s : List ℕ) (h : (i : ℕ) → Onward i (inner i .place)) where
+  braces-on : (at : ℕ) → Onward at (bracesAt inner s at .place)
   unfolding bracesAt
   braces-on at =
       pick-on at (isAt s at leftBrace) _ _
-      (after-on at (signAt leftBrace s at) _ (sign-past leftBrace s at) (λ p. after-on p (inner p) (signAt rightBrace s) (h p) (sign-past rightBrace s)))
+      (after-on at (signAt leftBrace s at) _ (sign-past leftBrace s at) (λ p. after-on p (inner p .place) (signAt rightBrace s) (h p) (sign-past rightBrace s)))
       (next-on at at (le-refl at))
 
-  list-on : (k at : ℕ) → Onward at (listAt inner s k at)
-  unfolding listAt joinedAt
-  list-on zero at = fault-on at
-  list-on (suc k) at =
-      after-on at (inner at) _ (h at)
-      (λ p. pick-on p (isAt s p comma) _ _ (after-on p (signAt comma s p) (listAt inner s k) (sign-past comma s p) (list-on k)) (next-on p p (le-refl p)))
+  item-over : (at : ℕ) → Onward at (itemAt inner s at .place)
+  unfolding itemAt
+  item-over at = after-on at (headAt s at) _ (head-on s at) braces-on
 
-item-over : (inner : ℕ → Parsed) (s : List ℕ) → ((i : ℕ) → Onward i (inner i)) → (at : ℕ) → Onward at (itemAt inner s at)
-unfolding itemAt
-item-over inner s h at = after-on at (headAt s at) (bracesAt inner s) (head-on s at) (braces-on inner s h)
-
-items-on : (k : ℕ) (s : List ℕ) (at : ℕ) → Onward at (itemsAt k s at)
+items-on : (k : ℕ) (s : List ℕ) (at : ℕ) → Onward at (itemsAt k s at .place)
 unfolding itemsAt
 items-on zero s at = fault-on at
-items-on (suc k) s at = list-on (itemAt (itemsAt k s) s) s (item-over (itemsAt k s) s (items-on k s)) (unlimited s) at
+items-on (suc k) s at = list-on _ s (item-over (itemsAt k s) s (items-on k s)) (unlimited s) at
 
-pub item-on : (k : ℕ) (s : List ℕ) (at : ℕ) → Onward at (itemAt (itemsAt k s) s at)
+pub item-on : (k : ℕ) (s : List ℕ) (at : ℕ) → Onward at (itemAt (itemsAt k s) s at .place)
 item-on k s at = item-over (itemsAt k s) s (items-on k s) at
 
 -- ---- properties
@@ -191,7 +192,7 @@ key-on : (k : Token) (s : List ℕ) (at : ℕ) → Onward at (keyAt k s at)
 unfolding keyAt
 key-on k s at = after-on at (keywordAt k s at) _ (keyword-on k s at) (λ p. after-on p (whiteAt s p) (signAt equal s) (white-on s p) (sign-past equal s))
 
-pub property-on : (s : List ℕ) (at : ℕ) → Onward at (propertyAt s at)
+pub property-on : (s : List ℕ) (at : ℕ) → Onward at (propertyAt s at .place)
 unfolding propertyAt priorityAt
 property-on s at =
     pick-on at (spells EmergencyToken (wordHere s at)) _ _

@@ -1,187 +1,231 @@
--- Reading by position: each reader takes the message and a position and gives the place after the part that stands there, white space
--- included, or a fault. They follow the tree readers of crate `megaco` (Reading) part by part; Bridge proves that they say the same.
+-- The productions by position, in Reading's order and words: `commandAt s at` stands beside `commandR s at` (crate `megaco`, Reading), as its type
+-- says. Its `.place` is what the first pass promises (the place after the part, white space included, or a fault), its `.tree` and `.end` what
+-- the second pass does; where the part does not read, these have no meaning. Places inside a production have names of their own.
 use Prim.Native.Nat.{ℕ, zero, suc, _+_}
-use mathlib.Core.List.{List}
-use lib.ListN.{length}
-use lib.Dec.{ltb, eqb}
+use mathlib.Core.Path.{_≡_, refl, sym}
+use mathlib.Core.Bool.{Bool, true, false}
+use mathlib.Core.List.{List, [], _∷_}
+use mathlib.Core.Option.{none, some}
 use Rattle.base.specs.Pick.{pick}
 use Rattle.base.specs.Lists.{isAt, part}
 use Rattle.megaco.specs.Bytes.{equal, comma, leftBrace, rightBrace, slash, dash, dollar, star}
 use Rattle.megaco.specs.White.{after, whiteAt}
 use Rattle.megaco.specs.Keywords.{spells}
-use Rattle.megaco.specs.Tokens.{markAt, signAt, wordAt, keywordAt, terminationAt, numberAt, afterNumber, valueAt}
-use Rattle.megaco.specs.Reading.{unlimited, keyAt, prefixEnd, isProperty, wordHere, startAt, senderAt}
+use Rattle.megaco.specs.Tokens.{markAt, signAt, wordAt, terminationAt, numberAt, valueAt}
+use Rattle.megaco.specs.Tree.{item, Command, command}
+use Rattle.megaco.specs.Reading.{Read, got, listR, unlimited, keyAt, secondR, valueOf, valueR, bracesR, itemR, itemsR, prefixAt, prefixEnd, isProperty, orderR, commandR, contextR, wordHere, propertyR, Body, body, withProperty, propertyThen, bodyR, actionOf, actionR, actionsR}
 use Rattle.megaco.specs.declared.Parsed.{Parsed}
 use Rattle.megaco.specs.declared.Parsed.the-variants.{Next, Fault}
 use Rattle.megaco.specs.declared.Number.{Number}
-use Rattle.megaco.specs.declared.Number.the-variants.{Got, Bad}
-use Rattle.megaco.specs.declared.Token.the-variants.{MegacopToken, TransToken, CtxToken, PriorityToken, EmergencyToken}
-use Rattle.syntax.specs.declared.Braces.{Braces}
-use Rattle.syntax.specs.declared.Braces.the-variants.{Past, Outside, Within}
-use Rattle.syntax.specs.declared.Verdict.{Verdict}
-use Rattle.syntax.specs.declared.Verdict.the-variants.{WellFormed, Fault400, Fault403, WrongVersion406}
-
--- a part and the white space after it
-unfoldable pub spacedAt : List ℕ → Parsed → Parsed
-spacedAt s x = after x (whiteAt s)
-
--- a part, and what follows it behind a comma
-unfoldable pub joinedAt : (ℕ → Parsed) → List ℕ → Parsed → Parsed
-joinedAt rest s x =
-    after x (λ p.
-    let more = after (signAt comma s p) rest in
-    pick (isAt s p comma) more (Next p))
-
--- one to k parts, joined by commas
-unfoldable pub listAt : (ℕ → Parsed) → List ℕ → ℕ → ℕ → Parsed
-listAt one s zero at = Fault
-listAt one s (suc k) at = joinedAt (listAt one s k) s (one at)
-
--- a number behind another part
-unfoldable pub numberAfter : Parsed → (ℕ → Number) → Number
-numberAfter (Next p) f = f p
-numberAfter Fault f = Bad
+use Rattle.megaco.specs.declared.Context.the-variants.{Null, Numbered, Choose, All}
+use Rattle.megaco.specs.declared.Property.{Property}
+use Rattle.megaco.specs.declared.Property.the-variants.{Priority, Emergency}
+use Rattle.megaco.specs.declared.Token.the-variants.{CtxToken, PriorityToken, EmergencyToken}
+use Rattle.syntax.specs.Production.{endOf, numberAfter, pastWhite, pastSign, wordEnd, spacedAt, joinedAt, Reads, Production, fault-reads, got-reads, bind-reads, map-reads, skip-reads, after-assoc, faultP, gotP, tokenP, numberP, pickP, unlessP, bindP, mapP, skipP, signP, lastP, closeP, spacedP, behindP, placedP, keywordP, wordP, wordThenP, listP}
+use Rattle.syntax.specs.declared.Rest.{Rest}
 
 -- ---- items
 
-unfoldable pub secondAt : List ℕ → ℕ → Parsed
-secondAt s at = let given = wordAt s (at + 1) in pick (isAt s at slash) given (Next at)
+unfoldable pub secondAt : (s : List ℕ) (at : ℕ) → Production (secondR s at)
+unfolding secondR
+secondAt s at = pickP (isAt s at slash) (mapP some (wordP s (at + 1))) (gotP none at)
 
-unfoldable pub valueItemAt : List ℕ → ℕ → Parsed
+unfoldable pub valueItemAt : (s : List ℕ) (at : ℕ) → Production (valueR s at)
+unfolding valueR
 valueItemAt s at =
-    let given = after (signAt equal s at) (λ p. spacedAt s (valueAt s p)) in
-    pick (isAt s at equal) given (Next at)
+    pickP (isAt s at equal) (signP equal s at (λ p. spacedP s (tokenP (valueAt s p) (λ e. some (valueOf s p e))))) (gotP none at)
 
-unfoldable pub bracesAt : (ℕ → Parsed) → List ℕ → ℕ → Parsed
+-- the end of a value behind its `=`
+unfoldable pub valueEnd : List ℕ → ℕ → ℕ
+valueEnd s at = endOf (valueAt s (pastSign equal s at))
+
+unfoldable pub bracesAt : {A : Type 0} {r : ℕ → Read (List A)} (inner : (i : ℕ) → Production (r i)) (s : List ℕ) (at : ℕ) → Production (bracesR r s at)
+unfolding bracesR
 bracesAt inner s at =
-    let given = after (signAt leftBrace s at) (λ p. after (inner p) (signAt rightBrace s)) in
-    pick (isAt s at leftBrace) given (Next at)
+    pickP (isAt s at leftBrace) (signP leftBrace s at (λ p. bindP (inner p) (λ is q. closeP rightBrace s q (some is)))) (gotP none at)
 
--- an item before its braces
+-- an item before its braces; where its `=` may stand, and where it ends
 unfoldable pub headAt : List ℕ → ℕ → Parsed
-headAt s at = after (wordAt s at) (λ p. after (spacedAt s (secondAt s p)) (valueItemAt s))
+headAt s at = after (wordAt s at) (λ p. after (spacedAt s (secondAt s p .place)) (λ q. valueItemAt s q .place))
 
-unfoldable pub itemAt : (ℕ → Parsed) → List ℕ → ℕ → Parsed
-itemAt inner s at = after (headAt s at) (bracesAt inner s)
+unfoldable pub equalPlace : List ℕ → ℕ → ℕ
+equalPlace s at = pastWhite s (secondAt s (wordEnd s at) .end)
+
+unfoldable pub headEnd : List ℕ → ℕ → ℕ
+headEnd s at = valueItemAt s (equalPlace s at) .end
+
+pub head-cut : (x : Parsed) (f g h : ℕ → Parsed) → after x (λ p. after (f p) (λ q. after (g q) h)) ≡ after (after x (λ p. after (f p) g)) h
+unfolding after
+head-cut Fault f g h = refl
+head-cut (Next p) f g h = sym (after-assoc (f p) g h)
+
+unfoldable pub itemAt : {A : Type 0} {r : ℕ → Read (List A)} (inner : (i : ℕ) → Production (r i)) (s : List ℕ) (at : ℕ) → Production (itemR r s at)
+unfolding itemR headAt equalPlace headEnd
+itemAt inner s at =
+    placedP (after (headAt s at) (λ p. bracesAt inner s p .place))
+    (bindP (wordP s at) (λ w p.
+    bindP (spacedP s (secondAt s p)) (λ x q.
+    bindP (valueItemAt s q) (λ v r.
+    mapP (item w x v) (bracesAt inner s r)))))
+    (head-cut (wordAt s at) _ _ _)
 
 -- items of k levels
-unfoldable pub itemsAt : ℕ → List ℕ → ℕ → Parsed
-itemsAt zero s at = Fault
-itemsAt (suc k) s at = listAt (itemAt (itemsAt k s) s) s (unlimited s) at
+unfoldable pub itemsAt : (k : ℕ) (s : List ℕ) (at : ℕ) → Production (itemsR k s at)
+unfolding itemsR
+itemsAt zero s at = faultP [] at
+itemsAt (suc k) s at = listP (itemAt (itemsAt k s) s) s (unlimited s) at
 
 -- ---- commands
 
 -- a command's word
-unfoldable pub orderAt : List ℕ → ℕ → Parsed
-orderAt s at = after (wordAt s at) (λ p. pick (isProperty (part s at p)) Fault (Next p))
+unfoldable pub orderAt : (s : List ℕ) (at : ℕ) → Production (orderR s at)
+unfolding orderR
+orderAt s at = wordThenP s at (λ w p. unlessP (isProperty w) w p)
 
 -- behind `O-` and `W-`
 unfoldable pub orderStart : List ℕ → ℕ → ℕ
 orderStart s at = prefixEnd 0x57 s (prefixEnd 0x4f s at)
 
--- a command before its braces
+-- a command before its braces; where its word ends, where its name begins and ends, and where all this ends
 unfoldable pub commandHeadAt : List ℕ → ℕ → Parsed
 commandHeadAt s at =
-    after (spacedAt s (orderAt s (orderStart s at))) (λ p.
+    after (spacedAt s (orderAt s (orderStart s at) .place)) (λ p.
     after (signAt equal s p) (λ q.
     spacedAt s (terminationAt s q)))
 
-unfoldable pub commandAt : List ℕ → ℕ → Parsed
-commandAt s at = after (commandHeadAt s at) (bracesAt (itemsAt 8 s) s)
+unfoldable pub orderEnd : List ℕ → ℕ → ℕ
+orderEnd s at = wordEnd s (orderStart s at)
 
-unfoldable pub commandsAt : List ℕ → ℕ → Parsed
-commandsAt s at = listAt (commandAt s) s 64 at
+unfoldable pub nameStart : List ℕ → ℕ → ℕ
+nameStart s at = pastSign equal s (pastWhite s (orderEnd s at))
+
+unfoldable pub nameEnd : List ℕ → ℕ → ℕ
+nameEnd s at = endOf (terminationAt s (nameStart s at))
+
+unfoldable pub commandHeadEnd : List ℕ → ℕ → ℕ
+commandHeadEnd s at = pastWhite s (nameEnd s at)
+
+unfoldable pub commandAt : (s : List ℕ) (at : ℕ) → Production (commandR s at)
+unfolding commandR orderStart commandHeadAt
+commandAt s at =
+    let o = prefixEnd 0x4f s at in
+    placedP (after (commandHeadAt s at) (λ p. bracesAt (itemsAt 8 s) s p .place))
+    (bindP (spacedP s (orderAt s (prefixEnd 0x57 s o))) (λ w p.
+    signP equal s p (λ q.
+    bindP (spacedP s (tokenP (terminationAt s q) (part s q))) (λ n r.
+    mapP (command (prefixAt 0x4f s at) (prefixAt 0x57 s o) w n) (bracesAt (itemsAt 8 s) s r)))))
+    (head-cut (spacedAt s (orderAt s (orderStart s at) .place)) _ _ _)
+
+unfoldable pub commandsAt : (s : List ℕ) (at : ℕ) → Production (listR (commandR s) s 64 at)
+commandsAt s at = listP (commandAt s) s 64 at
 
 -- ---- actions
 
-unfoldable pub contextAt : List ℕ → ℕ → Parsed
+unfoldable pub contextAt : (s : List ℕ) (at : ℕ) → Production (contextR s at)
+unfolding contextR
 contextAt s at =
-    pick (isAt s at dash) (Next (at + 1))
-    (pick (isAt s at dollar) (Next (at + 1))
-    (pick (isAt s at star) (Next (at + 1))
-    (afterNumber (numberAt s at 10 4294967295) Next)))
+    pickP (isAt s at dash) (gotP Null (at + 1))
+    (pickP (isAt s at dollar) (gotP Choose (at + 1))
+    (pickP (isAt s at star) (gotP All (at + 1))
+    (numberP (numberAt s at 10 4294967295) Numbered)))
 
 unfoldable pub priorityAt : List ℕ → ℕ → Number
 priorityAt s at = numberAfter (keyAt PriorityToken s at) (λ p. numberAt s p 5 99999)
 
-unfoldable pub propertyAt : List ℕ → ℕ → Parsed
+unfoldable pub propertyAt : (s : List ℕ) (at : ℕ) → Production (propertyR s at)
+unfolding propertyR priorityAt
 propertyAt s at =
-    let emergency = spacedAt s (wordAt s at) in
-    let priority = spacedAt s (afterNumber (priorityAt s at) Next) in
-    pick (spells EmergencyToken (wordHere s at)) emergency priority
+    pickP (spells EmergencyToken (wordHere s at)) (spacedP s (keywordP s at (λ e. Emergency)))
+    (behindP s (keyAt PriorityToken s at) (λ p. numberAt s p 5 99999) Priority)
 
--- what stands in an action's braces
-unfoldable pub bodyAt : ℕ → List ℕ → ℕ → Parsed
-bodyAt zero s at = Fault
-bodyAt (suc k) s at =
-    let properties = joinedAt (bodyAt k s) s (propertyAt s at) in
-    pick (isProperty (wordHere s at)) properties (commandsAt s at)
+-- what stands in an action's braces. The second pass goes over the properties and over the commands by themselves, so its tree is told by both
+unfoldable pub bodyPlace : ℕ → List ℕ → ℕ → Parsed
+bodyPlace zero s at = Fault
+bodyPlace (suc k) s at =
+    let properties = joinedAt (bodyPlace k s) s (propertyAt s at .place) in
+    pick (isProperty (wordHere s at)) properties (commandsAt s at .place)
 
--- an action through its opening brace
+unfoldable pub propertiesOf : ℕ → List ℕ → ℕ → List Property
+propertiesOf zero s at = []
+propertiesOf (suc k) s at =
+    let e = propertyAt s at .end in
+    let more = propertiesOf k s (pastSign comma s e) in
+    pick (isProperty (wordHere s at)) (propertyAt s at .tree ∷ pick (isAt s e comma) more []) []
+
+abbrev pub rest : Bool → ℕ → Rest
+rest c p = record { commands = c; at = p }
+
+-- what follows at most k properties
+unfoldable pub restOf : ℕ → List ℕ → ℕ → Rest
+restOf zero s at = rest false at
+restOf (suc k) s at =
+    let e = propertyAt s at .end in
+    let more = restOf k s (pastSign comma s e) in
+    pick (isProperty (wordHere s at)) (pick (isAt s e comma) more (rest false e)) (rest true at)
+
+unfoldable pub commandsIn : List ℕ → Rest → List Command
+commandsIn s r = pick (r .commands) (commandsAt s (r .at) .tree) []
+
+unfoldable pub bodyEnd : List ℕ → Rest → ℕ
+bodyEnd s r = pick (r .commands) (commandsAt s (r .at) .end) (r .at)
+
+body-turn : (s : List ℕ) (t : Bool) (x : Property) (p : ℕ) {m : Read Body} {y : Parsed} {ps : List Property} (r : Rest)
+    → Reads m y (body (x ∷ ps) (commandsIn s r)) (bodyEnd s r)
+    → Reads (pick t m (got (body (x ∷ []) []) p)) (pick t y (Next p)) (body (x ∷ pick t ps []) (commandsIn s (pick t r (rest false p)))) (bodyEnd s (pick t r (rest false p)))
+unfolding pick commandsIn bodyEnd
+body-turn s true x p r h = h
+body-turn s false x p r h = got-reads (body (x ∷ []) []) p
+
+body-choice : (s : List ℕ) (t : Bool) (at : ℕ) {m c : Read Body} {y z : Parsed} {ps : List Property} (r : Rest)
+    → Reads m y (body ps (commandsIn s r)) (bodyEnd s r) → Reads c z (body [] (commandsAt s at .tree)) (commandsAt s at .end)
+    → Reads (pick t m c) (pick t y z) (body (pick t ps []) (commandsIn s (pick t r (rest true at)))) (bodyEnd s (pick t r (rest true at)))
+unfolding pick commandsIn bodyEnd
+body-choice s true at r h c = h
+body-choice s false at r h c = c
+
+pub body-reads : (k : ℕ) (s : List ℕ) (at : ℕ) → Reads (bodyR k s at) (bodyPlace k s at) (body (propertiesOf k s at) (commandsIn s (restOf k s at))) (bodyEnd s (restOf k s at))
+unfolding bodyR propertyThen withProperty bodyPlace joinedAt propertiesOf restOf pastSign
+body-reads zero s at = fault-reads _ _
+body-reads (suc k) s at =
+    let p : ℕ = propertyAt s at .end in
+    body-choice s (isProperty (wordHere s at)) at _
+    (bind-reads _ _ (propertyAt s at .law)
+    (body-turn s (isAt s p comma) (propertyAt s at .tree) p _
+    (skip-reads (signAt comma s p) _ _ (map-reads (withProperty (propertyAt s at .tree)) (body-reads k s (endOf (signAt comma s p)))))))
+    (map-reads (body []) (commandsAt s at .law))
+
+abbrev pub bodyAt : (k : ℕ) (s : List ℕ) (at : ℕ) → Production (bodyR k s at)
+bodyAt k s at =
+    record { place = bodyPlace k s at; tree = body (propertiesOf k s at) (commandsIn s (restOf k s at)); end = bodyEnd s (restOf k s at); law = body-reads k s at }
+
+-- an action through its opening brace; where its context and its body begin
 unfoldable pub openingAt : List ℕ → ℕ → Parsed
-openingAt s at = after (keyAt CtxToken s at) (λ p. after (spacedAt s (contextAt s p)) (signAt leftBrace s))
+openingAt s at = after (keyAt CtxToken s at) (λ p. after (spacedAt s (contextAt s p .place)) (signAt leftBrace s))
 
-unfoldable pub actionAt : List ℕ → ℕ → Parsed
-actionAt s at = after (openingAt s at) (λ p. after (bodyAt (unlimited s) s p) (signAt rightBrace s))
+unfoldable pub contextStart : List ℕ → ℕ → ℕ
+contextStart s at = endOf (keyAt CtxToken s at)
 
--- ---- transactions and the message: where a fault is told
+unfoldable pub bodyStart : List ℕ → ℕ → ℕ
+bodyStart s at = pastSign leftBrace s (pastWhite s (contextAt s (contextStart s at) .end))
 
--- from behind a transaction's opening brace through the closing one
-unfoldable pub actionsAt : List ℕ → ℕ → Parsed
-actionsAt s at = after (whiteAt s at) (λ p. after (listAt (actionAt s) s 16 p) (markAt rightBrace s))
+unfoldable pub restIn : List ℕ → ℕ → Rest
+restIn s at = restOf (unlimited s) s (bodyStart s at)
 
--- the opening brace behind an identifier
-unfoldable pub braceAt : List ℕ → ℕ → Parsed
-braceAt s at = after (whiteAt s at) (markAt leftBrace s)
+unfoldable pub actionAt : (s : List ℕ) (at : ℕ) → Production (actionR s at)
+unfolding actionR actionOf openingAt contextStart bodyStart restIn
+actionAt s at =
+    placedP (after (openingAt s at) (λ p. after (bodyPlace (unlimited s) s p) (signAt rightBrace s)))
+    (skipP (keyAt CtxToken s at) (λ p.
+    bindP (spacedP s (contextAt s p)) (λ c q.
+    signP leftBrace s q (λ r.
+    bindP (bodyAt (unlimited s) s r) (λ b e.
+    closeP rightBrace s e (actionOf c b))))))
+    (head-cut (keyAt CtxToken s at) _ _ _)
 
-unfoldable pub orOutside : Parsed → (ℕ → Braces) → Braces
-orOutside (Next p) f = f p
-orOutside Fault f = Outside
+-- 1 to 16 actions; and these from behind a transaction's opening brace through the closing one
+unfoldable pub actionsAt : (s : List ℕ) (at : ℕ) → Production (listR (actionR s) s 16 at)
+actionsAt s at = listP (actionAt s) s 16 at
 
-unfoldable pub orWithin : Parsed → (ℕ → Braces) → Braces
-orWithin (Next p) f = f p
-orWithin Fault f = Within
-
--- a transaction from behind its identifier, and the white space after it
-unfoldable pub transactionAt : List ℕ → ℕ → Braces
-transactionAt s at = orOutside (braceAt s at) (λ p. orWithin (actionsAt s p) (λ q. orOutside (whiteAt s q) Past))
-
--- "Fault between a transaction's opening and closing brace": 403. "Fault elsewhere": 400
-unfoldable pub afterBraces : ℕ → Braces → (ℕ → Verdict) → Verdict
-afterBraces id (Past e) f = f e
-afterBraces id Outside f = Fault400
-afterBraces id Within f = Fault403 id
-
-unfoldable pub orFault400 : Parsed → (ℕ → Verdict) → Verdict
-orFault400 (Next p) f = f p
-orFault400 Fault f = Fault400
-
-unfoldable pub ifNumber : Number → (ℕ → ℕ → Verdict) → Verdict
-ifNumber (Got v p) f = f v p
-ifNumber Bad f = Fault400
-
-unfoldable pub identifierAt : List ℕ → ℕ → Number
-identifierAt s at = numberAfter (keyAt TransToken s at) (λ p. numberAt s p 10 4294967295)
-
--- at most k transactions, to the end of the message. "or identifier 0": 403 as soon as its digits end
-unfoldable pub transactionsAt : ℕ → List ℕ → ℕ → Verdict
-transactionsAt zero s at = Fault400
-transactionsAt (suc k) s at =
-    ifNumber (identifierAt s at) (λ id p.
-    let braces = afterBraces id (transactionAt s p) (λ e. let more = transactionsAt k s e in pick (ltb e (length s)) more WellFormed) in
-    pick (eqb id 0) (Fault403 0) braces)
-
--- MEGACO or `!`
-abbrev pub protocolAt : List ℕ → ℕ → Parsed
-protocolAt s at = pick (isAt s at 0x21) (Next (at + 1)) (keywordAt MegacopToken s at)
-
-unfoldable pub versionAt : List ℕ → Number
-versionAt s = numberAfter (startAt s) (λ p. numberAt s p 2 99)
-
--- "A header .. that reads well with a version other than 1: ER=406{}, whatever follows"
-unfoldable pub verdict : List ℕ → Verdict
-verdict s =
-    ifNumber (versionAt s) (λ v p.
-    orFault400 (senderAt s p) (λ q.
-    let rest = transactionsAt 8 s q in
-    pick (eqb v 1) rest WrongVersion406))
+unfoldable pub bracedAt : (s : List ℕ) (at : ℕ) → Production (actionsR s at)
+unfolding actionsR
+bracedAt s at = skipP (whiteAt s at) (λ p. bindP (actionsAt s p) (λ acts q. lastP (markAt rightBrace s q) acts))

@@ -3,7 +3,8 @@ ghost use mathlib.Core.Path.{_≡_};
 ghost use Prim.Native.Nat.{suc, min};
 ghost use Rattle.megaco.specs.Reading.{prefixEnd, isProperty};
 ghost use Rattle.syntax.specs.Pieces.{Holds};
-ghost use Rattle.syntax.specs.Places.{spacedAt, secondAt, valueItemAt, bracesAt, headAt, itemAt, itemsAt, orderAt, orderStart, commandHeadAt, commandAt, commandsAt};
+ghost use Rattle.syntax.specs.Production.{spacedAt};
+ghost use Rattle.syntax.specs.Places.{secondAt, valueItemAt, bracesAt, headAt, itemAt, itemsAt, orderAt, orderStart, commandHeadAt, commandAt, commandsAt};
 use megaco::Parsed;
 use megaco::Token;
 
@@ -63,7 +64,7 @@ pub fn spaced(s: &[u8], x: Parsed) -> Parsed
 
 // An optional second word.
 fn second(s: &[u8], at: usize) -> Parsed
-    ensures { λ r. ⌜ r ≡ secondAt (now (s .entry)) at ⌝ }
+    ensures { λ r. ⌜ r ≡ secondAt (now (s .entry)) at .place ⌝ }
 {
     if text::is_at(s, at, 0x2f) {
         return tokens::word(s, at + 1);
@@ -73,7 +74,7 @@ fn second(s: &[u8], at: usize) -> Parsed
 
 // An optional value.
 fn item_value(s: &[u8], at: usize) -> Parsed
-    ensures { λ r. ⌜ r ≡ valueItemAt (now (s .entry)) at ⌝ }
+    ensures { λ r. ⌜ r ≡ valueItemAt (now (s .entry)) at .place ⌝ }
 {
     if text::is_at(s, at, 0x3d) {
         let a = text::white(s, at + 1);
@@ -102,7 +103,7 @@ fn head(s: &[u8], at: usize) -> Parsed
 
 // One item: its head, and the items in its braces, where `left` more levels may be opened.
 fn item(s: &[u8], left: usize, at: usize) -> Parsed
-    ensures { λ r. ⌜ r ≡ itemAt (itemsAt left (now (s .entry))) (now (s .entry)) at ⌝ }
+    ensures { λ r. ⌜ r ≡ itemAt (itemsAt left (now (s .entry))) (now (s .entry)) at .place ⌝ }
 {
     let h = head(s, at);
     let Parsed::Next(p) = h else {
@@ -113,7 +114,7 @@ fn item(s: &[u8], left: usize, at: usize) -> Parsed
 
 // Items joined by commas, in each of which `left` more levels may be opened.
 fn items(s: &[u8], left: usize, at: usize) -> Parsed
-    ensures { λ r. ⌜ r ≡ itemsAt (suc left) (now (s .entry)) at ⌝ }
+    ensures { λ r. ⌜ r ≡ itemsAt (suc left) (now (s .entry)) at .place ⌝ }
 {
     let mut i = at;
     loop {
@@ -135,7 +136,7 @@ fn items(s: &[u8], left: usize, at: usize) -> Parsed
 
 // Items of at most `left` levels in braces, if they stand here.
 fn braced_items(s: &[u8], left: usize, at: usize) -> Parsed
-    ensures { λ r. ⌜ r ≡ bracesAt (itemsAt left (now (s .entry))) (now (s .entry)) at ⌝ }
+    ensures { λ r. ⌜ r ≡ bracesAt (itemsAt left (now (s .entry))) (now (s .entry)) at .place ⌝ }
 {
     if text::is_at(s, at, 0x7b) {
         if left == 0 {
@@ -185,7 +186,7 @@ fn is_property(w: &[u8]) -> bool
 
 // A command's word.
 fn order(s: &[u8], at: usize) -> Parsed
-    ensures { λ r. ⌜ r ≡ orderAt (now (s .entry)) at ⌝ }
+    ensures { λ r. ⌜ r ≡ orderAt (now (s .entry)) at .place ⌝ }
 {
     let w = tokens::word(s, at);
     let Parsed::Next(e) = w else {
@@ -199,7 +200,7 @@ fn order(s: &[u8], at: usize) -> Parsed
 
 // A command's marks and its word.
 fn command_word(s: &[u8], at: usize) -> Parsed
-    ensures { λ r. ⌜ r ≡ orderAt (now (s .entry)) (orderStart (now (s .entry)) at) ⌝ }
+    ensures { λ r. ⌜ r ≡ orderAt (now (s .entry)) (orderStart (now (s .entry)) at) .place ⌝ }
 {
     let o = order_start(s, at);
     order(s, o)
@@ -221,7 +222,7 @@ fn command_head(s: &[u8], at: usize) -> Parsed
 }
 
 fn command(s: &[u8], at: usize) -> Parsed
-    ensures { λ r. ⌜ r ≡ commandAt (now (s .entry)) at ⌝ }
+    ensures { λ r. ⌜ r ≡ commandAt (now (s .entry)) at .place ⌝ }
 {
     let h = command_head(s, at);
     let Parsed::Next(p) = h else {
@@ -232,7 +233,7 @@ fn command(s: &[u8], at: usize) -> Parsed
 
 // One to 64 commands.
 pub fn commands(s: &[u8], at: usize) -> Parsed
-    ensures { λ r. ⌜ r ≡ commandsAt (now (s .entry)) at ⌝ }
+    ensures { λ r. ⌜ r ≡ commandsAt (now (s .entry)) at .place ⌝ }
 {
     let mut i = at;
     let mut left: usize = 64;

@@ -13,9 +13,8 @@ use Rattle.megaco.specs.Tree.{Transaction, transaction}
 use Rattle.megaco.specs.Reading.{messageR}
 use Rattle.megaco.specs.Reply.{errorText, replyText}
 use Rattle.megaco.specs.Running.{runTransaction, runTransactions, runMessage}
-use Rattle.syntax.specs.Places.{verdict}
-use Rattle.syntax.specs.Extraction.{actionsOf, transactionOf, transactionsOf, headerEnd, messageOf}
-use Rattle.syntax.specs.Bridge.{told, message-told}
+use Rattle.syntax.specs.Messages.{verdict, transactionOf, transactionsAt, headerEnd, messageAt, messageOf, told, message-told}
+use Rattle.syntax.specs.Places.{actionsAt}
 use Rattle.syntax.specs.declared.Verdict.{Verdict}
 use Rattle.syntax.specs.declared.Verdict.the-variants.{WellFormed, Fault400, Fault403, WrongVersion406}
 use Rattle.outline.specs.Outline.{transactionPlaces}
@@ -28,16 +27,16 @@ use Rattle.running.proofs.ActsLaws.{Leads, begins, transaction-wrote}
 
 -- ---- a transaction
 
-transaction-at : (s : List ℕ) (i : ℕ) (a : TransactionPlaces) → a ≡ transactionPlaces s i → transaction (a .id) (actionsOf s (a .body)) ≡ transactionOf s i
+transaction-at : (s : List ℕ) (i : ℕ) (a : TransactionPlaces) → a ≡ transactionPlaces s i → transaction (a .id) (actionsAt s (a .body) .tree) ≡ transactionOf s i
 unfolding transactionOf transactionPlaces
 transaction-at s i a e = rw e
 
 pub transaction-runs : (s : List ℕ) (i : ℕ) (a : TransactionPlaces) (t z z₁ z₂ z₃ : List ℕ) (n m e : ℕ) (t′ o : List ℕ) (p : ℕ) (o′ : List ℕ) (r : ℕ) → a ≡ transactionPlaces s i
-    → z ≡ replicate 2049 0 → Appended z 0 (replyOpen (a .id)) z₁ n → Wrote (runActions (actionsOf s (a .body)) true t) z₁ n t′ z₂ m → Appended z₂ m (text "}") z₃ e
+    → z ≡ replicate 2049 0 → Appended z 0 (replyOpen (a .id)) z₁ n → Wrote (runActions (actionsAt s (a .body) .tree) true t) z₁ n t′ z₂ m → Appended z₂ m (text "}") z₃ e
     → Limited (a .id) z₃ e o p o′ r → Wrote (runTransaction (transactionOf s i) t) o p t′ o′ r
 transaction-runs s i a t z z₁ z₂ z₃ n m e t′ o p o′ r q g f w h l =
     subst (λ (x : Transaction). Wrote (runTransaction x t) o p t′ o′ r) (transaction-at s i a q)
-    (transaction-wrote (a .id) (actionsOf s (a .body)) t z z₁ z₂ z₃ n m e t′ o p o′ r g f w h l)
+    (transaction-wrote (a .id) (actionsAt s (a .body) .tree) t z z₁ z₂ z₃ n m e t′ o p o′ r g f w h l)
 
 -- the scratch buffer is of 2,049 bytes
 pub scratch-fits : (z o : List ℕ) (p : ℕ) (bs : List ℕ) (r : ℕ) → z ≡ replicate 2049 0 → Appended z p bs o r → length o ≤ 2049
@@ -49,9 +48,9 @@ scratch-fits z o p bs r e a =
 pub wrote-sound : (x : Transaction) (t o : List ℕ) (p : ℕ) (t₂ o₂ : List ℕ) (q : ℕ) → Wrote (runTransaction x t) o p t₂ o₂ q → sound t ≡ true → sound t₂ ≡ true
 wrote-sound x t o p t₂ o₂ q w h = rw (w .table) (transaction-sound x t h)
 
-pub message-begins : (s : List ℕ) (i : ℕ) (t o : List ℕ) (p : ℕ) → i ≡ headerEnd s → Leads (runTransactions (messageOf s) t) o p (runTransactions (transactionsOf 8 s i) t) o p
-unfolding messageOf
-message-begins s i t o p e = rw e (begins (runTransactions (transactionsOf 8 s (headerEnd s)) t) o p)
+pub message-begins : (s : List ℕ) (i : ℕ) (t o : List ℕ) (p : ℕ) → i ≡ headerEnd s → Leads (runTransactions (messageOf s) t) o p (runTransactions (transactionsAt 8 s i .tree) t) o p
+unfolding messageAt
+message-begins s i t o p e = rw e (begins (runTransactions (transactionsAt 8 s (headerEnd s) .tree) t) o p)
 
 -- ---- a message by its verdict
 

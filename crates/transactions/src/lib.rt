@@ -4,7 +4,7 @@ ghost use mathlib.Core.Bool.{true};
 ghost use Rattle.megaco.specs.Table.{sound};
 ghost use Rattle.megaco.specs.Reading.{messageR};
 ghost use Rattle.megaco.specs.Running.{runTransaction, runTransactions, runMessage};
-ghost use Rattle.syntax.specs.Extraction.{transactionOf, transactionEnd, messageOf};
+ghost use Rattle.syntax.specs.Messages.{transactionOf, transactionEnd, messageOf};
 ghost use Rattle.running.specs.Promises.{Wrote};
 use running::Written;
 use syntax::Verdict;

@@ -1,5 +1,6 @@
 use mathlib.Core.Path.{_≡_, refl}
-use Rattle.syntax.specs.Places.{listAt, actionAt}
+use Rattle.syntax.specs.Production.{listAt}
+use Rattle.syntax.specs.Places.{actionAt, actionsAt}
 use Rattle.actions.proofs.ActionLaws.{parts}
 use Rattle.syntax.proofs.ListLaws.{list-none, list-fault, list-last, list-cut, list-more}
 use borrow.Author.Needs.{needs}
@@ -7,7 +8,7 @@ use Rattle.actions.proofs.actions.Statement.{statement}
 use Rattle.actions.proofs.actions.Tie as tie
 
 abbrev Inv-loop : tie.InvT-loop
-Inv-loop s at i₀ left₀ i left = listAt (actionAt s) s 16 at ≡ listAt (actionAt s) s left i
+Inv-loop s at i₀ left₀ i left = actionsAt s at .place ≡ listAt (λ j. actionAt s j .place) s left i
 
 abbrev μ-loop : tie.MeasureT-loop
 μ-loop s at i₀ left₀ i left = left
@@ -18,7 +19,7 @@ actions-spec =
     (tie.spec
     Inv-loop
     μ-loop
-    (λ c. refl)
+    (λ c. unfold actionsAt in refl)
     (λ c κs. search needs)
     (λ c. search needs)
     (λ c. search needs)

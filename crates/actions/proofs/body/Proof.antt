@@ -8,7 +8,7 @@ use Rattle.actions.proofs.body.Statement.{statement}
 use Rattle.actions.proofs.body.Tie as tie
 
 abbrev Inv-loop : tie.InvT-loop
-Inv-loop s at i₀ i = Goes (bodyAt (unlimited s) s at) s i
+Inv-loop s at i₀ i = Goes (bodyAt (unlimited s) s at .place) s i
 
 abbrev μ-loop : tie.MeasureT-loop
 μ-loop s at i₀ i = length s - i

@@ -3,10 +3,11 @@ use Prim.Native.Nat.{_+_, _-_}
 use mathlib.Core.Path.{_≡_}
 use mathlib.Core.Bool.{false}
 use lib.ListN.{length}
-use Rattle.syntax.specs.Extraction.{listEnd, itemEnd, itemsEnd, itemsOf}
+use Rattle.syntax.specs.Production.{listEnd}
+use Rattle.syntax.specs.Places.{itemAt, itemsAt}
 use Rattle.megaco.specs.Items.{mediaItems}
 use Rattle.items.proofs.OneLaws.{mediaAll, stoodNext, media-one, media-ends, stood-next}
-use Rattle.items.proofs.ListLaws.{judgeAll, itemsLeft, media-starts, all-none, all-wrong, all-right, all-more, items-begin, ends-last, ends-more}
+use Rattle.items.proofs.ListLaws.{judgeAll, levelLeft, media-starts, all-none, all-wrong, all-right, all-more, items-begin, ends-last, ends-more}
 use Rattle.items.proofs.CallLaws.{known-by, known-wrong}
 use Rattle.parts.proofs.EndLaws.{all-end-none}
 use Rattle.items.proofs.media_items.Statement.{statement}
@@ -14,8 +15,8 @@ use Rattle.items.proofs.media_items.Tie as tie
 
 abbrev Inv-loop : tie.InvT-loop
 Inv-loop s at i₀ n₀ stood₀ vs₀ i n stood vs =
-    (mediaItems (itemsOf 7 s at) false false vs₀ ≡ judgeAll mediaAll stoodNext (itemsLeft (itemsOf 6 s) 6 s n i) stood vs)
-    × (itemsEnd 7 s at ≡ listEnd (itemEnd (itemsEnd 6 s) s) s (length s + 1 - n) i)
+    (mediaItems (itemsAt 7 s at .tree) false false vs₀ ≡ judgeAll mediaAll stoodNext (levelLeft 6 s n i) stood vs)
+    × (itemsAt 7 s at .end ≡ listEnd (λ j. itemAt (itemsAt 6 s) s j .end) s (length s + 1 - n) i)
 
 abbrev μ-loop : tie.MeasureT-loop
 μ-loop s at i₀ n₀ stood₀ vs₀ i n stood vs = length s + 1 - n

@@ -3,10 +3,11 @@ use Prim.Native.Nat.{_+_, _-_}
 use mathlib.Core.Path.{_≡_}
 use mathlib.Core.Bool.{false}
 use lib.ListN.{length}
-use Rattle.syntax.specs.Extraction.{listEnd, itemEnd, itemsEnd, itemsOf}
+use Rattle.syntax.specs.Production.{listEnd}
+use Rattle.syntax.specs.Places.{itemAt, itemsAt}
 use Rattle.megaco.specs.Items.{propertyItems}
 use Rattle.items.proofs.OneLaws.{property-one, property-ends}
-use Rattle.items.proofs.ListLaws.{judgeAll, itemsLeft, stands, property-starts, all-none, all-wrong, all-last, all-more, items-begin, ends-last, ends-more}
+use Rattle.items.proofs.ListLaws.{judgeAll, levelLeft, stands, property-starts, all-none, all-wrong, all-last, all-more, items-begin, ends-last, ends-more}
 use Rattle.items.proofs.CallLaws.{known-by, known-wrong}
 use Rattle.parts.proofs.EndLaws.{all-end-none}
 use Rattle.items.proofs.property_items.Statement.{statement}
@@ -14,8 +15,8 @@ use Rattle.items.proofs.property_items.Tie as tie
 
 abbrev Inv-loop : tie.InvT-loop
 Inv-loop s at k i₀ n₀ seen₀ vs₀ i n seen vs =
-    (propertyItems k (itemsOf 6 s at) false vs₀ ≡ judgeAll (propertyItems k) stands (itemsLeft (itemsOf 5 s) 5 s n i) seen vs)
-    × (itemsEnd 6 s at ≡ listEnd (itemEnd (itemsEnd 5 s) s) s (length s + 1 - n) i)
+    (propertyItems k (itemsAt 6 s at .tree) false vs₀ ≡ judgeAll (propertyItems k) stands (levelLeft 5 s n i) seen vs)
+    × (itemsAt 6 s at .end ≡ listEnd (λ j. itemAt (itemsAt 5 s) s j .end) s (length s + 1 - n) i)
 
 abbrev μ-loop : tie.MeasureT-loop
 μ-loop s at k i₀ n₀ seen₀ vs₀ i n seen vs = length s + 1 - n

@@ -3,10 +3,11 @@ use Prim.Native.Nat.{_+_, _-_}
 use mathlib.Core.Path.{_≡_}
 use mathlib.Core.Bool.{false}
 use lib.ListN.{length}
-use Rattle.syntax.specs.Extraction.{listEnd, itemEnd, itemsEnd, itemsOf}
+use Rattle.syntax.specs.Production.{listEnd}
+use Rattle.syntax.specs.Places.{itemAt, itemsAt}
 use Rattle.megaco.specs.Items.{topItems}
 use Rattle.items.proofs.OneLaws.{top-one, top-ends}
-use Rattle.items.proofs.ListLaws.{judgeAll, itemsLeft, stands, top-starts, all-none, all-wrong, all-right, all-more, items-begin, ends-last, ends-more}
+use Rattle.items.proofs.ListLaws.{judgeAll, levelLeft, stands, top-starts, all-none, all-wrong, all-right, all-more, items-begin, ends-last, ends-more}
 use Rattle.items.proofs.CallLaws.{known-by, known-wrong}
 use Rattle.parts.proofs.EndLaws.{all-end-none}
 use Rattle.items.proofs.top_items.Statement.{statement}
@@ -14,8 +15,8 @@ use Rattle.items.proofs.top_items.Tie as tie
 
 abbrev Inv-loop : tie.InvT-loop
 Inv-loop s at i₀ n₀ seen₀ vs₀ i n seen vs =
-    (topItems (itemsOf 8 s at) false vs₀ ≡ judgeAll topItems stands (itemsLeft (itemsOf 7 s) 7 s n i) seen vs)
-    × (itemsEnd 8 s at ≡ listEnd (itemEnd (itemsEnd 7 s) s) s (length s + 1 - n) i)
+    (topItems (itemsAt 8 s at .tree) false vs₀ ≡ judgeAll topItems stands (levelLeft 7 s n i) seen vs)
+    × (itemsAt 8 s at .end ≡ listEnd (λ j. itemAt (itemsAt 7 s) s j .end) s (length s + 1 - n) i)
 
 abbrev μ-loop : tie.MeasureT-loop
 μ-loop s at i₀ n₀ seen₀ vs₀ i n seen vs = length s + 1 - n

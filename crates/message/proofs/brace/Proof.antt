@@ -1,4 +1,4 @@
-use Rattle.syntax.specs.Places.{braceAt}
+use Rattle.syntax.specs.Messages.{braceAt}
 use Rattle.message.proofs.VerdictLaws.{verdicts}
 use borrow.Author.Needs.{needs}
 use Rattle.message.proofs.brace.Statement.{statement}

@@ -1,4 +1,4 @@
-use Rattle.syntax.specs.Places.{actionsAt}
+use Rattle.syntax.specs.Places.{bracedAt}
 use Rattle.message.proofs.VerdictLaws.{verdicts}
 use borrow.Author.Needs.{needs}
 use Rattle.message.proofs.braced.Statement.{statement}
@@ -11,10 +11,10 @@ braced-spec =
     (λ c κs. search needs)
     (λ c. search needs)
     (λ c. search needs)
-    (λ c. unfold actionsAt in search verdicts depth 9)
+    (λ c. unfold bracedAt in search verdicts depth 9)
     (λ c κs. search needs)
     (λ c. search needs)
     (λ c. search needs)
-    (λ c. unfold actionsAt in search verdicts depth 9)
+    (λ c. unfold bracedAt in search verdicts depth 9)
     (λ c κs. search needs)
-    (λ c. unfold actionsAt in search verdicts depth 9))
+    (λ c. unfold bracedAt in search verdicts depth 9))

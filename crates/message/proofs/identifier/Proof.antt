@@ -1,4 +1,4 @@
-use Rattle.syntax.specs.Places.{identifierAt}
+use Rattle.syntax.specs.Messages.{identifierAt}
 use Rattle.message.proofs.VerdictLaws.{verdicts}
 use borrow.Author.Needs.{needs}
 use Rattle.message.proofs.identifier.Statement.{statement}

@@ -1,4 +1,4 @@
-use Rattle.syntax.specs.Places.{transactionAt}
+use Rattle.syntax.specs.Messages.{transactionAt}
 use Rattle.message.proofs.VerdictLaws.{verdicts}
 use borrow.Author.Needs.{needs}
 use Rattle.message.proofs.transaction.Statement.{statement}

@@ -1,12 +1,12 @@
 use mathlib.Core.Path.{_≡_, refl}
-use Rattle.syntax.specs.Places.{transactionsAt}
+use Rattle.syntax.specs.Messages.{transactionsAt}
 use Rattle.message.proofs.VerdictLaws.{none-left, no-identifier, identifier-0, fault-outside, fault-within, last-one, one-more}
 use borrow.Author.Needs.{needs}
 use Rattle.message.proofs.transactions.Statement.{statement}
 use Rattle.message.proofs.transactions.Tie as tie
 
 abbrev Inv-loop : tie.InvT-loop
-Inv-loop s at i₀ left₀ i left = transactionsAt 8 s at ≡ transactionsAt left s i
+Inv-loop s at i₀ left₀ i left = transactionsAt 8 s at .verdict ≡ transactionsAt left s i .verdict
 
 abbrev μ-loop : tie.MeasureT-loop
 μ-loop s at i₀ left₀ i left = left

@@ -1,4 +1,4 @@
-use Rattle.syntax.specs.Places.{verdict}
+use Rattle.syntax.specs.Messages.{messageAt}
 use Rattle.message.proofs.VerdictLaws.{verdicts}
 use borrow.Author.Needs.{needs}
 use Rattle.message.proofs.verdict.Statement.{statement}
@@ -11,11 +11,11 @@ verdict-spec =
     (λ c κs. search needs)
     (λ c. search needs)
     (λ c. search needs)
-    (λ c. unfold verdict in search verdicts depth 9)
+    (λ c. unfold messageAt in search verdicts depth 9)
     (λ c κs. search needs)
     (λ c. search needs)
     (λ c. search needs)
-    (λ c. unfold verdict in search verdicts depth 9)
+    (λ c. unfold messageAt in search verdicts depth 9)
     (λ c κs. search needs)
-    (λ c. unfold verdict in search verdicts depth 9)
-    (λ c. unfold verdict in search verdicts depth 9))
+    (λ c. unfold messageAt in search verdicts depth 9)
+    (λ c. unfold messageAt in search verdicts depth 9))

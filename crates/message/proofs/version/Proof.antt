@@ -1,4 +1,4 @@
-use Rattle.syntax.specs.Places.{versionAt}
+use Rattle.syntax.specs.Messages.{versionAt}
 use Rattle.message.proofs.VerdictLaws.{verdicts}
 use borrow.Author.Needs.{needs}
 use Rattle.message.proofs.version.Statement.{statement}

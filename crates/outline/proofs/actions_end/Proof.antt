@@ -1,12 +1,13 @@
 use mathlib.Core.Path.{_≡_, refl}
-use Rattle.syntax.specs.Extraction.{listEnd, actionEnd}
+use Rattle.syntax.specs.Production.{listP}
+use Rattle.syntax.specs.Places.{actionAt}
 use Rattle.parts.proofs.EndLaws.{end-none, end-last, end-more}
 use borrow.Author.Needs.{needs}
 use Rattle.outline.proofs.actions_end.Statement.{statement}
 use Rattle.outline.proofs.actions_end.Tie as tie
 
 abbrev Inv-loop : tie.InvT-loop
-Inv-loop s most at i₀ left₀ i left = listEnd (actionEnd s) s most at ≡ listEnd (actionEnd s) s left i
+Inv-loop s most at i₀ left₀ i left = listP (actionAt s) s most at .end ≡ listP (actionAt s) s left i .end
 
 abbrev μ-loop : tie.MeasureT-loop
 μ-loop s most at i₀ left₀ i left = left

@@ -1,4 +1,4 @@
-use Rattle.syntax.specs.Extraction.{bodyEnd}
+use Rattle.syntax.specs.Places.{bodyEnd}
 use Rattle.base.specs.Pick.{picks}
 use borrow.Author.Needs.{needs}
 use Rattle.outline.proofs.OutlineLaws.{body-commands}

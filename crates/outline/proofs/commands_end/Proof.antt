@@ -1,12 +1,13 @@
 use mathlib.Core.Path.{_≡_, refl}
-use Rattle.syntax.specs.Extraction.{listEnd, commandEnd}
+use Rattle.syntax.specs.Production.{listP}
+use Rattle.syntax.specs.Places.{commandAt}
 use Rattle.parts.proofs.EndLaws.{end-none, end-last, end-more}
 use borrow.Author.Needs.{needs}
 use Rattle.outline.proofs.commands_end.Statement.{statement}
 use Rattle.outline.proofs.commands_end.Tie as tie
 
 abbrev Inv-loop : tie.InvT-loop
-Inv-loop s most at i₀ left₀ i left = listEnd (commandEnd s) s most at ≡ listEnd (commandEnd s) s left i
+Inv-loop s most at i₀ left₀ i left = listP (commandAt s) s most at .end ≡ listP (commandAt s) s left i .end
 
 abbrev μ-loop : tie.MeasureT-loop
 μ-loop s most at i₀ left₀ i left = left

@@ -2,7 +2,7 @@ use mathlib.Core.Path.{_≡_}
 use Prim.Native.Nat.{_+_, _-_}
 use lib.ListN.{length}
 use Rattle.megaco.specs.Reading.{unlimited}
-use Rattle.syntax.specs.Extraction.{restOf}
+use Rattle.syntax.specs.Places.{restOf}
 use Rattle.outline.proofs.OutlineLaws.{rest-start, rest-none, rest-commands, rest-last, rest-more}
 use borrow.Author.Needs.{needs}
 use Rattle.outline.proofs.rest_of.Statement.{statement}

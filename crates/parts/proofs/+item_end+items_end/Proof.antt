@@ -6,7 +6,8 @@ use mathlib.Core.Path.{_≡_}
 use lib.ListN.{length}
 use borrow.Fn.Kinds.{In}
 use borrow.Fn.PlainCycle.{Measures, is, falls, and}
-use Rattle.syntax.specs.Extraction.{listEnd, itemEnd, itemsEnd}
+use Rattle.syntax.specs.Production.{listEnd}
+use Rattle.syntax.specs.Places.{itemAt, itemsAt}
 use Rattle.parts.proofs.PlaceLaws.{item-braced, item-plain}
 use Rattle.parts.proofs.EndLaws.{all-end-none, all-end-last, all-end-more, items-end-none, items-end-start, item-falls, items-falls}
 use Rattle.parts.proofs.item_end.Reads as item-end
@@ -41,7 +42,7 @@ abbrev items-end-below : ℕ → In 1 items-end-kinds.ps
 items-end-below t = and 1 items-end-kinds.ps (falls 1 items-end-kinds.ps _<_ μ-items-end t) items-end.Pre
 
 abbrev Inv-loop : items-end-lts.InvT-loop
-Inv-loop s left at i₀ n₀ i n = itemsEnd left s at ≡ listEnd (itemEnd (itemsEnd (left - 1) s) s) s (length s + 1 - n) i
+Inv-loop s left at i₀ n₀ i n = itemsAt left s at .end ≡ listEnd (λ j. itemAt (itemsAt (left - 1) s) s j .end) s (length s + 1 - n) i
 
 abbrev μ-loop : items-end-lts.MeasureT-loop
 μ-loop s left at i₀ n₀ i n = length s + 1 - n

@@ -1,5 +1,5 @@
 use Rattle.parts.proofs.PlaceLaws.{end-by}
-use Rattle.syntax.specs.Extraction.{pastSign}
+use Rattle.syntax.specs.Production.{pastSign}
 use borrow.Author.Needs.{needs}
 use Rattle.parts.proofs.past_sign.Statement.{statement}
 use Rattle.parts.proofs.past_sign.Tie as tie

@@ -1,5 +1,5 @@
 use Rattle.parts.proofs.PlaceLaws.{end-by}
-use Rattle.syntax.specs.Extraction.{pastWhite}
+use Rattle.syntax.specs.Production.{pastWhite}
 use borrow.Author.Needs.{needs}
 use Rattle.parts.proofs.past_white.Statement.{statement}
 use Rattle.parts.proofs.past_white.Tie as tie

@@ -1,5 +1,6 @@
 use Rattle.text.proofs.TextLaws.{reads}
-use Rattle.syntax.specs.Extraction.{secondEnd, wordEnd}
+use Rattle.syntax.specs.Production.{wordEnd}
+use Rattle.syntax.specs.Places.{secondAt}
 use borrow.Author.Needs.{needs}
 use Rattle.parts.proofs.second_end.Statement.{statement}
 use Rattle.parts.proofs.second_end.Tie as tie
@@ -11,5 +12,5 @@ second-end-spec =
     (λ c κs. search needs)
     (λ c. search reads)
     (λ c κs. search needs)
-    (λ c. unfold secondEnd wordEnd in search reads)
-    (λ c. unfold secondEnd wordEnd in search reads))
+    (λ c. unfold secondAt wordEnd in search reads)
+    (λ c. unfold secondAt wordEnd in search reads))

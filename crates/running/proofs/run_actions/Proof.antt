@@ -3,7 +3,8 @@ use mathlib.Core.Path.{_≡_, refl}
 use mathlib.Core.Bool.{true}
 use lib.ListN.{length}
 use Rattle.megaco.specs.Table.{sound}
-use Rattle.syntax.specs.Extraction.{listOf, listEnd, actionOf, actionEnd, actionsOf, actionsEnd}
+use Rattle.syntax.specs.Production.{listP}
+use Rattle.syntax.specs.Places.{actionAt, actionsAt}
 use Rattle.parts.proofs.EndLaws.{end-none, end-last, end-more, end-after}
 use Rattle.running.specs.Fold.{runActions}
 use Rattle.running.proofs.ActsLaws.{Leads, begins, acts-sound, actions-none, actions-stop, actions-last, actions-more}
@@ -12,8 +13,8 @@ use Rattle.running.proofs.run_actions.Tie as tie
 
 abbrev Inv-loop : tie.InvT-loop
 Inv-loop s from table₀ out₀ p i₀ left₀ q₀ f₀ table out i left q f =
-    (length table ≡ length table₀) × (length out ≡ length out₀) × (sound table ≡ true) × (actionsEnd s from ≡ listEnd (actionEnd s) s left i)
-    × Leads (runActions (actionsOf s from) true table₀) out₀ p (runActions (listOf (actionOf s) (actionEnd s) s left i) f table) out q
+    (length table ≡ length table₀) × (length out ≡ length out₀) × (sound table ≡ true) × (actionsAt s from .end ≡ listP (actionAt s) s left i .end)
+    × Leads (runActions (actionsAt s from .tree) true table₀) out₀ p (runActions (listP (actionAt s) s left i .tree) f table) out q
 
 abbrev μ-loop : tie.MeasureT-loop
 μ-loop s from table₀ out₀ p i₀ left₀ q₀ f₀ table out i left q f = left
@@ -24,7 +25,7 @@ run-actions-spec =
     (tie.spec
     Inv-loop
     μ-loop
-    (λ c. (refl, refl, search needs, unfold actionsEnd in refl, unfold actionsOf in begins _ _ _))
+    (λ c. (refl, refl, search needs, unfold actionsAt in refl, unfold actionsAt in begins _ _ _))
     (λ c κs. (search needs, search needs))
     (λ c κs. search needs)
     (λ c κs. search needs)

@@ -3,7 +3,8 @@ use mathlib.Core.Path.{_≡_, refl}
 use mathlib.Core.Bool.{true}
 use lib.ListN.{length}
 use Rattle.megaco.proofs.Sizes.{sized-same}
-use Rattle.syntax.specs.Extraction.{listOf, listEnd, commandOf, commandEnd, commandsOf, commandsEnd}
+use Rattle.syntax.specs.Production.{listP}
+use Rattle.syntax.specs.Places.{commandAt, commandsAt}
 use Rattle.parts.proofs.EndLaws.{end-none, end-last, end-more, end-after}
 use Rattle.tries.proofs.DidLaws.{Leads, begins}
 use Rattle.running.specs.Fold.{runCommands}
@@ -13,9 +14,9 @@ use Rattle.running.proofs.run_commands.Tie as tie
 
 abbrev Inv-loop : tie.InvT-loop
 Inv-loop s from table₀ out₀ i₀ left₀ here₀ table out i left here =
-    (length table ≡ length table₀) × (length out ≡ length out₀) × (commandsEnd s from ≡ listEnd (commandEnd s) s left i)
-    × Leads (runCommands (commandsOf s from) (here₀ .given) (here₀ .at) table₀) (here₀ .first) out₀ (here₀ .next) true
-    (runCommands (listOf (commandOf s) (commandEnd s) s left i) (here .given) (here .at) table) (here .first) out (here .next)
+    (length table ≡ length table₀) × (length out ≡ length out₀) × (commandsAt s from .end ≡ listP (commandAt s) s left i .end)
+    × Leads (runCommands (commandsAt s from .tree) (here₀ .given) (here₀ .at) table₀) (here₀ .first) out₀ (here₀ .next) true
+    (runCommands (listP (commandAt s) s left i .tree) (here .given) (here .at) table) (here .first) out (here .next)
 
 abbrev μ-loop : tie.MeasureT-loop
 μ-loop s from table₀ out₀ i₀ left₀ here₀ table out i left here = left
@@ -26,7 +27,7 @@ run-commands-spec =
     (tie.spec
     Inv-loop
     μ-loop
-    (λ c. (refl, refl, unfold commandsEnd in refl, unfold commandsOf in begins _ _ _ _))
+    (λ c. (refl, refl, unfold commandsAt in refl, unfold commandsAt in begins _ _ _ _))
     (λ c κs. search sized-same)
     (λ c κs. search needs)
     (λ c κs. search needs)

@@ -1,6 +1,6 @@
 use Prim.Native.Nat.{_+_, _-_, _≤_}
 use lib.ListN.{length}
-use Rattle.syntax.specs.Extraction.{propertiesOf}
+use Rattle.syntax.specs.Places.{propertiesOf}
 use Rattle.starts.specs.Starting.{propertiesIn}
 use Rattle.starts.proofs.StartLaws.{Leads, not-over, read-start, read-none, read-end, read-over, read-last, read-more}
 use borrow.Author.Needs.{needs}

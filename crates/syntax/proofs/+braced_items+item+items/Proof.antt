@@ -7,8 +7,8 @@ use lib.ListN.{length}
 use borrow.Fn.Kinds.{In}
 use borrow.Fn.PlainCycle.{Measures, is, falls, and}
 use Rattle.syntax.specs.Places.{bracesAt, itemAt, itemsAt}
-use Rattle.syntax.proofs.ListLaws.{Goes, steps, goes-fault, goes-last, goes-cut}
-use Rattle.syntax.proofs.ItemLaws.{items-level, braces-deep, item-falls, braces-falls, items-start, items-falls, items-less, items-past, items-more}
+use Rattle.syntax.proofs.ListLaws.{steps, goes-fault, goes-last, goes-cut}
+use Rattle.syntax.proofs.ItemLaws.{GoesOn, items-level, braces-deep, item-falls, braces-falls, items-start, items-falls, items-less, items-past, items-more}
 use Rattle.syntax.proofs.braced_items.Reads as braced-items
 use Rattle.syntax.proofs.braced_items.Kinds as braced-items-kinds
 use Rattle.syntax.proofs.+braced_items+item+items.Lts-braced_items as braced-items-lts
@@ -53,7 +53,7 @@ abbrev items-below : ℕ → In 1 items-kinds.ps
 items-below t = and 1 items-kinds.ps (falls 1 items-kinds.ps _<_ μ-items t) items.Pre
 
 abbrev Inv-loop : items-lts.InvT-loop
-Inv-loop s left at i₀ i = (at ≤ i) × Goes (itemsAt (suc left) s at) (itemAt (itemsAt left s) s) s i
+Inv-loop s left at i₀ i = (at ≤ i) × GoesOn (itemsAt (suc left) s at .place) left s i
 
 abbrev μ-loop : items-lts.MeasureT-loop
 μ-loop s left at i₀ i = length s - i

@@ -1,12 +1,13 @@
 use mathlib.Core.Path.{_≡_, refl}
-use Rattle.syntax.specs.Places.{listAt, commandAt, commandsAt}
+use Rattle.syntax.specs.Production.{listAt}
+use Rattle.syntax.specs.Places.{commandAt, commandsAt}
 use Rattle.syntax.proofs.ListLaws.{steps, list-none, list-fault, list-last, list-cut, list-more}
 use borrow.Author.Needs.{needs}
 use Rattle.syntax.proofs.commands.Statement.{statement}
 use Rattle.syntax.proofs.commands.Tie as tie
 
 abbrev Inv-loop : tie.InvT-loop
-Inv-loop s at i₀ left₀ i left = commandsAt s at ≡ listAt (commandAt s) s left i
+Inv-loop s at i₀ left₀ i left = commandsAt s at .place ≡ listAt (λ j. commandAt s j .place) s left i
 
 abbrev μ-loop : tie.MeasureT-loop
 μ-loop s at i₀ left₀ i left = left

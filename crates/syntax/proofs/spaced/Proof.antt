@@ -1,4 +1,4 @@
-use Rattle.syntax.specs.Places.{spacedAt}
+use Rattle.syntax.specs.Production.{spacedAt}
 use Rattle.syntax.proofs.ListLaws.{steps}
 use borrow.Author.Needs.{needs}
 use Rattle.syntax.proofs.spaced.Statement.{statement}

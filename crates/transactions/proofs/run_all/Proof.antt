@@ -4,7 +4,7 @@ use mathlib.Core.Bool.{true}
 use lib.ListN.{length}
 use Rattle.megaco.specs.Table.{sound}
 use Rattle.megaco.specs.Running.{runTransactions}
-use Rattle.syntax.specs.Extraction.{transactionsOf, messageOf}
+use Rattle.syntax.specs.Messages.{transactionsAt, messageOf}
 use Rattle.running.proofs.ActsLaws.{Leads, message-none, message-last, message-more}
 use Rattle.transactions.proofs.MessageLaws.{wrote-sound, message-begins}
 use Rattle.transactions.proofs.run_all.Statement.{statement}
@@ -13,7 +13,7 @@ use Rattle.transactions.proofs.run_all.Tie as tie
 abbrev Inv-loop : tie.InvT-loop
 Inv-loop s table₀ out₀ p i₀ left₀ q₀ table out i left q =
     (length table ≡ length table₀) × (length out ≡ length out₀) × (sound table ≡ true)
-    × Leads (runTransactions (messageOf s) table₀) out₀ p (runTransactions (transactionsOf left s i) table) out q
+    × Leads (runTransactions (messageOf s) table₀) out₀ p (runTransactions (transactionsAt left s i .tree) table) out q
 
 abbrev μ-loop : tie.MeasureT-loop
 μ-loop s table₀ out₀ p i₀ left₀ q₀ table out i left q = left
