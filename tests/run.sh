@@ -8,7 +8,7 @@
 #   tests/run.sh --allow-no-archive   where there is no archive: the reference's tests alone, and the note 'no archive yet'
 #
 # The archive is the file that CORDAFINA_LIB names, or target/staticlib/libcordafina.a. SEED (default 1) is that of the generated calls.
-set -eu
+set -euo pipefail
 root=$(cd "$(dirname "$0")/.." && pwd)
 archive=$(realpath -m "${CORDAFINA_LIB:-$root/target/staticlib/libcordafina.a}")
 export CORDAFINA_LIB=$archive

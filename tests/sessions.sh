@@ -1,8 +1,9 @@
 #!/usr/bin/env bash
-# Runs the listing program on each session of a folder (tests/sessions) and compares what it prints, byte for byte.
+# Runs the listing program on each session of a folder (tests/sessions) and compares what it prints, byte for byte; then on a session of over
+# 128 KiB and on one that comes in small pieces (tests/pieces.py).
 #
 #   tests/sessions.sh [FOLDER]
-set -eu
+set -euo pipefail
 root=$(cd "$(dirname "$0")/.." && pwd)
 folder=${1:-$root/tests/sessions}
 program=$root/target/bin/listing
@@ -13,3 +14,4 @@ for input in "$folder"/*.in; do
     count=$((count + 1))
 done
 echo "sessions: $count printed as expected"
+python3 "$root/tests/pieces.py" "$program" "$folder"

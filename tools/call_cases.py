@@ -115,6 +115,16 @@ SINGLE = [
     (b"T=1{C=-{A=$}}", b"P=1{C=-{ER=421{}}}", {}, None),
     (b"T=1{C=${A=R/1}}", b"P=1{C=${A=R/1{ER=430{}}}}", {}, None),
     (b"T=1{C=-{MF=*}}", b"P=1{ER=533{}}", {}, None),
+    # 421 stands before 449
+    (b"T=1{C=${PR=16}}", b"P=1{C=${ER=421{}}}", {}, None),
+    # Loopback is 4
+    (b"T=1{C=-{MF=L/1/1{M{O{MO=LB}}}}}", b"P=1{C=-{MF=L/1/1}}", {}, {312: 4}),
+    # Move's wildcard never matches a line in null: L/1/2 is left where it is, and alone in null nothing matches
+    (b"T=1{C=${MV=L/1/*}}", b"P=1{C=2{MV=L/1/1}}", {0: 1, 624: 1}, {0: 2, 625: 1}),
+    (b"T=1{C=${MV=*}}", b"P=1{C=${MV=*{ER=431{}}}}", {}, None),
+    # a wildcard's attempt that fails bears the full name, the bytes received where it is no wildcard
+    (b"T=1{C=1{MV=l/2/*}}", b"P=1{C=1{MV=L/2/1{ER=434{}}}}", {**{i: 1 for i in range(8)}, 31: 2, 624: 1, 625: 1}, None),
+    (b"T=1{C=1{MV=l/2/1}}", b"P=1{C=1{MV=l/2/1{ER=434{}}}}", {**{i: 1 for i in range(8)}, 31: 2, 624: 1, 625: 1}, None),
     # a wildcard that fills the context
     (b"T=1{C=${A=L/1/*}}", b"P=1{C=1{" + b",".join([b"A=L/1/%d" % n for n in range(1, 9)] + [b"A=L/1/%d{ER=434{}}" % n for n in range(9, 32)]) + b"}}",
      {}, EIGHT),
@@ -158,7 +168,14 @@ def own_rows():
     for message, reply, after in SESSION:
         rows.append(row(message, reply, before, after))
         before = after
-    return rows + [row(*x) for x in SINGLE]
+    return rows + [row(*x) for x in SINGLE] + [last(n) for n in range(1, 17)]
+
+
+def last(n):
+    """The last channel of n lines and the first ephemeral come into a new context."""
+    ends, name = 31 * n + 64, b"L/%d/31" % n
+    made = row(b"T=1{C=${A=%s,A=$}}" % name, b"P=1{C=1{A=%s,A=R/1}}" % name, {}, {31 * n - 1: 1, 31 * n: 1, 2 * ends: 1, 2 * ends + 128: 1})
+    return {**made, "lines": n, "table_len": WORDS + 62 * (n - LINES)}
 
 
 # ---- the choice

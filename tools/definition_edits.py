@@ -1,16 +1,18 @@
 #!/usr/bin/env python3
-"""Edits of the definition (crate megaco) that the laws (crate laws) must refuse.
+"""Edits of the definition (crate megaco) that the theorems about it must refuse: laws, or the grammar, on which demand 2 rests.
 
 usage: tools/definition_edits.py [NAME ..]
 
 A must-fail edit of rt changes its own crate only, and megaco by itself is proved with any definition. So each edit of
-tools/definition-edits, in the form of rt's must-fail edits, is applied to a copy of the repository without the fourteen
-examples: megaco must still be proved there, and laws must not. The gate runs it (.ci/run).
+tools/definition-edits, in the form of rt's must-fail edits with a line `refused by: laws` or `refused by: grammar` before it, is applied to a
+copy of the repository without the fourteen examples: megaco must still be proved there, and the crate named must not. The gate runs it
+(.ci/run).
 """
 import glob, os, re, shutil, subprocess, sys, tempfile
 
 ROOT = os.path.dirname(os.path.dirname(os.path.abspath(__file__)))
-CRATES = ('base', 'megaco', 'laws')
+# what a crate rests on here
+BELOW = {'base': '', 'megaco': 'base', 'laws': 'megaco base', 'grammar': 'megaco base'}
 
 
 def edited(text, edit):
@@ -31,33 +33,51 @@ def edited(text, edit):
     return text
 
 
-def tried(edit):
-    """Whether the laws refuse an edit, and what was said."""
-    work = tempfile.mkdtemp()
-    try:
-        for crate in CRATES:
-            shutil.copytree(f'{ROOT}/crates/{crate}', f'{work}/crates/{crate}')
-        # the examples refuse most of these edits by themselves: here it is the laws that must
+def refuser(edit):
+    """The crate that must refuse an edit."""
+    named = re.search(r'^refused by: (\w+)$', open(edit, encoding='utf-8').read(), re.M)
+    if not named or named[1] not in ('laws', 'grammar'):
+        sys.exit(f'{edit}: says no crate that must refuse it')
+    return named[1]
+
+
+def copied(crate, work):
+    """A crate's files, of megaco all but the examples."""
+    shutil.copytree(f'{ROOT}/crates/{crate}', f'{work}/crates/{crate}')
+    if crate == 'megaco':
+        # the examples refuse most of these edits by themselves: here it is the theorems that must
         os.remove(f'{work}/crates/megaco/proofs/Examples.antt')
         library = f'{work}/crates/megaco/proofs/Lib.antt'
         lines = [line for line in open(library) if 'Examples' not in line]
         with open(library, 'w') as f:
             f.writelines(lines)
+
+
+def tried(edit):
+    """Whether a crate refuses an edit, and what was said."""
+    crate = refuser(edit)
+    work = tempfile.mkdtemp()
+    try:
+        chosen = [c for c in BELOW if c == crate or c in BELOW[crate].split()]
+        for c in chosen:
+            copied(c, work)
         with open(f'{work}/crates.txt', 'w') as f:
-            f.write('base:\nmegaco: base\nlaws: megaco base\n')
+            f.writelines(f'{c}: {BELOW[c]}\n' for c in chosen)
         for path, text in edited({}, edit).items():
             with open(f'{work}/{path}', 'w', encoding='utf-8') as f:
                 f.write(text)
-        ran = subprocess.run(['rt', 'check', 'laws'], cwd=work, env=dict(os.environ, RT_CUT='0'), capture_output=True, text=True)
+        ran = subprocess.run(['rt', 'check', crate], cwd=work, env=dict(os.environ, RT_CUT='0'), capture_output=True, text=True)
     finally:
         shutil.rmtree(work)
     said = ran.stdout + ran.stderr
     if not re.search(r'^rt: megaco proved', said, re.M):
         return False, 'megaco itself is not proved'
     if ran.returncode == 0:
-        return False, 'laws are still proved'
-    first = re.search(r'crates/laws/(specs/\S+): error: `(\S+)`', said)
-    return first is not None, f'{first[1]}, `{first[2]}`' if first else said[-500:]
+        return False, f'{crate} is still proved'
+    first = re.search(r'crates/(\w+)/((?:specs|proofs)/\S+): error: `(\S+)`', said)
+    if not first:
+        return False, said[-500:]
+    return first[1] == crate, f'{first[1]}/{first[2]}, `{first[3]}`'
 
 
 def main():

@@ -3,8 +3,7 @@ use Prim.Native.Nat.{ℕ, _<_}
 use mathlib.Core.Path.{_≡_}
 use mathlib.Core.List.{List, [], _∷_}
 use Rattle.megaco.specs.Bytes.{star, dollar}
-use Rattle.megaco.specs.Tree.{Command, command, Action, action, Transaction, transaction, wellFormed}
-use Rattle.megaco.specs.Reading.{messageR}
+use Rattle.megaco.specs.Tree.{Command, command, Action, action, Transaction, transaction}
 use Rattle.megaco.specs.Table.{fitted, ctx, get}
 use Rattle.megaco.specs.Names.{nameOf}
 use Rattle.megaco.specs.declared.Context.{Context}
@@ -35,13 +34,6 @@ abbrev pub namesOf : Transaction → List (List ℕ)
 namesOf (transaction id acts) = namesIn acts
 
 -- ---- one transaction
-
--- "a transaction is well-formed when it reads as above with no fault, its identifier too": some message reads, and it is among what it reads
-pub record WellFormed (x : Transaction) : Type 0 where
-  pub message : List ℕ
-  pub transactions : List Transaction
-  pub reads : messageR message ≡ wellFormed transactions
-  pub among : x ∈ transactions
 
 -- "by number or as the null one"
 pub data ByNumberOrNull : Context → Type 0 where

@@ -1,4 +1,5 @@
--- The conditions of demand 3 as computed tests; each test holds exactly when its condition does.
+-- The conditions of demand 3 as computed tests; each test holds exactly when its condition does. A pair that passes them ends alike in both
+-- orders.
 use Prim.Native.Nat.{ℕ}
 use mathlib.Core.Path.{_≡_, refl, sym, ap, subst}
 use mathlib.Core.Bool.{Bool, true, false, not, _&&_}
@@ -9,7 +10,7 @@ use borrow.Author.Tests.{not-true}
 use Rattle.base.specs.Lists.{has}
 use Rattle.megaco.specs.Bytes.{star, dollar}
 use Rattle.megaco.specs.Tree.{Transaction}
-use Rattle.megaco.specs.Table.{fitted, ctx, get}
+use Rattle.megaco.specs.Table.{fitted, ctx, get, sound}
 use Rattle.megaco.specs.Names.{nameOf}
 use Rattle.megaco.specs.declared.Context.{Context}
 use Rattle.megaco.specs.declared.Context.the-variants.{Null, Numbered, Choose, All}
@@ -18,6 +19,7 @@ use Rattle.megaco.specs.declared.Name.the-variants.{Termination, Root, Chosen, 
 use Rattle.base.proofs.TestLaws.{clash, and-left, and-right}
 use Rattle.laws.specs.Membership.{_∈_, has-not, not-has, all?, all-is, is-all, noneShared?, onlyZeroShared?, none-shared, only-zero-shared, collect, in-collect, collect-in}
 use Rattle.laws.specs.Apart.{contextsOf, namesOf, ByNumberOrNull, by-number, null-one, ContextsPlain, NamesPlain, Names, Reaches, writes, stands, TerminationsApart, ContextsApart, Apart}
+use Rattle.laws.specs.Demand.{EitherOrder, either-order}
 
 -- ---- the tests
 
@@ -186,3 +188,6 @@ apart-is t x y = (
   },
   λ A. rw (contexts-plain-is x .1 (A .contexts-one), contexts-plain-is y .1 (A .contexts-two), names-plain-is x .1 (A .names-one), names-plain-is y .1 (A .names-two), terminations-apart-is (fitted t) x y .1 (A .terminations), contexts-apart-is t x y .1 (A .contexts)),
 )
+
+pub tested-order : (t : List ℕ) → sound t ≡ true → (x y : Transaction) → apart? t x y ≡ true → EitherOrder t x y
+tested-order t s x y e = either-order t s x y (apart-is t x y .0 e)

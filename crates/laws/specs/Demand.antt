@@ -1,16 +1,15 @@
--- Demand 3: two transactions that are apart end alike in both orders; and so does any mixture of their steps.
+-- Two transactions that are apart end alike in both orders, and so does any mixture of their steps. Demand 3 itself, with the grammar and of
+-- calls, is stated in crate demands.
 use Prim.Native.Nat.{ℕ}
 use mathlib.Core.Path.{_≡_, sym, ap}
 use mathlib.Core.Bool.{true}
-use mathlib.Core.List.{List, [], _∷_}
-use Rattle.base.specs.Bytes.{_then_}
-use Rattle.megaco.specs.Tree.{Transaction, transaction, wellFormed}
-use Rattle.megaco.specs.Reading.{messageR}
-use Rattle.megaco.specs.Table.{fitted, sound}
+use mathlib.Core.List.{List}
+use Rattle.megaco.specs.Tree.{Transaction, transaction}
+use Rattle.megaco.specs.Table.{sound}
 use Rattle.megaco.specs.Reply.{transactionText}
-use Rattle.megaco.specs.Running.{Progress, runTransaction, runTransactions, runMessage}
+use Rattle.megaco.specs.Running.{Progress, runTransaction}
 use Rattle.laws.specs.Mix.{Both, Mixture, mixed}
-use Rattle.laws.specs.Apart.{WellFormed, ContextsPlain, NamesPlain, TerminationsApart, ContextsApart, Apart}
+use Rattle.laws.specs.Apart.{Apart}
 use Rattle.laws.specs.Reaching.{stepsOf, outset, orders-alike, mixture-alike}
 
 -- "running one after the other from that table ends alike in both orders". "The second starts from the table the first left"
@@ -29,39 +28,6 @@ either-order t e (transaction j xs) (transaction k ys) A =
       table = sym (ap (λ (b : Both). b .table) p);
       reply-one = sym (ap (λ (b : Both). transactionText j (b .one .acts)) p);
       reply-two = sym (ap (λ (b : Both). transactionText k (b .two .acts)) p);
-    }
-
--- demand 3 in the maintainer's words
-pub demand-3 :
-    -- "Take any sound table to start from, and any two well-formed transactions"
-    (t : List ℕ) → sound t ≡ true → (x y : Transaction) → WellFormed x → WellFormed y
-    -- "that name every context by number or as the null one, and every termination without `*` or `$`"
-    → ContextsPlain x → ContextsPlain y → NamesPlain x → NamesPlain y
-    -- "Say that no termination is named by both"
-    → TerminationsApart (fitted t) x y
-    -- "Say that the numbered contexts each names, with the numbered ones its terminations stand in at the start, are apart from the other's"
-    → ContextsApart t x y
-    -- "Then .. running one after the other from that table ends alike in both orders"
-    → EitherOrder t x y
-demand-3 t e x y f g p q r s n c =
-    either-order t e x y (record { contexts-one = p; contexts-two = q; names-one = r; names-two = s; terminations = n; contexts = c })
-
--- ---- over bytes: two messages of one transaction each
-
-pub record EitherOrderOfMessages (t m k : List ℕ) : Type 0 where
-  pub table : runMessage (messageR k) (runMessage (messageR m) t .table) .table ≡ runMessage (messageR m) (runMessage (messageR k) t .table) .table
-  pub reply-one : runMessage (messageR m) t .text ≡ runMessage (messageR m) (runMessage (messageR k) t .table) .text
-  pub reply-two : runMessage (messageR k) (runMessage (messageR m) t .table) .text ≡ runMessage (messageR k) t .text
-
-pub demand-3-messages : (t : List ℕ) → sound t ≡ true → (m k : List ℕ) (x y : Transaction) → messageR m ≡ wellFormed (x ∷ []) → messageR k ≡ wellFormed (y ∷ [])
-    → Apart t x y → EitherOrderOfMessages t m k
-unfolding runMessage runTransactions
-demand-3-messages t e m k x y p q A =
-    let r = either-order t e x y A in
-    record {
-      table = rw (p, q) (r .table);
-      reply-one = rw (p, q) (ap (λ (b : List ℕ). b then []) (r .reply-one));
-      reply-two = rw (p, q) (ap (λ (b : List ℕ). b then []) (r .reply-two));
     }
 
 -- ---- any mixture (document 02, CR 13)

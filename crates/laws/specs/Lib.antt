@@ -10,9 +10,9 @@ pub mod Mix
 pub mod Membership
 pub mod PlainNames
 pub mod Apart
-pub mod ApartTest
 pub mod Reaching
 pub mod Demand
+pub mod ApartTest
 pub mod Witness
 pub mod Needed
 pub mod Sound

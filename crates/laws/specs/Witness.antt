@@ -16,7 +16,7 @@ use Rattle.laws.specs.Mix.{Mixture, over, first, second, mixed}
 use Rattle.laws.specs.Apart.{contextsIn, namesThen, namesIn, Apart}
 use Rattle.laws.specs.ApartTest.{byNumberOrNull?, contextsPlain?, namePlain?, namesPlain?, terminationOf, writtenNumber, named, numbered, standing, reached, terminationsApart?, contextsApart?, apart?, apart-is}
 use Rattle.laws.specs.Reaching.{stepsOf, outset}
-use Rattle.laws.specs.Demand.{EitherOrderOfMessages, demand-3-messages, AsOneAfterOther, any-mixture}
+use Rattle.laws.specs.Demand.{AsOneAfterOther, any-mixture}
 use Rattle.megaco.proofs.Opened.{opened}
 
 -- a message with this inside, and the transaction that it reads as
@@ -56,15 +56,15 @@ one = "T=7{C=1{PR=3,EG,S=L/1/1,S=R/1,A=l/8/31{M{O{MO=SR}}}},C=-{MF=L/1/1{M{TS{SI
 abbrev pub two : String
 two = "T=8{C=2{O-A=R/9,S=R/2,S=L/1/3},C=200{O-MV=ROOT},C=2{A=L/1/6},C=-{MF=L/1/4{M{O{MO=LB}}}}}"
 
-reads-one : messageR (message one) ≡ wellFormed (read one ∷ [])
+pub reads-one : messageR (message one) ≡ wellFormed (read one ∷ [])
 unfolding tests
 reads-one = refl
 
-reads-two : messageR (message two) ≡ wellFormed (read two ∷ [])
+pub reads-two : messageR (message two) ≡ wellFormed (read two ∷ [])
 unfolding tests
 reads-two = refl
 
-start-sound : sound start ≡ true
+pub start-sound : sound start ≡ true
 unfolding tests
 start-sound = refl
 
@@ -93,9 +93,6 @@ replies = (refl, refl)
 
 pub apart : Apart start (read one) (read two)
 apart = apart-is start (read one) (read two) .0 meets
-
-pub they-end-alike : EitherOrderOfMessages start (message one) (message two)
-they-end-alike = demand-3-messages start start-sound (message one) (message two) (read one) (read two) reads-one reads-two apart
 
 -- ---- and turn by turn
 

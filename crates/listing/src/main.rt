@@ -1,8 +1,9 @@
 // The listing program: one message per line of standard input, from a fresh table. For each line it prints the reply or
 // `refused 1`, and at the end of the input the contexts.
 ghost use Prim.Native.Nat.{_≤_, _<_};
-ghost use lib.ListN.{length};
-ghost use Rattle.sessions.specs.Session.{Answers, Holds, Turned, Finished, answerRoom};
+ghost use mathlib.Core.Path.{_≡_};
+ghost use lib.ListN.{length, take};
+ghost use Rattle.sessions.specs.Session.{between, takenIn, Answers, Holds, Turned, Took, Input, Finished, answerRoom};
 use gateway::Outcome;
 
 // After a turn: the place in the chunk where the next one starts, how many bytes of a line are held, how many are to be printed.
@@ -65,7 +66,7 @@ fn take_turn(
     }
 }
 
-// Prints the answers to the lines that end in a chunk.
+// Prints the answers to the lines that end in a chunk. That they are printed, and where, no promise says: the kit's `write_all` makes none.
 fn take_chunk(
     chunk: &[u8],
     line: &mut [u8],
@@ -76,6 +77,7 @@ fn take_chunk(
     requires { ⌜ Holds (now line) held ⌝ }
     requires { ⌜ answerRoom ≤ length (now out) ⌝ }
     ensures { λ r. ⌜ Holds (now (line .exit)) r ⌝ }
+    ensures { λ r. ⌜ takenIn (take held (now (line .entry))) (now (table .entry)) (now (chunk .entry)) ≡ between (take r (now (line .exit))) (now (table .exit)) ⌝ }
 {
     let mut h = held;
     let mut from = 0;
@@ -89,11 +91,12 @@ fn take_chunk(
     h
 }
 
-// Reads once, and takes what came. A read that fails ends the input.
+// Reads once, and takes what came. A read that fails ends the input. What is read is whatever the C library gives: nothing is assumed of it.
 fn take_some(line: &mut [u8], held: usize, table: &mut [u32], out: &mut [u8]) -> Progress
     requires { ⌜ Holds (now line) held ⌝ }
     requires { ⌜ answerRoom ≤ length (now out) ⌝ }
     ensures { λ r. ⌜ Holds (now (line .exit)) (r .held) ⌝ }
+    ensures { λ r. ⌜ Took (now (line .entry)) held (now (table .entry)) (now (line .exit)) (now (table .exit)) (r .more) (r .held) ⌝ }
 {
     let mut chunk = io::large_buffer();
     let got = libc::read(0, &mut chunk);
@@ -111,6 +114,7 @@ fn take_input(line: &mut [u8], table: &mut [u32], out: &mut [u8]) -> usize
     requires { ⌜ Holds (now line) 0 ⌝ }
     requires { ⌜ answerRoom ≤ length (now out) ⌝ }
     ensures { λ r. ⌜ Holds (now (line .exit)) r ⌝ }
+    ensures { λ r. ⌜ Input (now (table .entry)) (now (line .exit)) (now (table .exit)) r ⌝ }
 {
     let mut h: usize = 0;
     let mut turns = u64::MAX;
@@ -137,7 +141,7 @@ fn finish_line(line: &[u8], held: usize, table: &mut [u32], out: &mut [u8]) -> u
     answer_line(&line[0..held], table, out)
 }
 
-// Moves bytes: what it prints was put into `out` by the functions above and by crate sessions.
+// Moves bytes: what it prints was put into `out` by the functions above and by crate sessions. Output that can't be written is lost.
 fn main() {
     let mut table = [0u32; 754];
     let mut line = [0u8; 4097];

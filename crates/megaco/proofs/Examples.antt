@@ -52,7 +52,7 @@ ended = set alone 316 3
 
 -- ---- the rows
 
-pub examples : List Row
+unfoldable pub examples : List Row
 examples =
     row 8 fresh (text "!/1 [10.0.0.1] T=7{C=${A=L/1/5,A=$}}") (text "!/1 [10.0.0.9] P=7{C=1{A=L/1/5,A=R/1}}") called
     ∷ row 8 called (text "!/1 [10.0.0.1] T=8{C=1{A=L/1/5}}") (text "!/1 [10.0.0.9] P=8{C=1{A=L/1/5{ER=433{}}}}") called

@@ -23,7 +23,7 @@ use Rattle.parts.specs.declared.ValuePlaces.{ValuePlaces}
 use Rattle.parts.specs.declared.ItemPlaces.{ItemPlaces}
 use Rattle.parts.specs.declared.Marks.{Marks}
 use Rattle.parts.specs.declared.CommandPlaces.{CommandPlaces}
-use Rattle.parts.specs.Found.{inQuotes, valueFrom, OfValue, OfItem, itemFrom, marksOf, OfCommand, itemsFrom, commandFrom, commandEndFrom}
+use Rattle.parts.specs.Found.{inQuotes, valueFrom, valuePlaces, OfValue, OfItem, itemFrom, marksOf, OfCommand, itemsFrom, commandFrom, commandEndFrom}
 
 -- where a reader stopped
 pub end-next : (x : Parsed) (p : ℕ) → x ≡ Next p → p ≡ endOf x
@@ -77,18 +77,19 @@ command-ends s at e r h f = f ∙ rw (h .braces, h .inside, h .end)
 module _ (s : List ℕ) (at : ℕ) (x : Bool) (g : x ≡ isAt s at equal) where
   pub value-given : (a e z : ℕ) (v : Parsed) (q : Bool) (p : Piece) → x ≡ true → a ≡ pastSign equal s at → v ≡ valueAt s a → e ≡ endOf v → q ≡ isAt s a quote → Holds s a e p
       → z ≡ pastWhite s e → OfValue s at (record { given = true; quoted = q; plain = p; end = z })
-  unfolding valueItemAt valueEnd valueFrom valueOf inQuotes pick
+  unfolding valuePlaces valueItemAt valueEnd valueFrom valueOf inQuotes pick
   value-given a e z v q p t ea ev ee eq w ez =
       record {
+        is = sym (rw (← g, t, ← ea, ← ev, ← ee, ← eq, ← ez, ← w .is));
         tree = rw (← g, t, ← ea, ← ev, ← ee, eq, w .bytes);
         ordered = w .ordered;
         inside = w .inside;
         end = ez ∙ rw (← g, t, ← ea, ← ev, ← ee);
       }
 
-  pub value-none : (p : Piece) (a e : ℕ) → x ≡ false → Holds s a e p → OfValue s at (record { given = false; quoted = false; plain = p; end = at })
-  unfolding valueItemAt valueFrom pick
-  value-none p a e f w = record { tree = rw (← g, f); ordered = w .ordered; inside = w .inside; end = rw (← g, f) }
+  pub value-none : (p : Piece) → x ≡ false → Holds s 0 0 p → OfValue s at (record { given = false; quoted = false; plain = p; end = at })
+  unfolding valuePlaces valueItemAt valueFrom pick
+  value-none p f w = record { is = sym (rw (← g, f, ← w .is)); tree = rw (← g, f); ordered = w .ordered; inside = w .inside; end = rw (← g, f) }
 
 -- ---- an item that was found
 

@@ -1,18 +1,19 @@
 -- What is promised of the parts that are found: they are those of the tree told by position (crate `syntax`, Places).
 use Prim.Native.Nat.{ℕ, _+_, _-_, _≤_}
 use mathlib.Core.Path.{_≡_}
+use mathlib.Core.Bool.{true, false}
 use mathlib.Core.List.{List}
 use mathlib.Core.Option.{Option, none, some}
 use lib.ListN.{length}
 use Rattle.base.specs.Pick.{pick}
 use Rattle.base.specs.Lists.{isAt, part}
-use Rattle.megaco.specs.Bytes.{equal, leftBrace, rightBrace, slash}
+use Rattle.megaco.specs.Bytes.{equal, leftBrace, rightBrace, slash, quote}
 use Rattle.megaco.specs.Tree.{Value, plain, quoted, ItemOf, item, Items, Command, command}
 use Rattle.megaco.specs.Reading.{prefixAt, prefixEnd}
 use Rattle.syntax.specs.declared.Piece.{Piece}
 use Rattle.syntax.specs.Places.{orderStart, equalPlace, valueEnd, valueItemAt, headEnd, itemsAt, orderEnd, nameStart, nameEnd, commandHeadEnd}
-use Rattle.syntax.specs.Pieces.{Holds}
-use Rattle.syntax.specs.Production.{pastSign, wordEnd}
+use Rattle.syntax.specs.Pieces.{pieceOf, Holds}
+use Rattle.syntax.specs.Production.{pastWhite, pastSign, wordEnd}
 use Rattle.parts.specs.declared.ValuePlaces.{ValuePlaces}
 use Rattle.parts.specs.declared.ItemPlaces.{ItemPlaces}
 use Rattle.parts.specs.declared.Marks.{Marks}
@@ -31,7 +32,15 @@ inQuotes s at = part s (pastSign equal s at + 1) (valueEnd s at - 1)
 unfoldable pub valueFrom : List ℕ → ℕ → ValuePlaces → Option Value
 valueFrom s at r = pick (r .given) (some (pick (r .quoted) (quoted (inQuotes s at)) (plain (bytesOf s (r .plain))))) none
 
+-- where there is no value: no quotes and no bytes
+unfoldable pub valuePlaces : List ℕ → ℕ → ValuePlaces
+valuePlaces s at =
+    let a = pastSign equal s at in
+    let given : ValuePlaces = record { given = true; quoted = isAt s a quote; plain = pieceOf s a (valueEnd s at); end = pastWhite s (valueEnd s at) } in
+    let none : ValuePlaces = record { given = false; quoted = false; plain = pieceOf s 0 0; end = at } in pick (isAt s at equal) given none
+
 pub record OfValue (s : List ℕ) (at : ℕ) (r : ValuePlaces) : Type 0 where
+  pub is : r ≡ valuePlaces s at
   pub tree : valueItemAt s at .tree ≡ valueFrom s at r
   pub ordered : r .plain .from ≤ r .plain .to
   pub inside : r .plain .to ≤ length s

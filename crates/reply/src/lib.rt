@@ -3,7 +3,7 @@ ghost use mathlib.Core.Path.{_≡_};
 ghost use Prim.Native.Nat.{min};
 ghost use Rattle.base.specs.Out.{Appended};
 ghost use Rattle.megaco.specs.Reply.{errorText, contextText, replyText, headerText};
-ghost use Rattle.reply.specs.Texts.{replyOpen, actionOpen, Limited};
+ghost use Rattle.reply.specs.Texts.{replyOpen, actionOpen, limitedFrom};
 use megaco::Context;
 
 // An action's context.
@@ -67,9 +67,9 @@ fn low(a: usize, b: usize) -> usize
     if a < b { a } else { b }
 }
 
-// A transaction's `P=id{..}` from a scratch buffer of 2,049 bytes: copied, or 533 where it reached the scratch buffer's end.
+// A transaction's `P=id{..}` of n bytes from a scratch buffer: copied, or 533 where it is over 2,048 bytes.
 pub fn put_limited(out: &mut [u8], at: usize, id: u32, scratch: &[u8], n: usize) -> usize
-    ensures { λ r. ⌜ Limited id (now (scratch .entry)) n (now (out .entry)) at (now (out .exit)) r ⌝ }
+    ensures { λ r. ⌜ Appended (now (out .entry)) at (limitedFrom id (now (scratch .entry)) n) (now (out .exit)) r ⌝ }
 {
     if n < 2049 {
         let e = low(n, scratch.len());

@@ -1,5 +1,5 @@
 -- The loops over a transaction's actions and a message's transactions.
-use Prim.Native.Nat.{ℕ, zero, suc, _+_, _-_, _<_, _≤_, min}
+use Prim.Native.Nat.{ℕ, zero, suc, _+_, _-_, _<_, _≤_, min, max}
 use mathlib.Core.Path.{_≡_, refl, sym, ap, _∙_, subst}
 use mathlib.Core.List.{List, [], _∷_}
 use mathlib.Core.Bool.{Bool, true, false}
@@ -9,7 +9,7 @@ use borrow.Author.Tests.{lt-ltb, le-ltb}
 use native.Mathlib.Omega.{arith}
 use Rattle.base.specs.Pick.{pick}
 use Rattle.base.specs.Lists.{isAt}
-use Rattle.base.specs.Bytes.{text, _then_}
+use Rattle.base.specs.Bytes.{text, put, _then_}
 use Rattle.base.specs.Out.{Appended}
 use Rattle.base.proofs.OutLaws.{_▸_, none, copied, same-length-by}
 use Rattle.megaco.specs.Bytes.{comma}
@@ -26,14 +26,14 @@ use Rattle.syntax.specs.declared.Rest.{Rest}
 use Rattle.outline.specs.Outline.{actionPlaces}
 use Rattle.outline.specs.declared.ActionPlaces.{ActionPlaces}
 use Rattle.starts.specs.Starting.{propertiesIn}
-use Rattle.reply.specs.Texts.{replyOpen, actionOpen, Limited}
+use Rattle.reply.specs.Texts.{replyOpen, actionOpen, limitedFrom}
 use Rattle.reply.proofs.ReplyLaws.{action-is, reply-is, limited-is}
 use Rattle.laws.specs.Kept.{transaction-sound}
 use Rattle.tries.specs.Contract.{Did}
 use Rattle.tries.specs.declared.Went.{Went}
 use Rattle.tries.proofs.DidLaws.{lent-first}
 use Rattle.running.specs.Fold.{runAction, runActions, outcomeText}
-use Rattle.running.specs.Promises.{Acts, Wrote, Copied}
+use Rattle.running.specs.Promises.{around, Acts, Wrote}
 use Rattle.running.specs.declared.Moved.{Moved}
 use Rattle.running.proofs.Lists.{list-open, picked, left-out}
 use Rattle.running.proofs.FoldLaws.{transaction-is}
@@ -46,14 +46,34 @@ copy-is inner n e o at o′ r q a = subst (λ (l : List ℕ). Appended o at l o�
 
 -- its parts as they are written
 pub action-copied : (first : Bool) (c : Context) (inner : List ℕ) (n : ℕ) (o : List ℕ) (at : ℕ) (o₁ o₂ o₃ o₄ : List ℕ) (p q u r : ℕ)
-    → Appended o at (separator first) o₁ p → Appended o₁ p (actionOpen c) o₂ q → Appended o₂ q (take n inner) o₃ u → Appended o₃ u (text "}") o₄ r → Copied first c inner n o at o₄ r
-action-copied first c inner n o at o₁ o₂ o₃ o₄ p q u r f g k m =
-    record {
-      is = λ bs w z.
-          let l : length o₂ ≡ length o = same-length-by o₁ p (actionOpen c) o₂ q g ∙ same-length-by o at (separator first) o₁ p f in
-          let h : length o₂ ≤ q + length {A = ℕ} (replicate 2049 0) = rw (l, length-replicate {A = ℕ} 2049 0) (omega arith) in
-          f ▸ g ▸ copied (replicate 2049 0) bs inner n o₂ q o₃ u w h k ▸ m;
-    }
+    → Appended o at (separator first) o₁ p → Appended o₁ p (actionOpen c) o₂ q → Appended o₂ q (take n inner) o₃ u → Appended o₃ u (text "}") o₄ r → Appended o at (around first c (take n inner)) o₄ r
+unfolding around
+action-copied first c inner n o at o₁ o₂ o₃ o₄ p q u r f g k m = f ▸ g ▸ k ▸ m
+
+-- a text that is put, and the place after it
+abbrev after : List ℕ → ℕ → List ℕ → ℕ
+after o at x = max at (min (at + length x) (length o))
+
+-- around the reports in a scratch buffer of 2,049 bytes, of which n are used, into a buffer that is no longer: nothing is lost
+copied-around : (first : Bool) (c : Context) (inner : List ℕ) (n : ℕ) (o : List ℕ) (at : ℕ) (o′ : List ℕ) (r : ℕ) (bs : List ℕ) → Appended (replicate 2049 0) 0 bs inner n → length o ≤ 2049
+    → Appended o at (around first c (take n inner)) o′ r → Appended o at (around first c bs) o′ r
+unfolding around
+copied-around first c inner n o at o′ r bs w z a =
+    let o₁ : List ℕ = put o at (separator first) in
+    let p : ℕ = after o at (separator first) in
+    let o₂ : List ℕ = put o₁ p (actionOpen c) in
+    let q : ℕ = after o₁ p (actionOpen c) in
+    let o₃ : List ℕ = put o₂ q (take n inner) in
+    let u : ℕ = after o₂ q (take n inner) in
+    let f : Appended o at (separator first) o₁ p = record { text = refl; next = refl } in
+    let g : Appended o₁ p (actionOpen c) o₂ q = record { text = refl; next = refl } in
+    let k : Appended o₂ q (take n inner) o₃ u = record { text = refl; next = refl } in
+    let m : Appended o₃ u (text "}") (put o₃ u (text "}")) (after o₃ u (text "}")) = record { text = refl; next = refl } in
+    let l : length o₂ ≡ length o = same-length-by o₁ p (actionOpen c) o₂ q g ∙ same-length-by o at (separator first) o₁ p f in
+    let h : length o₂ ≤ q + length {A = ℕ} (replicate 2049 0) = rw (l, length-replicate {A = ℕ} 2049 0) (omega arith) in
+    let x = f ▸ g ▸ k ▸ m in
+    let y = f ▸ g ▸ copied (replicate 2049 0) bs inner n o₂ q o₃ u w h k ▸ m in
+    record { text = a .text ∙ sym (x .text) ∙ y .text; next = a .next ∙ sym (x .next) ∙ y .next }
 
 action-at : (s : List ℕ) (i : ℕ) (a : ActionPlaces) (rest : Rest) → a ≡ actionPlaces s i → rest ≡ restOf (unlimited s) s (a .body)
     → action (a .context) (propertiesIn s (a .body)) (commandsIn s rest) ≡ actionAt s i .tree
@@ -62,23 +82,23 @@ action-at s i a rest e f = rw (f, e)
 
 -- an action whose reports were put into a buffer of their own
 pub acts-by : (x : Outcome) (first : Bool) (t′ inner : List ℕ) (w : Went) (o : List ℕ) (at : ℕ) (o′ : List ℕ) (r : ℕ)
-    → Did x true (replicate 2049 0) 0 t′ inner w → Copied first (w .at) inner (w .next) o at o′ r → length o ≤ 2049
+    → Did x true (replicate 2049 0) 0 t′ inner w → Appended o at (around first (w .at) (take (w .next) inner)) o′ r → length o ≤ 2049
     → (y : ℕ) → Acts x first o at t′ o′ (record { next = r; going = w .going; end = y })
-unfolding outcomeText
+unfolding outcomeText around
 acts-by x first t′ inner w o at o′ r d k h y =
     record {
       table = d .table;
       text =
           subst (λ (b : List ℕ). Appended o at (separator first then b) o′ r)
           (sym (action-is (w .at) (x .reports)) ∙ ap (λ (c : Context). actionText c (x .reports)) (d .place))
-          (k .is (reportsText true (x .reports)) (d .text) h);
+          (copied-around first (w .at) inner (w .next) o at o′ r (reportsText true (x .reports)) (d .text) h k);
       going = d .going;
     }
 
 -- the action at a place, its parts found
 pub action-acts : (s : List ℕ) (i : ℕ) (a : ActionPlaces) (rest : Rest) (first : Bool) (t t′ z inner : List ℕ) (w : Went) (o : List ℕ) (at : ℕ) (o′ : List ℕ) (r y : ℕ)
     → a ≡ actionPlaces s i → rest ≡ restOf (unlimited s) s (a .body) → z ≡ replicate 2049 0
-    → Did (runAction (action (a .context) (propertiesIn s (a .body)) (commandsIn s rest)) t) true z 0 t′ inner w → Copied first (w .at) inner (w .next) o at o′ r → length o ≤ 2049
+    → Did (runAction (action (a .context) (propertiesIn s (a .body)) (commandsIn s rest)) t) true z 0 t′ inner w → Appended o at (around first (w .at) (take (w .next) inner)) o′ r → length o ≤ 2049
     → Acts (runAction (actionAt s i .tree) t) first o at t′ o′ (record { next = r; going = w .going; end = y })
 action-acts s i a rest first t t′ z inner w o at o′ r y e f g d k h =
     let b : Action = action (a .context) (propertiesIn s (a .body)) (commandsIn s rest) in
@@ -182,7 +202,7 @@ module _ (x : Ran) (o : List ℕ) (p₀ : ℕ) (s : List ℕ) (k i : ℕ) (f : B
 -- ---- a transaction
 
 pub transaction-wrote : (id : ℕ) (acts : List Action) (t z z₁ z₂ z₃ : List ℕ) (n m e : ℕ) (t′ o : List ℕ) (p : ℕ) (o′ : List ℕ) (r : ℕ) → z ≡ replicate 2049 0
-    → Appended z 0 (replyOpen id) z₁ n → Wrote (runActions acts true t) z₁ n t′ z₂ m → Appended z₂ m (text "}") z₃ e → Limited id z₃ e o p o′ r
+    → Appended z 0 (replyOpen id) z₁ n → Wrote (runActions acts true t) z₁ n t′ z₂ m → Appended z₂ m (text "}") z₃ e → Appended o p (limitedFrom id z₃ e) o′ r
     → Wrote (runTransaction (transaction id acts) t) o p t′ o′ r
 transaction-wrote id acts t z z₁ z₂ z₃ n m e t′ o p o′ r q f w g l =
     let y : Ran = runActions acts true t in

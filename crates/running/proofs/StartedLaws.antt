@@ -21,9 +21,9 @@ use Rattle.syntax.specs.Production.{listOf}
 use Rattle.syntax.specs.Places.{commandsAt, commandsIn, bodyEnd}
 use Rattle.syntax.specs.declared.Rest.{Rest}
 use Rattle.orders.specs.Orders.{heldAt}
-use Rattle.starts.specs.Starting.{propertiesIn, startCode, wroteStart, OfProperties}
+use Rattle.starts.specs.Starting.{propertiesIn, startCode, wroteStart, givenBy}
 use Rattle.starts.specs.declared.Given.{Given}
-use Rattle.starts.proofs.StartLaws.{start-writes-is, start-done, start-refused, start-over, any-given}
+use Rattle.starts.proofs.StartLaws.{given-over, given-fresh, given-held, start-writes-is, start-done, start-refused, start-over, any-given}
 use Rattle.commands.specs.Fails.{Failed}
 use Rattle.laws.specs.Sound.{sound-whole}
 use Rattle.tries.specs.Contract.{Did}
@@ -73,7 +73,7 @@ unfolding startReports pick
 reports-none ps held = refl
 
 module _ (s : List ℕ) (c : Context) (body : ℕ) (rest : Rest) (t o : List ℕ) (held : ℕ) (any : Bool) (g : Given) (code : ℕ) (e : held ≡ heldAt c t)
-    (f : any ≡ isProperty (wordHere s body)) (h : OfProperties s body held g) (k : code ≡ startCode c any (g .over) (not (rest .commands)) held) where
+    (f : any ≡ isProperty (wordHere s body)) (h : g ≡ givenBy (propertiesIn s body) held) (k : code ≡ startCode c any (g .over) (not (rest .commands)) held) where
   abbrev ps : List Property
   ps = propertiesIn s body
 
@@ -84,7 +84,7 @@ module _ (s : List ℕ) (c : Context) (body : ℕ) (rest : Rest) (t o : List ℕ
   any-is = f ∙ sym (any-given s body)
 
   code-is : code ≡ startCode c (anyGiven ps) (over15 ps) (noCommands cs) (heldAt c t)
-  code-is = k ∙ (λ i. startCode c (any-is i) (h .over i) (sym (alone-is s rest) i) (e i))
+  code-is = k ∙ (λ i. startCode c (any-is i) (given-over ps held g h i) (sym (alone-is s rest) i) (e i))
 
   -- the turn in which an action starts
   abbrev starts : Turn
@@ -100,13 +100,13 @@ module _ (s : List ℕ) (c : Context) (body : ℕ) (rest : Rest) (t o : List ℕ
   passed z = start-done c ps (noCommands cs) (heldAt c t) (startWrites c ps (heldAt c t)) (sym code-is ∙ z)
 
   small : code ≡ 0 → g .over ≡ false
-  small z = h .over ∙ start-over c ps (noCommands cs) (heldAt c t) (sym code-is ∙ z)
+  small z = given-over ps held g h ∙ start-over c ps (noCommands cs) (heldAt c t) (sym code-is ∙ z)
 
   wrote : (u : List ℕ) → code ≡ 0 → u ≡ apply (wroteStart c any (g .held)) t → u ≡ apply (startWrites c ps (heldAt c t)) t
   wrote u z q =
       q
       ∙ ap (λ (ws : List Write). apply ws t)
-      ((λ i. wroteStart c (any-is i) ((h .held (small z) ∙ ap (setProperties ps) e) i)) ∙ start-writes-is c ps (heldAt c t))
+      ((λ i. wroteStart c (any-is i) ((given-held ps held g h (small z) ∙ ap (setProperties ps) e) i)) ∙ start-writes-is c ps (heldAt c t))
 
   -- commands follow
   pub inner-commands : (u t′ o′ : List ℕ) (w : Went) → code ≡ 0 → u ≡ apply (wroteStart c any (g .held)) t → rest .commands ≡ true
@@ -116,7 +116,7 @@ module _ (s : List ℕ) (c : Context) (body : ℕ) (rest : Rest) (t o : List ℕ
       let r : startReports ps (noCommands cs) (heldAt c t) ≡ [] = ap (λ (x : Bool). startReports ps x (heldAt c t)) (alone-is s rest ∙ ap not b) ∙ reports-none ps (heldAt c t) in
       let x : Outcome = runCommands (commandsAt s (rest .at) .tree) (g .fresh) c u in
       let y : Outcome = runCommands cs (setProperties ps newRecord) c (apply (startWrites c ps (heldAt c t)) t) in
-      let m : x ≡ y = λ i. runCommands (sym l i) (h .fresh (small z) i) c (wrote u z q i) in
+      let m : x ≡ y = λ i. runCommands (sym l i) (given-fresh ps held g h (small z) i) c (wrote u z q i) in
       rw (action-done c ps cs t (passed z), r) (subst (λ (v : Outcome). Did (outcome (v .table) (v .reports) (v .at) (v .going)) true o 0 t′ o′ w) m d)
 
   -- properties alone
@@ -128,7 +128,7 @@ module _ (s : List ℕ) (c : Context) (body : ℕ) (rest : Rest) (t o : List ℕ
       ap (λ (x : Bool). startReports ps x (heldAt c t)) (alone-is s rest ∙ ap not b) ∙ reports-alone ps (heldAt c t) in
       let y : runCommands cs (setProperties ps newRecord) c (apply (startWrites c ps (heldAt c t)) t) ≡ outcome (apply (startWrites c ps (heldAt c t)) t) [] c true =
       ap (λ (x : List Command). runCommands x (setProperties ps newRecord) c (apply (startWrites c ps (heldAt c t)) t)) l ∙ no-runs (setProperties ps newRecord) c (apply (startWrites c ps (heldAt c t)) t) in
-      let v : g .held ≡ setProperties ps (heldAt c t) = h .held (small z) ∙ ap (setProperties ps) e in
+      let v : g .held ≡ setProperties ps (heldAt c t) = given-held ps held g h (small z) ∙ ap (setProperties ps) e in
       rw (action-done c ps cs t (passed z), y, r) (record { table = wrote u z q; text = rw (← v) a; place = refl; going = refl })
 
 -- where an action's body ends

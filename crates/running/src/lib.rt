@@ -13,7 +13,7 @@ ghost use Rattle.orders.specs.Orders.{heldAt};
 ghost use Rattle.starts.specs.Starting.{propertiesIn};
 ghost use Rattle.tries.specs.Contract.{Did};
 ghost use Rattle.running.specs.Fold.{runCommands, runAction, runActions};
-ghost use Rattle.running.specs.Promises.{Copied, Acts, Wrote};
+ghost use Rattle.running.specs.Promises.{around, Acts, Wrote};
 use commands::Passed;
 use megaco::Context;
 use syntax::Rest;
@@ -140,9 +140,9 @@ fn copy(out: &mut [u8], p: usize, inner: &[u8], n: usize) -> usize
     writer::put_bytes(out, p, &inner[0..e])
 }
 
-// An action's text around its reports.
+// An action's text around the first n bytes of another buffer, which holds its reports.
 fn put_action(out: &mut [u8], p: usize, first: bool, c: Context, inner: &[u8], n: usize) -> usize
-    ensures { λ r. ⌜ Copied first c (now (inner .entry)) n (now (out .entry)) p (now (out .exit)) r ⌝ }
+    ensures { λ r. ⌜ Appended (now (out .entry)) p (around first c (take n (now (inner .entry)))) (now (out .exit)) r ⌝ }
 {
     let q = report::put_separator(out, p, first);
     let u = reply::put_action_open(out, q, c);

@@ -15,9 +15,10 @@ use Rattle.base.proofs.TextLaws.{none-then}
 use Rattle.laws.specs.Sound.{fresh-sound}
 use Rattle.sessions.specs.Lines.{lineEnd, linesOf, Unended, nothing, lineFrom, lineEndAt}
 use Rattle.sessions.specs.Listing.{lines, reportText}
-use Rattle.sessions.specs.Session.{ready, answered, answerText, sessionText, restText, lineRoom, answerRoom, Answers, Holds, Turned, Finished, freshTable, printedText, joined, Run, turn, read, end}
+use Rattle.sessions.specs.Session.{ready, answered, answerText, sessionText, restText, lineRoom, takenIn, answerRoom, Answers, Holds, Turned, Finished, freshTable, printedText, joined, Run, turn, read, end}
 use Rattle.sessions.proofs.AnswerLaws.{long-alike, answer-fits, answered-ready}
 use Rattle.sessions.proofs.FitLaws.{report-fits}
+use Rattle.sessions.proofs.TakenLaws.{taken-part, taken-end}
 use Rattle.sessions.proofs.LineLaws.{unended-before, unended-append, unended-take, fronted, lines-fronted, firstOf, fronted-is, lines-ended, chunk-ended, chunk-open}
 
 -- ---- a line that is too long
@@ -73,6 +74,11 @@ module _ (line : List ℕ) (held : ℕ) (hold : Holds line held) (g : List ℕ) 
         unended = rw held-is (unended-take (length line) (unended-append (hold .unended) u));
       }
 
+  taken-here : Unended g → (t s : List ℕ) → takenIn (take held line) t (g ++ s) ≡ takenIn (take h line′) t s
+  taken-here u t s =
+      let e : take lineRoom (take held line ++ g) ≡ take h line′ = ap (λ (k : ℕ). take k (take held line ++ g)) (sym (hold .room)) ∙ sym held-is in
+      taken-part u (take held line) t s (omega (arith, length-take held line, hold .within)) ∙ ap (λ (x : List ℕ). takenIn x t s) e
+
   rest-part : Unended g → (t s : List ℕ) → restText (take held line) t (g ++ s) ≡ restText (take h line′) t s
   unfolding restText
   rest-part u t s = rw (← append-assoc, held-is) (rest-cut (length line) (take held line ++ g) t s (omega (arith, hold .room)) (unended-append (hold .unended) u))
@@ -99,6 +105,7 @@ module _ (s : List ℕ) (from e : ℕ) (is : e ≡ lineEndAt s from) (line : Lis
       record {
         on = omega arith;
         holds = holds-none line′ (on .room);
+        taken = rw (chunk-ended s from e is l, a .table, front h line′) (taken-here line held hold (lineFrom s from) line′ h took u t (lineEnd ∷ drop (e + 1) s) ∙ taken-end (take h line′) t (drop (e + 1) s));
         kept = λ k. rw (a .table) (answered-ready (take (h - 0) line′) t k);
         said = answerText (answered (take (h - 0) line′) t);
         put = a .put;
@@ -114,6 +121,9 @@ module _ (s : List ℕ) (from e : ℕ) (is : e ≡ lineEndAt s from) (line : Lis
       record {
         on = omega arith;
         holds = holds-on line held hold (lineFrom s from) line′ h took u;
+        taken =
+            rw (drop-of-length-le s l, chunk-open s from e is l)
+            (ap (takenIn (take held line) t) (sym (append-nil (lineFrom s from))) ∙ taken-here line held hold (lineFrom s from) line′ h took u t []);
         kept = λ k. k;
         said = [];
         put = none o 0;

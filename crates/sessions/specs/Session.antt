@@ -1,7 +1,8 @@
 -- What a whole session prints (document 01, 'Sessions to check').
 use Prim.Native.Nat.{ℕ, _≤_, _<_}
 use mathlib.Core.Path.{_≡_}
-use mathlib.Core.Bool.{Bool, true, _&&_}
+use mathlib.Core.Bool.{Bool, true, not, _&&_}
+use mathlib.Core.Logic.{_⊎_}
 use mathlib.Core.List.{List, [], _∷_, _++_}
 use lib.ListN.{length, take, drop, replicate}
 use lib.Dec.{eqb}
@@ -46,16 +47,44 @@ restText h t s = sessionText (linesOf (h ++ s)) t
 unfoldable pub printedText : List ℕ → List ℕ
 printedText s = restText [] freshTable s
 
+-- ---- what is kept between two reads
+
+-- a line's buffer has one byte more than a message may have, so that a line that is too long is seen
+abbrev pub lineRoom : ℕ
+lineRoom = 4097
+
+-- the bytes that are held of a line that has not ended, and the table
+pub record Between : Type 0 where
+  pub held : List ℕ
+  pub table : List ℕ
+
+abbrev pub between : List ℕ → List ℕ → Between
+between h t = record { held = h; table = t }
+
+-- once more input is taken: each line that ends in it has been answered, and of one that has not the first 4,097 bytes are held
+unfoldable pub takenIn : List ℕ → List ℕ → List ℕ → Between
+takenIn h t [] = between h t
+takenIn h t (b ∷ s) = pick (eqb b lineEnd) (takenIn [] (answered h t .table) s) (takenIn (take lineRoom (h ++ (b ∷ []))) t s)
+
+-- reads one after another, the last one first
+unfoldable pub readSoFar : List (List ℕ) → List ℕ
+readSoFar [] = []
+readSoFar (s ∷ ss) = readSoFar ss ++ s
+
+-- a read that gives no byte ends the input
+pub data Ended : List (List ℕ) → Type 0 where
+  ended : {ss : List (List ℕ)} → Ended ([] ∷ ss)
+
+-- as many reads as the program makes at most
+abbrev pub mostReads : ℕ
+mostReads = 18446744073709551615
+
 -- ---- what the functions of the program promise
 
 -- the answer to a line stands at the start of a buffer, r bytes long, and the table is that of its call
 pub record Answers (m t o t′ o′ : List ℕ) (r : ℕ) : Type 0 where
   pub put : Appended o 0 (answerText (answered m t)) o′ r
   pub table : t′ ≡ answered m t .table
-
--- a line's buffer has one byte more than a message may have, so that a line that is too long is seen
-abbrev pub lineRoom : ℕ
-lineRoom = 4097
 
 -- a buffer for the answer to a line: a reply and a line end
 abbrev pub answerRoom : ℕ
@@ -67,16 +96,35 @@ pub record Holds (line : List ℕ) (held : ℕ) : Type 0 where
   pub within : held ≤ lineRoom
   pub unended : Unended (take held line)
 
--- a turn from place `from` of a chunk s to place `next`: `said` is to be printed, and whatever input comes later, that and what is
--- printed for the rest is what is printed from here
+-- a turn from place `from` of a chunk s to place `next`: what is kept when the chunk is taken is the same from both; `said` is to be printed,
+-- and whatever input comes later, that and what is printed for the rest is what is printed from here
 pub record Turned (s : List ℕ) (from : ℕ) (line : List ℕ) (held : ℕ) (t o line′ t′ o′ : List ℕ) (next held′ size : ℕ) : Type 0 where
   pub on : from < next
   pub holds : Holds line′ held′
+  pub taken : takenIn (take held line) t (drop from s) ≡ takenIn (take held′ line′) t′ (drop next s)
   pub kept : ready t ≡ true → ready t′ ≡ true
   pub said : List ℕ
   pub put : Appended o 0 said o′ size
   pub fits : length said ≤ length o
   pub rest : (later : List ℕ) → restText (take held line) t (drop from s ++ later) ≡ said then restText (take held′ line′) t′ (drop next s ++ later)
+
+-- one read: what came, what is kept once it is taken, and whether the input may go on
+pub record Took (line : List ℕ) (held : ℕ) (t line′ t′ : List ℕ) (more : Bool) (held′ : ℕ) : Type 0 where
+  pub chunk : List ℕ
+  pub taken : takenIn (take held line) t chunk ≡ between (take held′ line′) t′
+  pub on : more ≡ not (eqb (length chunk) 0)
+
+-- reads so far, n of them
+pub record Reads (t : List ℕ) (n : ℕ) (line′ t′ : List ℕ) (held′ : ℕ) : Type 0 where
+  pub chunks : List (List ℕ)
+  pub count : length chunks ≡ n
+  pub taken : takenIn [] t (readSoFar chunks) ≡ between (take held′ line′) t′
+
+-- the whole input: reads up to one that gave nothing, or as many as the program makes
+pub record Input (t line′ t′ : List ℕ) (held′ : ℕ) : Type 0 where
+  pub chunks : List (List ℕ)
+  pub taken : takenIn [] t (readSoFar chunks) ≡ between (take held′ line′) t′
+  pub whole : Ended chunks ⊎ (length chunks ≡ mostReads)
 
 -- the input has ended: `said` is to be printed for a line that is still held, and then the contexts
 pub record Finished (line : List ℕ) (held : ℕ) (t o t′ o′ : List ℕ) (size : ℕ) : Type 0 where

@@ -25,7 +25,7 @@ use Rattle.outline.specs.Outline.{propertyPlaces}
 use Rattle.attempt.specs.Judging.{codeOf, coded, byCode}
 use Rattle.attempt.proofs.JudgeLaws.{judge-code, by-refused}
 use Rattle.starts.specs.declared.Given.{Given}
-use Rattle.starts.specs.Starting.{overOne, setOne, propertiesIn, OfProperties, startCode, wroteStart}
+use Rattle.starts.specs.Starting.{overOne, setOne, propertiesIn, givenBy, startCode, wroteStart}
 
 -- ---- one property
 
@@ -94,11 +94,11 @@ module _ (s : List ℕ) (at held n i a b : ℕ) (inv : Leads (propertiesIn s at)
   now : (rs : List Property) → propertiesOf (length s + 1 - n) s i ≡ rs → Leads (propertiesIn s at) rs held a b
   now rs e = leads-as (propertiesIn s at) held a b (propertiesOf (length s + 1 - n) s i) rs inv e
 
-  all-set : (a′ b′ : ℕ) → Leads (propertiesIn s at) [] held a′ b′ → OfProperties s at held (given false a′ b′)
-  unfolding over15 setProperties
-  all-set a′ b′ h = record { over = sym (h .over); fresh = λ _. sym (h .fresh); held = λ _. sym (h .held) }
+  all-set : (a′ b′ : ℕ) → Leads (propertiesIn s at) [] held a′ b′ → given false a′ b′ ≡ givenBy (propertiesIn s at) held
+  unfolding givenBy over15 setProperties pick
+  all-set a′ b′ h = rw (h .over, h .fresh, h .held)
 
-  pub read-none : length s < n → OfProperties s at held (given false a b)
+  pub read-none : length s < n → given false a b ≡ givenBy (propertiesIn s at) held
   unfolding propertiesOf
   read-none h =
       let z : length s + 1 - n ≡ 0 = omega arith in
@@ -110,7 +110,7 @@ module _ (s : List ℕ) (at held n i a b : ℕ) (inv : Leads (propertiesIn s at)
     unfolding propertiesOf
     turn = let k : length s + 1 - n ≡ suc (length s + 1 - (n + 1)) = omega arith in rw (k, d)
 
-    pub read-end : z ≡ false → OfProperties s at held (given false a b)
+    pub read-end : z ≡ false → given false a b ≡ givenBy (propertiesIn s at) held
     unfolding pick
     read-end f = all-set a b (now [] (turn ∙ rw f))
 
@@ -126,20 +126,18 @@ module _ (s : List ℕ) (at held n i a b : ℕ) (inv : Leads (propertiesIn s at)
           now (p .property ∷ behind) (turn ∙ rw (t, x, q))
 
       module _ (o : Bool) (w : o ≡ overOne (p .property)) where
-        pub read-over : o ≡ true → OfProperties s at held (given true a b)
+        pub read-over : o ≡ true → given true 0 0 ≡ givenBy (propertiesIn s at) held
+        unfolding givenBy pick
         read-over f =
             let x : overOne (p .property) ≡ true = sym w ∙ f in
-            record {
-              over = sym (one .over ∙ over-cons (p .property) behind ∙ rw x);
-              fresh = λ y. absurd (true≢false y);
-              held = λ y. absurd (true≢false y);
-            }
+            let y : over15 (propertiesIn s at) ≡ true = one .over ∙ over-cons (p .property) behind ∙ rw x in
+            rw y
 
         module _ (f : o ≡ false) (a′ b′ : ℕ) (ea : a′ ≡ setOne (p .property) a) (eb : b′ ≡ setOne (p .property) b) (x : Bool) (g : x ≡ isAt s (p .end) comma) where
           next : (rs : List Property) → behind ≡ rs → Leads (propertiesIn s at) rs held a′ b′
           next rs k = rw (ea, eb, ← k) (leads-on (propertiesIn s at) held a b (p .property) behind (sym w ∙ f) one)
 
-          pub read-last : x ≡ false → OfProperties s at held (given false a′ b′)
+          pub read-last : x ≡ false → given false a′ b′ ≡ givenBy (propertiesIn s at) held
           unfolding pick behind
           read-last k = all-set a′ b′ (next [] (rw (← g, k)))
 
@@ -147,6 +145,20 @@ module _ (s : List ℕ) (at held n i a b : ℕ) (inv : Leads (propertiesIn s at)
               → Leads (propertiesIn s at) (propertiesOf (length s + 1 - (n + 1)) s u) held a′ b′
           unfolding pick behind
           read-more u k l = next (propertiesOf (length s + 1 - (n + 1)) s u) (rw (← g, k, l))
+
+-- who has them as one value has each of them
+module _ (ps : List Property) (was : ℕ) (g : Given) (e : g ≡ givenBy ps was) where
+  pub given-over : g .over ≡ over15 ps
+  unfolding givenBy
+  given-over = ap (λ (x : Given). x .over) e
+
+  pub given-fresh : g .over ≡ false → g .fresh ≡ setProperties ps newRecord
+  unfolding givenBy pick
+  given-fresh f = ap (λ (x : Given). x .fresh) e ∙ rw (sym given-over ∙ f)
+
+  pub given-held : g .over ≡ false → g .held ≡ setProperties ps was
+  unfolding givenBy pick
+  given-held f = ap (λ (x : Given). x .held) e ∙ rw (sym given-over ∙ f)
 
 -- ---- the code of the tests
 

@@ -1,6 +1,5 @@
 -- What the functions of an action's start promise.
 use Prim.Native.Nat.{ℕ, _+_, _*_}
-use mathlib.Core.Path.{_≡_}
 use mathlib.Core.Bool.{Bool, false, _&&_}
 use mathlib.Core.List.{List, [], _∷_}
 use lib.Dec.{ltb, eqb}
@@ -29,10 +28,9 @@ setOne Emergency r = 1 + priorityOf r + 16
 unfoldable pub propertiesIn : List ℕ → ℕ → List Property
 propertiesIn s at = propertiesOf (unlimited s) s at
 
-pub record OfProperties (s : List ℕ) (at was : ℕ) (r : Given) : Type 0 where
-  pub over : r .over ≡ over15 (propertiesIn s at)
-  pub fresh : r .over ≡ false → r .fresh ≡ setProperties (propertiesIn s at) newRecord
-  pub held : r .over ≡ false → r .held ≡ setProperties (propertiesIn s at) was
+-- what properties make of a new context's record and of the one held; 0 where a priority is over 15, and nothing is set
+unfoldable pub givenBy : List Property → ℕ → Given
+givenBy ps was = record { over = over15 ps; fresh = pick (over15 ps) 0 (setProperties ps newRecord); held = pick (over15 ps) 0 (setProperties ps was) }
 
 -- the code of the first test that fails at the start, 0 if there is none
 unfoldable pub startCode : Context → Bool → Bool → Bool → ℕ → ℕ

@@ -3,12 +3,12 @@ ghost use mathlib.Core.Path.{_≡_};
 ghost use mathlib.Core.Bool.{true, false};
 ghost use Prim.Native.Nat.{_≤_};
 ghost use Rattle.megaco.specs.Table.{apply, priorityOf, emergencyOf};
-ghost use Rattle.starts.specs.Starting.{overOne, setOne, startCode, wroteStart, OfProperties};
+ghost use Rattle.starts.specs.Starting.{overOne, setOne, startCode, wroteStart, propertiesIn, givenBy};
 use megaco::Context;
 use megaco::Property;
 
 // The properties of an action: whether a priority is over 15, and if not, the record that they make of a new context's and of the
-// one held.
+// one held; else 0 for both.
 pub struct Given {
     pub over: bool,
     pub fresh: u32,
@@ -57,7 +57,7 @@ fn emergency(held: u32) -> u32
 // The properties that begin here.
 pub fn read_properties(s: &[u8], at: usize, held: u32) -> Given
     requires { ⌜ held ≤ 32 ⌝ }
-    ensures { λ r. ⌜ OfProperties (now (s .entry)) at held r ⌝ }
+    ensures { λ r. ⌜ r ≡ givenBy (propertiesIn (now (s .entry)) at) held ⌝ }
 {
     let mut i = at;
     let mut n: usize = 0;
@@ -71,8 +71,8 @@ pub fn read_properties(s: &[u8], at: usize, held: u32) -> Given
             if is_over(x) {
                 return Given {
                     over: true,
-                    fresh: a,
-                    held: b,
+                    fresh: 0,
+                    held: 0,
                 };
             }
             a = set_one(x, a);

@@ -9,6 +9,11 @@ use lib.ListN.{length, take, drop, length-drop, drop-of-length-le}
 use lib.Seq.{take-all, take-nil}
 use borrow.Author.Tests.{ltb-true, ltb-false}
 use Rattle.base.specs.Lists.{part}
+use Rattle.syntax.specs.Pieces.{pieceOf}
+
+pub piece-is : (s : List ℕ) (a e a₁ e₁ : ℕ) → e₁ ≡ min e (length s) → a₁ ≡ min a e₁ → record { from = a₁; to = e₁ } ≡ pieceOf s a e
+unfolding pieceOf
+piece-is s a e a₁ e₁ f g = rw (g, f)
 
 pub part-within : (s : List ℕ) (a e a₁ e₁ : ℕ) → e₁ ≡ min e (length s) → a₁ ≡ min a e₁ → part s a₁ e₁ ≡ part s a e
 unfolding part

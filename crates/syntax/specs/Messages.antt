@@ -1,10 +1,11 @@
 -- Transactions and the message by position. `Told m` stands beside a message that Reading (crate `megaco`) reads: the verdict, where a fault is
 -- told (first pass), the transactions, told without failing (second pass), and the law that both together are m.
 use Prim.Native.Nat.{ℕ, zero, suc, _+_}
-use mathlib.Core.Path.{_≡_, refl}
+use mathlib.Core.Path.{_≡_, refl, _∙_}
 use mathlib.Core.Bool.{Bool, true, false}
 use mathlib.Core.List.{List, [], _∷_}
 use lib.ListN.{length}
+use native.Mathlib.Omega.{arith}
 use lib.Dec.{ltb, eqb}
 use Rattle.base.specs.Pick.{pick}
 use Rattle.base.specs.Lists.{isAt}
@@ -85,6 +86,13 @@ unfoldable pub headerEnd : List ℕ → ℕ
 headerEnd s = endOf (senderAt s (nextIn (versionAt s)))
 
 -- ---- what is said of a message
+
+-- document 01's answer for each case: 0 where the message is run, else the code that is told
+unfoldable pub codeOf : Verdict → ℕ
+codeOf WellFormed = 0
+codeOf Fault400 = 400
+codeOf (Fault403 id) = 403
+codeOf WrongVersion406 = 406
 
 -- what the verdict and the tree told by position say together
 unfoldable pub told : Verdict → List Transaction → Message
@@ -248,3 +256,14 @@ messageOf s = messageAt s .tree
 -- "The whole message is read before anything runs": a message means what its verdict tells and, where it is well-formed, its tree told by position
 pub message-told : (s : List ℕ) → messageR s ≡ told (verdict s) (messageOf s)
 message-told s = messageAt s .law
+
+coded : (v : Verdict) (xs : List Transaction) → codeOf v ≡ 0 → told v xs ≡ wellFormed xs
+unfolding codeOf told
+coded WellFormed xs e = refl
+coded Fault400 xs e = absurd (omega (arith, e))
+coded (Fault403 id) xs e = absurd (omega (arith, e))
+coded WrongVersion406 xs e = absurd (omega (arith, e))
+
+-- where the code is 0, the message is the tree that is run
+pub run-at-0 : (s : List ℕ) → codeOf (verdict s) ≡ 0 → messageR s ≡ wellFormed (messageOf s)
+run-at-0 s e = message-told s ∙ coded (verdict s) (messageOf s) e

@@ -19,7 +19,7 @@ use Rattle.syntax.specs.declared.Verdict.{Verdict}
 use Rattle.syntax.specs.declared.Verdict.the-variants.{WellFormed, Fault400, Fault403, WrongVersion406}
 use Rattle.outline.specs.Outline.{transactionPlaces}
 use Rattle.outline.specs.declared.TransactionPlaces.{TransactionPlaces}
-use Rattle.reply.specs.Texts.{replyOpen, Limited}
+use Rattle.reply.specs.Texts.{replyOpen, limitedFrom}
 use Rattle.laws.specs.Kept.{transaction-sound}
 use Rattle.running.specs.Fold.{runActions}
 use Rattle.running.specs.Promises.{Wrote}
@@ -33,7 +33,7 @@ transaction-at s i a e = rw e
 
 pub transaction-runs : (s : List ℕ) (i : ℕ) (a : TransactionPlaces) (t z z₁ z₂ z₃ : List ℕ) (n m e : ℕ) (t′ o : List ℕ) (p : ℕ) (o′ : List ℕ) (r : ℕ) → a ≡ transactionPlaces s i
     → z ≡ replicate 2049 0 → Appended z 0 (replyOpen (a .id)) z₁ n → Wrote (runActions (actionsAt s (a .body) .tree) true t) z₁ n t′ z₂ m → Appended z₂ m (text "}") z₃ e
-    → Limited (a .id) z₃ e o p o′ r → Wrote (runTransaction (transactionOf s i) t) o p t′ o′ r
+    → Appended o p (limitedFrom (a .id) z₃ e) o′ r → Wrote (runTransaction (transactionOf s i) t) o p t′ o′ r
 transaction-runs s i a t z z₁ z₂ z₃ n m e t′ o p o′ r q g f w h l =
     subst (λ (x : Transaction). Wrote (runTransaction x t) o p t′ o′ r) (transaction-at s i a q)
     (transaction-wrote (a .id) (actionsAt s (a .body) .tree) t z z₁ z₂ z₃ n m e t′ o p o′ r g f w h l)

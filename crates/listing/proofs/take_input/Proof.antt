@@ -1,13 +1,18 @@
 use borrow.Author.Needs.{needs}
+use Prim.Native.Nat.{_-_, _≤_}
 use mathlib.Core.Path.{_≡_}
+use native.Mathlib.Omega.{arith}
 use lib.ListN.{length}
-use Rattle.sessions.specs.Session.{Holds}
+use borrow.Author.Tests.{not-true}
+use Rattle.sessions.specs.Session.{mostReads, Holds, Reads}
+use Rattle.sessions.proofs.TakenLaws.{reads-none, reads-on, reads-ended, reads-all}
 use Rattle.listing.proofs.take_input.Statement.{statement}
 use Rattle.listing.proofs.take_input.Tie as tie
 
 abbrev Inv-loop : tie.InvT-loop
 Inv-loop line₀ table₀ out₀ h₀ turns₀ line table out h turns =
     Holds line h × (length line ≡ length line₀) × (length table ≡ length table₀) × (length out ≡ length out₀)
+    × (turns ≤ mostReads) × Reads table₀ (mostReads - turns) line table h
 
 abbrev μ-loop : tie.MeasureT-loop
 μ-loop line₀ table₀ out₀ h₀ turns₀ line table out h turns = turns
@@ -18,16 +23,16 @@ take-input-spec =
     (tie.spec
     Inv-loop
     μ-loop
-    (λ c. (search needs, search needs, search needs, search needs))
+    (λ c. (search needs, search needs, search needs, search needs, omega arith, reads-none _ _))
     (λ c κs. (search needs, search needs))
     (λ c. search needs)
     (λ c. search needs)
     (λ c. search needs)
+    (λ c. (search needs, search (reads-ended, not-true)))
+    (λ c. search needs)
+    (λ c. search needs)
+    (λ c. (search needs, search needs, search needs, search needs, omega arith, search reads-on))
     (λ c. search needs)
     (λ c. search needs)
     (λ c. search needs)
-    (λ c. (search needs, search needs, search needs, search needs))
-    (λ c. search needs)
-    (λ c. search needs)
-    (λ c. search needs)
-    (λ c. search needs))
+    (λ c. (search needs, search reads-all)))

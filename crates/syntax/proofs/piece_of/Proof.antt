@@ -1,6 +1,6 @@
 use borrow.Author.Needs.{needs}
 use native.Mathlib.Omega.{arith}
-use Rattle.syntax.proofs.PartLaws.{part-within}
+use Rattle.syntax.proofs.PartLaws.{piece-is, part-within}
 use Rattle.syntax.proofs.piece_of.Statement.{statement}
 use Rattle.syntax.proofs.piece_of.Tie as tie
 
@@ -10,4 +10,4 @@ piece-of-spec =
     (tie.spec
     (λ c κs. search needs)
     (λ c κs. search needs)
-    (λ c. record { ordered = omega arith; inside = omega arith; bytes = search part-within }))
+    (λ c. record { is = search piece-is; ordered = omega arith; inside = omega arith; bytes = search part-within }))

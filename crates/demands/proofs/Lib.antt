@@ -1,0 +1,6 @@
+pub mod Turning
+pub mod Telling
+pub mod Admitting
+pub mod Ordering
+pub mod Witness
+pub mod Theorems

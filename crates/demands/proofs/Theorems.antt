@@ -1,0 +1,25 @@
+-- The three demands, met.
+use Rattle.laws.specs.Sound.{sound-whole, whole-sound}
+use Rattle.demands.specs.Demands.{From-C, Soundness, Demand-1, Demand-2, Demand-3, Pair}
+use Rattle.demands.proofs.Turning
+use Rattle.demands.proofs.Admitting
+use Rattle.demands.proofs.Ordering
+use Rattle.demands.proofs.Witness
+
+pub from-c : From-C
+from-c = Turning.from-c
+
+pub soundness : Soundness
+soundness t = (sound-whole t, whole-sound t)
+
+pub demand-1 : Demand-1
+demand-1 = Turning.demand-1
+
+pub demand-2 : Demand-2
+demand-2 = Admitting.demand-2
+
+pub demand-3 : Demand-3
+demand-3 = Ordering.demand-3
+
+pub demand-3-met : Pair
+demand-3-met = Witness.pair

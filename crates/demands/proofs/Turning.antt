@@ -1,0 +1,168 @@
+-- Demand 1: which calls are turned down, and what every call leaves.
+use Prim.Native.Nat.{ℕ, _+_, _*_}
+use mathlib.Core.Path.{_≡_, refl, sym, ap, subst, _∙_}
+use mathlib.Core.Logic.{_↔_, _≢_}
+use mathlib.Core.Bool.{Bool, true, false, not, _&&_, _||_}
+use mathlib.Core.List.{List}
+use lib.ListN.{length}
+use lib.Dec.{ltb, leb, eqb}
+use borrow.Author.Tests.{ltb-true, ltb-false, lt-ltb, le-ltb, leb-true, le-leb, eqb-true, eqb-false, eq-eqb, ne-eqb, not-false}
+use native.Mathlib.Omega.{arith}
+use Rattle.base.specs.Pick.{pick}
+use Rattle.base.proofs.PickLaws.{pick-ind}
+use Rattle.base.proofs.TestLaws.{clash, and-both, both-and, or-neither}
+use Rattle.megaco.specs.Tokens.{isMid}
+use Rattle.megaco.specs.Table.{words, mostLines, sound}
+use Rattle.megaco.specs.Names.{within}
+use Rattle.megaco.specs.Call.{Called, written, replied, taken, call}
+use Rattle.grammar.proofs.OwnLaws.{own-mid}
+use Rattle.laws.specs.Bounds.{refusal-keeps, call-bounded}
+use Rattle.laws.specs.Runs.{call-length}
+use Rattle.laws.specs.Kept.{call-sound}
+use Rattle.gateway.specs.Answers.{refusalOf, sizeOf}
+use Rattle.gateway.specs.declared.Outcome.{Outcome}
+use Rattle.gateway.specs.declared.Outcome.the-variants.{Taken, ReplyTooShort, TableUnsound, MidUnfit, MessageUnfit, LinesUnfit}
+use Rattle.demands.specs.Demands.{Made, From-C, LinesFit, BufferFits, TableFits, OwnFits, MessageFits, Refusal, linesUnfit, bufferUnfit, tableUnfit, ownUnfit, messageUnfit, allFit, Untouched, InRange, Demand-1}
+
+-- ---- each test of the call, and what it tests
+
+-- a test that is up exactly when something does not hold
+abbrev Tests : Bool → Type 0 → Type 0
+Tests b G = b ≡ false ↔ G
+
+unfit : {b : Bool} {G : Type 0} → Tests b G → b ≡ true → ¬ G
+unfit q e g = clash (sym e ∙ q .1 g)
+
+raised : (b : Bool) {G : Type 0} → Tests b G → ¬ G → b ≡ true
+raised true q h = refl
+raised false q h = absurd (h (q .0 refl))
+
+not-up : (b : Bool) → b ≡ true → not b ≡ false
+not-up b e = rw e
+
+lines-test : (n : ℕ) → Tests (not (within n mostLines)) (LinesFit n)
+unfolding within
+lines-test n = (
+  λ e. let b = and-both (ltb 0 n) (leb n 16) (not-false _ e) in (omega (arith, ltb-true 0 n (b .0)), leb-true n 16 (b .1)),
+  λ h. not-up _ (both-and (ltb 0 n) (leb n 16) (lt-ltb 0 n (omega (arith, h .0))) (le-leb n 16 (h .1))),
+)
+
+buffer-test : (o : List ℕ) → Tests (ltb (length o) 16640) (BufferFits o)
+buffer-test o = (ltb-false (length o) 16640, le-ltb (length o) 16640)
+
+table-test : (n : ℕ) (t : List ℕ) → Tests (not (eqb (length t) (words n) && sound t)) (TableFits n t)
+table-test n t = (
+  λ e. let b = and-both (eqb (length t) (words n)) (sound t) (not-false _ e) in (eqb-true (length t) (words n) (b .0), b .1),
+  λ h. not-up _ (both-and (eqb (length t) (words n)) (sound t) (eq-eqb (length t) (words n) (h .0)) (h .1)),
+)
+
+own-test : (own : List ℕ) → Tests (not (isMid own)) (OwnFits own)
+own-test own = (λ e. own-mid own .0 (not-false _ e), λ h. not-up _ (own-mid own .1 h))
+
+message-test : (m : List ℕ) → Tests (eqb (length m) 0 || ltb 4096 (length m)) (MessageFits m)
+message-test m = (
+  λ e. let b = or-neither (eqb (length m) 0) (ltb 4096 (length m)) e in
+      (omega (arith, eqb-false (length m) 0 (b .0)), ltb-false 4096 (length m) (b .1)),
+  λ h. rw (ne-eqb (length m) 0 (λ e. omega (arith, e, h .0)), le-ltb 4096 (length m) (h .1)),
+)
+
+-- ---- the refusal is the first that applies
+
+module _ (n : ℕ) (m t own o : List ℕ) where
+  pub call-refusal : Refusal n m t own o (call n m t own o .refusal)
+  unfolding call taken replied written
+  call-refusal =
+      let P : Called → Type 0 = λ c. Refusal n m t own o (c .refusal) in
+      pick-ind P _ _ _ (λ z. linesUnfit (unfit (lines-test n) z)) λ e.
+      let a = lines-test n .0 e in
+      pick-ind P _ _ _ (λ z. bufferUnfit a (unfit (buffer-test o) z)) λ f.
+      let b = buffer-test o .0 f in
+      pick-ind P _ _ _ (λ z. tableUnfit a b (unfit (table-test n t) z)) λ g.
+      let c = table-test n t .0 g in
+      pick-ind P _ _ _ (λ z. ownUnfit a b c (unfit (own-test own) z)) λ h.
+      let d = own-test own .0 h in
+      pick-ind P _ _ _ (λ z. messageUnfit a b c d (unfit (message-test m) z)) λ i.
+      allFit a b c d (message-test m .0 i)
+
+  pub refusal-call : (k : ℕ) → Refusal n m t own o k → call n m t own o .refusal ≡ k
+  unfolding call taken replied written pick
+  refusal-call k (linesUnfit h) = rw (raised _ (lines-test n) h)
+  refusal-call k (bufferUnfit a h) = rw (lines-test n .1 a, raised _ (buffer-test o) h)
+  refusal-call k (tableUnfit a b h) = rw (lines-test n .1 a, buffer-test o .1 b, raised _ (table-test n t) h)
+  refusal-call k (ownUnfit a b c h) = rw (lines-test n .1 a, buffer-test o .1 b, table-test n t .1 c, raised _ (own-test own) h)
+  refusal-call k (messageUnfit a b c d h) = rw (lines-test n .1 a, buffer-test o .1 b, table-test n t .1 c, own-test own .1 d, raised _ (message-test m) h)
+  refusal-call k (allFit a b c d h) = rw (lines-test n .1 a, buffer-test o .1 b, table-test n t .1 c, own-test own .1 d, message-test m .1 h)
+
+-- what a call that is taken has passed
+pub record Fits (n : ℕ) (m t own o : List ℕ) : Type 0 where
+  pub lines : LinesFit n
+  pub buffer : BufferFits o
+  pub table : TableFits n t
+  pub own-fits : OwnFits own
+  pub message : MessageFits m
+
+pub fits : {n : ℕ} {m t own o : List ℕ} (k : ℕ) → k ≡ 0 → Refusal n m t own o k → Fits n m t own o
+fits k e (linesUnfit h) = absurd (omega (arith, e))
+fits k e (bufferUnfit a h) = absurd (omega (arith, e))
+fits k e (tableUnfit a b h) = absurd (omega (arith, e))
+fits k e (ownUnfit a b c h) = absurd (omega (arith, e))
+fits k e (messageUnfit a b c d h) = absurd (omega (arith, e))
+fits k e (allFit a b c d h) = record { lines = a; buffer = b; table = c; own-fits = d; message = h }
+
+pub fit-call : {n : ℕ} {m t own o : List ℕ} → Fits n m t own o → call n m t own o ≡ taken m t own o
+unfolding call pick
+fit-call {n} {m} {t} {own} {o} f = rw (lines-test n .1 (f .lines), buffer-test o .1 (f .buffer), table-test n t .1 (f .table), own-test own .1 (f .own-fits), message-test m .1 (f .message))
+
+-- ---- demand 1
+
+module _ {n : ℕ} {m t own o : List ℕ} (c : Made n m t own o) where
+  pub number-is : (k : ℕ) → refusalOf (c .answer) ≡ k ↔ Refusal n m t own o k
+  number-is k = (
+    λ e. subst (Refusal n m t own o) (sym (c .promise .refusal) ∙ e) (call-refusal n m t own o),
+    λ v. c .promise .refusal ∙ refusal-call n m t own o k v,
+  )
+
+  untouched : refusalOf (c .answer) ≢ 0 → Untouched t o c
+  untouched h =
+      let k = refusal-keeps n m t own o (λ e. h (c .promise .refusal ∙ e)) in
+      record { size = c .promise .size ∙ k .size; table = c .promise .table ∙ k .table; buffer = c .promise .reply ∙ k .reply }
+
+  in-range : refusalOf (c .answer) ≡ 0 → InRange t o c
+  in-range e =
+      let b = call-bounded n m t own o in
+      let f : Fits n m t own o = fits 0 refl (number-is 0 .0 e) in
+      record {
+        within = omega (arith, c .promise .size, b .fits, f .buffer);
+        long = ap length (c .promise .reply) ∙ b .long;
+        past = rw (c .promise .size, c .promise .reply) (b .past);
+        size = ap length (c .promise .table) ∙ call-length n m t own o;
+        again = rw (c .promise .table) (call-sound n m t own o (f .table .1));
+      }
+
+pub demand-1 : Demand-1
+demand-1 n m t own o c = record { number = number-is c; down = untouched c; taken = in-range c }
+
+-- ---- an answer for each refusal: a call from C
+
+record Outcomes (k s : ℕ) : Type 0 where
+  outcome : Outcome
+  refusal : refusalOf outcome ≡ k
+  size : sizeOf outcome ≡ s
+
+outcomes : {n : ℕ} {m t own o : List ℕ} {k : ℕ} (s : ℕ) → (k ≢ 0 → s ≡ 0) → Refusal n m t own o k → Outcomes k s
+unfolding refusalOf sizeOf
+outcomes s z (linesUnfit h) = record { outcome = LinesUnfit; refusal = refl; size = sym (z (λ e. omega (arith, e))) }
+outcomes s z (bufferUnfit a h) = record { outcome = ReplyTooShort; refusal = refl; size = sym (z (λ e. omega (arith, e))) }
+outcomes s z (tableUnfit a b h) = record { outcome = TableUnsound; refusal = refl; size = sym (z (λ e. omega (arith, e))) }
+outcomes s z (ownUnfit a b c h) = record { outcome = MidUnfit; refusal = refl; size = sym (z (λ e. omega (arith, e))) }
+outcomes s z (messageUnfit a b c d h) = record { outcome = MessageUnfit; refusal = refl; size = sym (z (λ e. omega (arith, e))) }
+outcomes s z (allFit a b c d h) = record { outcome = Taken s; refusal = refl; size = refl }
+
+pub from-c : From-C
+from-c n m t own o t′ o′ r p =
+    let x = outcomes (call n m t own o .size) (λ h. refusal-keeps n m t own o h .size) (call-refusal n m t own o) in (
+      record { table = t′; buffer = o′; answer = x .outcome; promise = record { refusal = x .refusal; size = x .size; table = p .table; reply = p .reply } },
+      refl,
+      refl,
+      p .answer ∙ (λ i. sym (x .size) i + 4294967296 * sym (x .refusal) i),
+    )

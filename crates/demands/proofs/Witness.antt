@@ -1,0 +1,91 @@
+-- Demand 3 is not empty: a computed pair that meets every condition.
+use Prim.Native.Nat.{ℕ}
+use mathlib.Core.Path.{_≡_, refl, sym, ap, _∙_}
+use mathlib.Core.Logic.{_≢_}
+use mathlib.Core.Bool.{true, false}
+use mathlib.Core.List.{List, [], _∷_}
+use lib.ListN.{length}
+use borrow.Author.Tests.{leb-true, eq-eqb}
+use Rattle.base.specs.Pick.{pick}
+use Rattle.base.specs.Lists.{same}
+use Rattle.base.specs.Bytes.{text}
+use Rattle.base.proofs.TestLaws.{clash}
+use Rattle.megaco.specs.Tree.{Transaction}
+use Rattle.megaco.specs.Tokens.{isMid}
+use Rattle.megaco.specs.Table.{words}
+use Rattle.grammar.specs.Grammar.{atMost, transactionList, lastRequest, nextRequest, megacoMessage}
+use Rattle.grammar.specs.Grammar
+use Rattle.grammar.proofs.Theorems
+use Rattle.grammar.proofs.OwnLaws.{own-mid}
+use Rattle.laws.specs.Witness.{message, read, start, one, two, tests, reads-one, reads-two, start-sound, both-change, apart}
+use Rattle.demands.specs.Demands.{WellFormed, Pair}
+
+-- a transaction that the grammar finds in a message is well-formed
+first-formed : {b : List ℕ} {x : Transaction} {xs : List Transaction} → transactionList b (x ∷ xs) → WellFormed x
+first-formed (lastRequest d) = record { bytes = _; derives = d }
+first-formed (nextRequest d l) = record { bytes = _; derives = d }
+
+pub formed : {m : List ℕ} {x : Transaction} {xs : List Transaction} → megacoMessage m 1 (x ∷ xs) → WellFormed x
+formed (Grammar.message h (atMost l k)) = first-formed l
+
+same-self : (l : List ℕ) → same l l ≡ true
+unfolding same pick
+same-self [] = refl
+same-self (x ∷ l) = rw (eq-eqb x x refl) (same-self l)
+
+other : (a b : List ℕ) → same a b ≡ false → a ≢ b
+other a b e q = clash (sym (same-self b) ∙ sym (ap (λ (z : List ℕ). same z b) q) ∙ e)
+
+-- ---- the pair of crate laws
+
+start-long : length start ≡ words 8
+unfolding tests
+start-long = refl
+
+abbrev own : List ℕ
+own = text "[10.0.0.9]"
+
+own-is : isMid own ≡ true
+unfolding tests
+own-is = refl
+
+admits-one : megacoMessage (message one) 1 (read one ∷ [])
+admits-one = Theorems.sound (message one) (read one ∷ []) reads-one
+
+admits-two : megacoMessage (message two) 1 (read two ∷ [])
+admits-two = Theorems.sound (message two) (read two ∷ []) reads-two
+
+pub pair : Pair
+pair =
+    record {
+      lines = 8;
+      table = start;
+      own = own;
+      one = message one;
+      two = message two;
+      x = read one;
+      y = read two;
+      conditions =
+          record {
+            start = start-sound;
+            formed-one = formed admits-one;
+            formed-two = formed admits-two;
+            contexts-one = apart .contexts-one;
+            contexts-two = apart .contexts-two;
+            names-one = apart .names-one;
+            names-two = apart .names-two;
+            terminations = apart .terminations;
+            contexts = apart .contexts;
+          };
+      sent =
+          record {
+            one = admits-one;
+            two = admits-two;
+            size-one = (leb-true 1 _ refl, leb-true _ 4096 refl);
+            size-two = (leb-true 1 _ refl, leb-true _ 4096 refl);
+            lines = start-long;
+            own-fits = own-mid own .0 own-is;
+          };
+      changes-one = other _ _ (both-change .0);
+      changes-two = other _ _ (both-change .1);
+    }
