@@ -1,5 +1,5 @@
 /*
- * Digit maps (CR 8), for C99 and C++. docs/DIGITS.md says what a map is and
+ * Digit maps (CR 8, CR 9), for C99 and C++. docs/DIGITS.md says what a map is and
  * what the answers mean.
  */
 #ifndef CORDAFINA_DIGIT_MAPS_H
@@ -47,6 +47,16 @@ extern "C" {
 uint32_t cordafina_dial(const uint8_t *map, size_t map_len,
                         uint32_t start, uint32_t zero,
                         const uint8_t *dialled, size_t dialled_len);
+
+/*
+ * As cordafina_dial, by the plain matcher (CR 9): the same result on every map
+ * and string, but it tries each way through repeated selectors, and on some
+ * maps does not come back in any useful time (docs/DIGITS.md). For support, not
+ * for calls.
+ */
+uint32_t cordafina_dial_plain(const uint8_t *map, size_t map_len,
+                              uint32_t start, uint32_t zero,
+                              const uint8_t *dialled, size_t dialled_len);
 
 static inline int cordafina_dial_answer(uint32_t result)
 {

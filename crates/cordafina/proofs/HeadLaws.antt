@@ -95,3 +95,7 @@ dialled-on s start n z l cells w d r g k e f = f ∙ rw (e, k .is, g)
 pub dialled-again : (n : ℕ) (l : Loaded) (cells w : List ℕ) (d : Dialled) (r : ℕ) → l ≡ loadedAt n → d ≡ dial (planIn l cells) w → r ≡ packed d
     → r ≡ packed (dial (planIn (loadedAt n) cells) w)
 dialled-again n l cells w d r k e f = f ∙ rw (e, k)
+
+pub dialled-plain : (s : List ℕ) (start n : ℕ) (z : ZeroStart) (w : List ℕ) (d : Dialled) (r : ℕ) → z ≡ zeroAt n → d ≡ dial (load s start z) w → r ≡ packed d
+    → r ≡ packed (dial (load s start (zeroAt n)) w)
+dialled-plain s start n z w d r g e f = f ∙ rw (e, g)

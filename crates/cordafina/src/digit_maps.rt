@@ -1,4 +1,4 @@
-// Digit maps (CR 8). An answer is one number (digits/specs/Codes).
+// Digit maps (CR 8, CR 9). An answer is one number (digits/specs/Codes).
 ghost use mathlib.Core.Path.{_≡_};
 ghost use Prim.Native.Nat.{_≤_};
 ghost use Rattle.digits.specs.Dialling.{load, dial};
@@ -131,4 +131,14 @@ pub extern "C" fn cordafina_dial_map(head: u32, cells: &[u32; 1040], dialled: &[
     ensures { λ r. ⌜ r ≡ packed (dial (planIn (loadedAt head) (now (cells .entry))) (now (dialled .entry))) ⌝ }
 {
     packed(dialling::dial(loaded_at(head), cells, dialled))
+}
+
+// ---- the plain matcher (CR 9)
+
+// As cordafina_dial, by the plain matcher. Not for calls: see crate plain_digits for what it does not come back on.
+#[no_mangle]
+pub extern "C" fn cordafina_dial_plain(map: &[u8], start: u32, zero: u32, dialled: &[u8]) -> u32
+    ensures { λ r. ⌜ r ≡ packed (dial (load (now (map .entry)) start (zeroAt zero)) (now (dialled .entry))) ⌝ }
+{
+    packed(plain_digits::dial_plain(map, start, zero_at(zero), dialled))
 }

@@ -17,7 +17,11 @@ use Rattle.base.proofs.OutLaws.{_▸_}
 use Rattle.megaco.specs.Tokens.{numberAt}
 use Rattle.megaco.specs.declared.Number.{Number}
 use Rattle.megaco.specs.declared.Number.the-variants.{Got, Bad}
+use Rattle.digits.specs.Dialling.{load, dial}
+use Rattle.digits.specs.declared.ZeroStart.{ZeroStart}
 use Rattle.digits.specs.declared.Dialled.{Dialled}
+use Rattle.dialling.specs.Cells.{planIn, Keeps}
+use Rattle.dialling.specs.declared.Loaded.{Loaded}
 use Rattle.dial.specs.Words.{ruleOf, settingsAfter, settingsOf, answerText}
 use Rattle.dial.specs.declared.Settings.{Settings}
 use Rattle.dial.specs.declared.Settings.the-variants.{Unread}
@@ -79,6 +83,10 @@ module _ (s : List ℕ) (x : Number) (e : x ≡ numberAt s 0 10 4294967295) wher
 
 -- ---- the line for a dialled string
 
-pub line-put : (o : List ℕ) (d e : Dialled) (o₁ o₂ : List ℕ) (n r : ℕ) → d ≡ e → Appended o 0 (answerText d) o₁ n → Appended o₁ n (10 ∷ []) o₂ r
-    → Appended o 0 (answerText e then (10 ∷ [])) o₂ r
-line-put o d e o₁ o₂ n r f a b = rw f at (a ▸ b)
+pub line-put : (o : List ℕ) (d : Dialled) (o₁ o₂ : List ℕ) (n r : ℕ) → Appended o 0 (answerText d) o₁ n → Appended o₁ n (10 ∷ []) o₂ r
+    → Appended o 0 (answerText d then (10 ∷ [])) o₂ r
+line-put o d o₁ o₂ n r a b = a ▸ b
+
+pub by-first : (s : List ℕ) (start : ℕ) (rule : ZeroStart) (l : Loaded) (cells w : List ℕ) (d : Dialled) → Keeps (load s start rule) l cells → d ≡ dial (planIn l cells) w
+    → d ≡ dial (load s start rule) w
+by-first s start rule l cells w d k e = e ∙ rw (k .is)

@@ -1,5 +1,6 @@
 -- The words that the program takes and prints.
 use Prim.Native.Nat.{ℕ}
+use mathlib.Core.Bool.{true, false}
 use mathlib.Core.List.{List}
 use lib.ListN.{drop}
 use Rattle.base.specs.Pick.{pick}
@@ -20,7 +21,11 @@ use Rattle.dial.specs.declared.Settings.the-variants.{Set, Unread}
 
 -- ---- the second line
 unfoldable pub ruleOf : ℕ → List ℕ → Settings
-ruleOf start w = pick (same w (text " waits")) (Set start Waits) (pick (same w (text " runs out")) (Set start RunsOut) Unread)
+ruleOf start w =
+    pick (same w (text " waits")) (Set start Waits false)
+    (pick (same w (text " runs out")) (Set start RunsOut false)
+    (pick (same w (text " waits plain")) (Set start Waits true)
+    (pick (same w (text " runs out plain")) (Set start RunsOut true) Unread)))
 
 unfoldable pub settingsAfter : Number → List ℕ → Settings
 settingsAfter (Got start p) s = ruleOf start (drop p s)

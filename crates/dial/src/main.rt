@@ -1,5 +1,5 @@
 // A program for support. The first line of standard input is a map, the second a start timer and `waits` or `runs out`, each further line a
-// dialled string. For each string it prints the answer and the timer, or the refusal.
+// dialled string. For each string it prints the answer and the timer, or the refusal. Where the second line ends in ` plain` the plain matcher answers.
 ghost use mathlib.Core.Path.{_≡_};
 ghost use mathlib.Core.List.{[], _∷_};
 ghost use Prim.Native.Nat.{_≤_};
@@ -7,8 +7,8 @@ ghost use lib.ListN.{length};
 ghost use Rattle.base.specs.Lists.{same, before};
 ghost use Rattle.base.specs.Bytes.{_then_};
 ghost use Rattle.base.specs.Out.{Appended};
-ghost use Rattle.digits.specs.Dialling.{dial};
-ghost use Rattle.dialling.specs.Cells.{planIn};
+ghost use Rattle.digits.specs.Dialling.{load, dial};
+ghost use Rattle.dialling.specs.Cells.{Keeps};
 ghost use Rattle.dial.specs.Words.{ruleOf, settingsOf, progressText, timerText, shownText, answerText};
 use dialling::Loaded;
 use digits::Dialled;
@@ -19,7 +19,11 @@ use megaco::Number;
 
 // What the second line says.
 enum Settings {
-    Set { start: u32, rule: ZeroStart },
+    Set {
+        start: u32,
+        rule: ZeroStart,
+        plain: bool,
+    },
     Unread,
 }
 
@@ -67,12 +71,28 @@ fn rule_of(start: u32, w: &[u8]) -> Settings
         return Settings::Set {
             start: start,
             rule: ZeroStart::Waits,
+            plain: false,
         };
     }
     if same_text(w, b" runs out") {
         return Settings::Set {
             start: start,
             rule: ZeroStart::RunsOut,
+            plain: false,
+        };
+    }
+    if same_text(w, b" waits plain") {
+        return Settings::Set {
+            start: start,
+            rule: ZeroStart::Waits,
+            plain: true,
+        };
+    }
+    if same_text(w, b" runs out plain") {
+        return Settings::Set {
+            start: start,
+            rule: ZeroStart::RunsOut,
+            plain: true,
         };
     }
     Settings::Unread
@@ -132,45 +152,96 @@ fn put_answer(out: &mut [u8], at: usize, d: Dialled) -> usize
     }
 }
 
-// The line for one dialled string.
-fn put_line(out: &mut [u8], l: Loaded, cells: &[u32; 1040], w: &[u8]) -> usize
-    ensures { λ r. ⌜ Appended (now (out .entry)) 0 (answerText (dial (planIn l (now (cells .entry))) (now (w .entry))) then (10 ∷ [])) (now (out .exit)) r ⌝ }
+// The line for an answer.
+fn put_line(out: &mut [u8], d: Dialled) -> usize
+    ensures { λ r. ⌜ Appended (now (out .entry)) 0 (answerText d then (10 ∷ [])) (now (out .exit)) r ⌝ }
 {
-    let n = put_answer(out, 0, dialling::dial(l, cells, w));
+    let n = put_answer(out, 0, d);
     writer::put_byte(out, n, LINE_END)
 }
 
 // ---- the program
 
+// What is asked of every string: the map as text and as it was loaded, and which matcher answers.
+struct Asked {
+    start: u32,
+    rule: ZeroStart,
+    plain: bool,
+    loaded: Loaded,
+}
+
+// The answer to one dialled string, by either matcher.
+fn answer(x: Asked, map: &[u8], cells: &[u32; 1040], w: &[u8]) -> Dialled
+    requires { ⌜ Keeps (load (now map) (x .start) (x .rule)) (x .loaded) (now cells) ⌝ }
+    ensures { λ r. ⌜ r ≡ dial (load (now (map .entry)) (x .start) (x .rule)) (now (w .entry)) ⌝ }
+{
+    let plain = x.plain;
+    if plain {
+        let rule = x.rule;
+        return plain_digits::dial_plain(map, x.start, rule, w);
+    }
+    let l = x.loaded;
+    dialling::dial(l, cells, w)
+}
+
 // Tells the answer to the first line of a text; how long that line is.
-fn tell_line(t: &[u8], out: &mut [u8], l: Loaded, cells: &[u32; 1040]) -> usize
+fn tell_line(t: &[u8], out: &mut [u8], x: Asked, map: &[u8], cells: &[u32; 1040]) -> usize
+    requires { ⌜ Keeps (load (now map) (x .start) (x .rule)) (x .loaded) (now cells) ⌝ }
     ensures { λ r. ⌜ r ≤ length (now (t .entry)) ⌝ }
 {
     let n = line_length(t);
-    let k = put_line(out, l, cells, &t[0..n]);
+    let k = put_line(out, answer(x, map, cells, &t[0..n]));
     io::write_all(1, &out[0..k]);
     n
 }
 
 // Tells the answers to the lines of a text.
-fn tell(s: &[u8], out: &mut [u8], l: Loaded, cells: &[u32; 1040]) {
+fn tell(s: &[u8], out: &mut [u8], x: Asked, map: &[u8], cells: &[u32; 1040])
+    requires { ⌜ Keeps (load (now map) (x .start) (x .rule)) (x .loaded) (now cells) ⌝ }
+{
     let mut from: usize = 0;
     while from < s.len() {
-        let n = tell_line(map_text::rest(s, from), out, l, cells);
+        let n = tell_line(map_text::rest(s, from), out, x, map, cells);
         from += n + 1;
     }
 }
 
-// A map, the settings, and the strings that are dialled.
+// A map with its settings, and the strings that are dialled.
+fn dial_all(
+    start: u32,
+    rule: ZeroStart,
+    plain: bool,
+    map: &[u8],
+    s: &[u8],
+    out: &mut [u8],
+    cells: &mut [u32; 1040],
+) {
+    let l = dialling::load(map, start, rule, cells);
+    let x = Asked {
+        start: start,
+        rule: rule,
+        plain: plain,
+        loaded: l,
+    };
+    tell(s, out, x, map, cells);
+}
+
 fn run(s: &[u8], out: &mut [u8], cells: &mut [u32; 1040]) {
     let n = line_length(s);
     let t = map_text::rest(s, n + 1);
     let m = line_length(t);
     let x = read_settings(&t[0..m]);
     match x {
-        Settings::Set { start, rule } => {
-            let l = dialling::load(&s[0..n], start, rule, cells);
-            tell(map_text::rest(t, m + 1), out, l, cells);
+        Settings::Set { start, rule, plain } => {
+            dial_all(
+                start,
+                rule,
+                plain,
+                &s[0..n],
+                map_text::rest(t, m + 1),
+                out,
+                cells,
+            );
         }
         Settings::Unread => {
             io::write_all(

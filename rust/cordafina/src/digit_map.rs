@@ -151,6 +151,23 @@ pub fn dial_word(map: &[u8], start: u32, zero: u32, dialled: &[u8]) -> u32 {
     }
 }
 
+/// The same by the plain matcher (CR 9), which tries each way through repeated
+/// selectors: the same result on every map and string. On some maps it does not
+/// come back in any useful time, as `docs/DIGITS.md` says; not for calls.
+pub fn dial_plain_word(map: &[u8], start: u32, zero: u32, dialled: &[u8]) -> u32 {
+    // SAFETY: as in `dial_word`.
+    unsafe {
+        cordafina_dial_plain(
+            map.as_ptr(),
+            map.len(),
+            start,
+            zero,
+            dialled.as_ptr(),
+            dialled.len(),
+        )
+    }
+}
+
 fn zero_number(zero: ZeroStart) -> u32 {
     match zero {
         ZeroStart::Waits => 0,
@@ -184,6 +201,15 @@ fn answer_of(word: u32) -> Result<Dialled, Refusal> {
 
 extern "C" {
     fn cordafina_dial(
+        map: *const u8,
+        map_len: usize,
+        start: u32,
+        zero: u32,
+        dialled: *const u8,
+        dialled_len: usize,
+    ) -> u32;
+
+    fn cordafina_dial_plain(
         map: *const u8,
         map_len: usize,
         start: u32,

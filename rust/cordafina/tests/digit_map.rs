@@ -1,6 +1,7 @@
 //! Digit maps through the archive that is linked.
 
-use cordafina::digit_map::{dial_word, Dialled, DigitMap, Progress, Refusal, Timer, ZeroStart};
+use cordafina::digit_map::{dial_plain_word, dial_word};
+use cordafina::digit_map::{Dialled, DigitMap, Progress, Refusal, Timer, ZeroStart};
 
 /// The example of 7.1.14.9.
 const EXAMPLE: &[u8] = b"(0| 00|[1-7]xxx|8xxxxxxx|Fxxxxxxx|Exx|91xxxxxxxxxx|9011x.)";
@@ -195,4 +196,17 @@ fn one_call_as_c_has_it() {
     assert_eq!(dial_word(b"1", 30, 0, b"#"), 65536 * 7);
     assert_eq!(Refusal::BadMap.number(), 6);
     assert_eq!(Refusal::BadString.number(), 7);
+}
+
+#[test]
+fn the_plain_matcher_stops_when_both_are_answered() {
+    // Without the stop these ways are some 10^18.
+    let map = "x.".repeat(32);
+    let digits = "1".repeat(32);
+    assert_eq!(
+        dial_plain_word(map.as_bytes(), 30, 0, digits.as_bytes()),
+        2 + 256 * 3
+    );
+    assert_eq!(dial_plain_word(b"(", 30, 0, b"#"), 65536 * 6);
+    assert_eq!(dial_plain_word(b"1", 30, 0, b"#"), 65536 * 7);
 }

@@ -3,7 +3,8 @@
 //! a start timer of zero waits or runs out, the dialled string in hex, the
 //! result as C has it, and 1 where the plain matcher comes back soon.
 
-use cordafina::digit_map::{dial_word, Dialled, DigitMap, Progress, Refusal, Timer, ZeroStart};
+use cordafina::digit_map::{dial_plain_word, dial_word};
+use cordafina::digit_map::{Dialled, DigitMap, Progress, Refusal, Timer, ZeroStart};
 
 const ROWS: &str = include_str!("digit_rows.txt");
 
@@ -13,6 +14,7 @@ struct Row {
     zero: u32,
     dialled: Vec<u8>,
     result: u32,
+    plain: bool,
 }
 
 fn bytes(hex: &str) -> Vec<u8> {
@@ -32,6 +34,7 @@ fn rows() -> impl Iterator<Item = Row> {
             zero: parts[2].parse().unwrap(),
             dialled: bytes(parts[3]),
             result: parts[4].parse().unwrap(),
+            plain: parts[5] == "1",
         }
     })
 }
@@ -83,4 +86,15 @@ fn the_rows_have_every_answer() {
         );
     }
     assert!(has(65536 * 6) && has(65536 * 7));
+}
+
+#[test]
+fn the_plain_matcher_answers_the_same() {
+    let mut count = 0;
+    for row in rows().filter(|row| row.plain) {
+        let found = dial_plain_word(&row.map, row.start, row.zero, &row.dialled);
+        assert_eq!(found, row.result, "{:?} {:?}", row.map, row.dialled);
+        count += 1;
+    }
+    assert_eq!(count, 573);
 }

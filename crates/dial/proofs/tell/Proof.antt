@@ -6,10 +6,10 @@ use Rattle.dial.proofs.tell.Statement.{statement}
 use Rattle.dial.proofs.tell.Tie as tie
 
 abbrev Inv-loop : tie.InvT-loop
-Inv-loop s out₀ l cells from₀ out from = length out ≡ length out₀
+Inv-loop s out₀ x map cells from₀ out from = length out ≡ length out₀
 
 abbrev μ-loop : tie.MeasureT-loop
-μ-loop s out₀ l cells from₀ out from = length s - from
+μ-loop s out₀ x map cells from₀ out from = length s - from
 
 pub tell-spec : {M : Type 1} → statement M
 tell-spec =

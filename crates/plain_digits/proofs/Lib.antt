@@ -1,0 +1,3 @@
+pub mod TryLaws
+pub mod ListLaws
+pub mod AgreeLaws
