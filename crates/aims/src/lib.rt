@@ -1,7 +1,8 @@
 // Whom a command's name means (document 01, test 4).
 ghost use mathlib.Core.Path.{_≡_};
 ghost use Rattle.megaco.specs.Table.{Sized};
-ghost use Rattle.megaco.specs.Running.{isAdd, isModify, isSubtract, isNull};
+ghost use Rattle.megaco.specs.Items.{isSubtract};
+ghost use Rattle.megaco.specs.Running.{isAdd, isModify, isNull};
 ghost use Rattle.aims.specs.Targets.{rootTarget, freeTarget, unchosenTarget, oneTarget, targetOf};
 use megaco::Context;
 use megaco::Name;

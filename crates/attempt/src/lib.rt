@@ -1,4 +1,5 @@
-// One attempt: its code, judged by what it saw, and what it changes.
+// One attempt: judged by what it saw, and what it changes.
+use megaco::Checked;
 use megaco::Context;
 use megaco::Given;
 use megaco::Op;
@@ -9,8 +10,8 @@ ghost use mathlib.Core.List.{[]};
 ghost use Rattle.base.specs.Pick.{pick};
 ghost use Rattle.megaco.specs.Table.{apply};
 ghost use Rattle.megaco.specs.Items.{update};
-ghost use Rattle.megaco.specs.Running.{isChoose, target, roomChecks, checks, joining, leaving, placed, marking, added, subtracted, changes, settled};
-ghost use Rattle.attempt.specs.Judging.{codeOf, valueOr, Fair};
+ghost use Rattle.megaco.specs.Running.{judge, isChoose, target, roomChecks, checks, joining, leaving, placed, marking, added, subtracted, changes, settled};
+ghost use Rattle.attempt.specs.Judging.{valueOr, Fair};
 
 // ---- judging
 
@@ -28,55 +29,55 @@ fn is_choose(at: Context) -> bool
     }
 }
 
-// 412 or 434, or 0.
-fn room_code(at: Context, view: View) -> u32
-    ensures { λ r. ⌜ r ≡ codeOf (roomChecks at view) ⌝ }
+// 412 and 434.
+fn judge_room(at: Context, view: View) -> Checked
+    ensures { λ r. ⌜ r ≡ judge (roomChecks at view) ⌝ }
 {
     let there = view.there;
     if is_choose(at) & (view.free == 0) {
-        return 412;
+        return Checked::Fails(412);
     }
     if table::MOST <= there.members {
-        return 434;
+        return Checked::Fails(434);
     }
-    0
+    Checked::Passes
 }
 
-// The code of tests 5 and 6, or 0 for an attempt that is done.
-pub fn judge_attempt(op: Op, at: Context, view: View) -> u32
-    ensures { λ r. ⌜ r ≡ codeOf (checks op at view) ⌝ }
+// Tests 5 and 6.
+pub fn judge_attempt(op: Op, at: Context, view: View) -> Checked
+    ensures { λ r. ⌜ r ≡ judge (checks op at view) ⌝ }
 {
     let c = view::number_of(at);
     match op {
         Op::Add => {
             if view.here != 0 {
-                return 433;
+                return Checked::Fails(433);
             }
-            room_code(at, view)
+            judge_room(at, view)
         }
         Op::Modify => {
             if view.here != c {
-                return 435;
+                return Checked::Fails(435);
             }
-            0
+            Checked::Passes
         }
         Op::Subtract => {
             if view.here != c {
-                return 435;
+                return Checked::Fails(435);
             }
-            0
+            Checked::Passes
         }
         Op::Move => {
             if view.here == 0 {
-                return 435;
+                return Checked::Fails(435);
             }
             if view.here == c {
-                return 433;
+                return Checked::Fails(433);
             }
             if view.word / 8 == OUT_OF_SERVICE {
-                return 503;
+                return Checked::Fails(503);
             }
-            room_code(at, view)
+            judge_room(at, view)
         }
     }
 }

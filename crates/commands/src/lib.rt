@@ -2,6 +2,7 @@
 ghost use mathlib.Core.Path.{_≡_};
 ghost use mathlib.Core.Option.{some};
 ghost use Rattle.megaco.specs.Table.{Sized};
+ghost use Rattle.megaco.specs.State.{state};
 ghost use Rattle.megaco.specs.Running.{opOf, tested, ordered, runCommand};
 ghost use Rattle.parts.specs.Found.{itemsFrom, commandEndFrom};
 ghost use Rattle.syntax.specs.Places.{commandAt};
@@ -30,7 +31,7 @@ fn run_tested(
     out: &mut [u8],
 ) -> Passed
     requires { ⌜ Sized (now table) ⌝ }
-    ensures { λ r. ⌜ Did (tested op (now (name .entry)) (itemsFrom (now (s .entry)) places) (turn .given) (turn .at) (now (table .entry))) (turn .first) (now (out .entry)) (turn .next) (now (table .exit)) (now (out .exit)) (r .went) × (r .end ≡ commandEndFrom (now (s .entry)) places) ⌝ }
+    ensures { λ r. ⌜ Did (tested op (now (name .entry)) (itemsFrom (now (s .entry)) places) (turn .given) (turn .at) (state (now (table .entry)))) (turn .first) (now (out .entry)) (turn .next) (state (now (table .exit))) (now (out .exit)) (r .went) × (r .end ≡ commandEndFrom (now (s .entry)) places) ⌝ }
 {
     let at = turn.at;
     let held = orders::held_at(table, at);
@@ -41,7 +42,7 @@ fn run_tested(
             end: parts::command_end(s, places),
         };
     }
-    let x = items::judge_items(s, places, aims::is_subtract(op));
+    let x = items::judge_items(s, places, op);
     let judged = x.judged;
     let w = orders::run_judged(op, name, places.braces, judged, turn, table, out);
     Passed {
@@ -98,7 +99,7 @@ fn run_built(
     out: &mut [u8],
 ) -> Passed
     requires { ⌜ Sized (now table) ⌝ }
-    ensures { λ r. ⌜ Did (ordered (places .optional) (some op) (now (name .entry)) (itemsFrom (now (s .entry)) places) (turn .given) (turn .at) (now (table .entry))) (turn .first) (now (out .entry)) (turn .next) (now (table .exit)) (now (out .exit)) (r .went) × (r .end ≡ commandEndFrom (now (s .entry)) places) ⌝ }
+    ensures { λ r. ⌜ Did (ordered (places .optional) (some op) (now (name .entry)) (itemsFrom (now (s .entry)) places) (turn .given) (turn .at) (state (now (table .entry)))) (turn .first) (now (out .entry)) (turn .next) (state (now (table .exit))) (now (out .exit)) (r .went) × (r .end ≡ commandEndFrom (now (s .entry)) places) ⌝ }
 {
     let at = turn.at;
     if orders::is_barred(op, at) {
@@ -123,7 +124,7 @@ fn run_found(
     out: &mut [u8],
 ) -> Passed
     requires { ⌜ Sized (now table) ⌝ }
-    ensures { λ r. ⌜ Did (ordered (places .optional) (opOf (places .wild) (now (word .entry))) (now (name .entry)) (itemsFrom (now (s .entry)) places) (turn .given) (turn .at) (now (table .entry))) (turn .first) (now (out .entry)) (turn .next) (now (table .exit)) (now (out .exit)) (r .went) × (r .end ≡ commandEndFrom (now (s .entry)) places) ⌝ }
+    ensures { λ r. ⌜ Did (ordered (places .optional) (opOf (places .wild) (now (word .entry))) (now (name .entry)) (itemsFrom (now (s .entry)) places) (turn .given) (turn .at) (state (now (table .entry)))) (turn .first) (now (out .entry)) (turn .next) (state (now (table .exit))) (now (out .exit)) (r .went) × (r .end ≡ commandEndFrom (now (s .entry)) places) ⌝ }
 {
     let f = orders::op_of(places.wild, word);
     match f {
@@ -135,7 +136,7 @@ fn run_found(
 // The command that stands at a place of the message.
 pub fn run_command(s: &[u8], i: usize, turn: Turn, table: &mut [u32], out: &mut [u8]) -> Passed
     requires { ⌜ Sized (now table) ⌝ }
-    ensures { λ r. ⌜ Did (runCommand (commandAt (now (s .entry)) i .tree) (turn .given) (turn .at) (now (table .entry))) (turn .first) (now (out .entry)) (turn .next) (now (table .exit)) (now (out .exit)) (r .went) × (r .end ≡ commandAt (now (s .entry)) i .end) ⌝ }
+    ensures { λ r. ⌜ Did (runCommand (commandAt (now (s .entry)) i .tree) (turn .given) (turn .at) (state (now (table .entry)))) (turn .first) (now (out .entry)) (turn .next) (state (now (table .exit))) (now (out .exit)) (r .went) × (r .end ≡ commandAt (now (s .entry)) i .end) ⌝ }
 {
     let places = parts::command_places(s, i);
     let word = places.word;

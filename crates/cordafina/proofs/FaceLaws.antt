@@ -3,14 +3,15 @@ use Prim.Native.Nat.{ℕ, _+_, _*_}
 use mathlib.Core.Path.{_≡_, _∙_}
 use mathlib.Core.List.{List}
 use native.Mathlib.Omega.{arith}
+use Rattle.megaco.specs.State.{State}
 use Rattle.megaco.specs.Call.{Called}
 use Rattle.gateway.specs.Answers.{refusalOf, sizeOf, Answered, numberOf, Packed}
 use Rattle.gateway.specs.declared.Outcome.{Outcome}
 use Rattle.gateway.specs.declared.Outcome.the-variants.{Taken, ReplyTooShort, TableUnsound, MidUnfit, MessageUnfit, LinesUnfit}
 
-pub packs : (c : Called) (t′ o′ : List ℕ) (a : Outcome) (r : ℕ) → Answered c t′ o′ a → r ≡ numberOf a → Packed c t′ o′ r
+pub packs : (c : Called) (t′ : State) (o′ : List ℕ) (a : Outcome) (r : ℕ) → Answered c t′ o′ a → r ≡ numberOf a → Packed c t′ o′ r
 unfolding numberOf
-packs c t′ o′ a r d e = record { answer = e ∙ (λ i. d .size i + 4294967296 * d .refusal i); table = d .table; reply = d .reply }
+packs c t′ o′ a r d e = record { answer = e ∙ (λ i. d .size i + 4294967296 * d .refusal i); state = d .state; reply = d .reply }
 
 module _ (a : Outcome) where
   pub number-taken : (n : ℕ) → a ≡ Taken n → n ≡ numberOf a

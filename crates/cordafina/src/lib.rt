@@ -5,6 +5,7 @@ use gateway::Outcome;
 ghost use mathlib.Core.Path.{_≡_};
 ghost use Rattle.base.specs.Lists.{lowestAbsent};
 ghost use Rattle.megaco.specs.Map.{digits, inUse};
+ghost use Rattle.megaco.specs.State.{state};
 ghost use Rattle.megaco.specs.Call.{call};
 ghost use Rattle.gateway.specs.Answers.{numberOf, Packed};
 
@@ -31,7 +32,7 @@ pub extern "C" fn cordafina_answer(
     own: &[u8],
     reply: &mut [u8],
 ) -> u64
-    ensures { λ r. ⌜ Packed (call lines (now (message .entry)) (now (table .entry)) (now (own .entry)) (now (reply .entry))) (now (table .exit)) (now (reply .exit)) r ⌝ }
+    ensures { λ r. ⌜ Packed (call lines (now (message .entry)) (state (now (table .entry))) (now (own .entry)) (now (reply .entry))) (state (now (table .exit))) (now (reply .exit)) r ⌝ }
 {
     let a = gateway::answer(lines, message, table, own, reply);
     number_of(a)

@@ -8,6 +8,7 @@ use native.Mathlib.Omega.{arith}
 use Rattle.base.specs.Bytes.{put, _then_}
 use Rattle.megaco.specs.Tree.{Transaction, Message, wellFormed, fault400, fault403, fault406}
 use Rattle.megaco.specs.Reading.{messageR}
+use Rattle.megaco.specs.State.{State}
 use Rattle.megaco.specs.Reply.{headerText, errorText, replyText}
 use Rattle.megaco.specs.Running.{Ran, ran, runTransactions, runMessage}
 use Rattle.megaco.specs.Call.{Called, written, replied, taken, call}
@@ -50,22 +51,22 @@ taken-answer MidUnfit e = absurd (omega (arith, e))
 taken-answer MessageUnfit e = absurd (omega (arith, e))
 taken-answer LinesUnfit e = absurd (omega (arith, e))
 
-pub fit-leaves : {n : ℕ} {m t own o : List ℕ} (c : Made n m t own o) → Fits n m t own o → Leaves c (runMessage (messageR m) t)
+pub fit-leaves : {n : ℕ} {m : List ℕ} {st : State} {own o : List ℕ} (c : Made n m st own o) → Fits n m st own o → Leaves c (runMessage (messageR m) st)
 unfolding taken replied written _then_
-fit-leaves {n} {m} {t} {own} {o} c f =
-    let e : call n m t own o ≡ taken m t own o = fit-call f in
-    let x : Ran = runMessage (messageR m) t in
-    let l : length (replyWith own (x .text)) ≤ length o = omega (arith, reply-fits m t own (f .own-fits .1), f .buffer) in
+fit-leaves {n} {m} {st} {own} {o} c f =
+    let e : call n m st own o ≡ taken m st own o = fit-call f in
+    let x : Ran = runMessage (messageR m) st in
+    let l : length (replyWith own (x .text)) ≤ length o = omega (arith, reply-fits m st own (f .own-fits .1), f .buffer) in
     record {
       answer = taken-answer (c .answer) (c .promise .refusal ∙ ap (λ (z : Called). z .refusal) e) ∙ ap Taken (c .promise .size ∙ ap (λ (z : Called). z .size) e);
-      table = c .promise .table ∙ ap (λ (z : Called). z .table) e;
+      state = c .promise .state ∙ ap (λ (z : Called). z .state) e;
       buffer = c .promise .reply ∙ ap (λ (z : Called). z .reply) e ∙ put-is o (replyWith own (x .text)) l;
     }
 
 -- what a call leaves has one text
-one-text : {n : ℕ} {m t own o : List ℕ} {c : Made n m t own o} {x y : Ran} → Leaves c x → Leaves c y → x .text ≡ y .text
+one-text : {n : ℕ} {m : List ℕ} {st : State} {own o : List ℕ} {c : Made n m st own o} {x y : Ran} → Leaves c x → Leaves c y → x .text ≡ y .text
 unfolding sizeOf
-one-text {n} {m} {t} {own} {o} {c} {x} {y} a b =
+one-text {n} {m} {st} {own} {o} {c} {x} {y} a b =
     let X = replyWith own (x .text) in
     let Y = replyWith own (y .text) in
     let l : length X ≡ length Y = ap sizeOf (sym (a .answer) ∙ b .answer) in
@@ -74,31 +75,31 @@ one-text {n} {m} {t} {own} {o} {c} {x} {y} a b =
 
 -- ---- demand 2
 
-module _ {n : ℕ} {m t own o : List ℕ} (c : Made n m t own o) (e : refusalOf (c .answer) ≡ 0) where
-  left : Leaves c (runMessage (messageR m) t)
+module _ {n : ℕ} {m : List ℕ} {st : State} {own o : List ℕ} (c : Made n m st own o) (e : refusalOf (c .answer) ≡ 0) where
+  left : Leaves c (runMessage (messageR m) st)
   left = fit-leaves c (fits 0 refl (number-is c 0 .0 e))
 
   -- as the message reads
-  read-as : (y : Message) → messageR m ≡ y → Leaves c (runMessage y t)
-  read-as y q = subst (λ (z : Message). Leaves c (runMessage z t)) q left
+  read-as : (y : Message) → messageR m ≡ y → Leaves c (runMessage y st)
+  read-as y q = subst (λ (z : Message). Leaves c (runMessage z st)) q left
 
-  gives : (xs : List Transaction) → megacoMessage m 1 xs → Leaves c (runTransactions xs t)
+  gives : (xs : List Transaction) → megacoMessage m 1 xs → Leaves c (runTransactions xs st)
   unfolding runMessage
   gives xs d = read-as (wellFormed xs) (complete m xs d)
 
-  run : Admitted m ↔ ((xs : List Transaction) × Leaves c (runTransactions xs t))
+  run : Admitted m ↔ ((xs : List Transaction) × Leaves c (runTransactions xs st))
   run = (
     λ d. (d .0, gives (d .0) (d .1)),
-    λ l. let r = run-told t (messageR m) (l .0) (one-text left (l .1)) in (r .0, sound m (r .0) (r .1)),
+    λ l. let r = run-told st (messageR m) (l .0) (one-text left (l .1)) in (r .0, sound m (r .0) (r .1)),
   )
 
-  on-406 : Fault406 m ↔ Leaves c (ran t (errorText 406))
+  on-406 : Fault406 m ↔ Leaves c (ran st (errorText 406))
   unfolding runMessage
-  on-406 = (λ f. read-as fault406 (fault-406 m .1 f), λ l. fault-406 m .0 (told-406 t (messageR m) (one-text left l)))
+  on-406 = (λ f. read-as fault406 (fault-406 m .1 f), λ l. fault-406 m .0 (told-406 st (messageR m) (one-text left l)))
 
-  on-403 : (id : ℕ) → Fault403 m id ↔ Leaves c (ran t (replyText id (errorText 403)))
+  on-403 : (id : ℕ) → Fault403 m id ↔ Leaves c (ran st (replyText id (errorText 403)))
   unfolding runMessage
-  on-403 id = (λ f. read-as (fault403 id) (fault-403 m id .1 f), λ l. fault-403 m id .0 (told-403 t (messageR m) id (one-text left l)))
+  on-403 id = (λ f. read-as (fault403 id) (fault-403 m id .1 f), λ l. fault-403 m id .0 (told-403 st (messageR m) id (one-text left l)))
 
 elsewhere : (m : List ℕ) → messageR m ≡ fault400 ↔ Fault400 m
 elsewhere m = (
@@ -106,9 +107,9 @@ elsewhere m = (
   λ f. fault-400 m .1 (λ xs d. f .not-admitted (xs, d), f .not-403, f .not-406),
 )
 
-on-400 : {n : ℕ} {m t own o : List ℕ} (c : Made n m t own o) → refusalOf (c .answer) ≡ 0 → Fault400 m ↔ Leaves c (ran t (errorText 400))
+on-400 : {n : ℕ} {m : List ℕ} {st : State} {own o : List ℕ} (c : Made n m st own o) → refusalOf (c .answer) ≡ 0 → Fault400 m ↔ Leaves c (ran st (errorText 400))
 unfolding runMessage
-on-400 {n} {m} {t} c e = (λ f. read-as c e fault400 (elsewhere m .1 f), λ l. elsewhere m .0 (told-400 t (messageR m) (one-text (left c e) l)))
+on-400 {n} {m} {st} c e = (λ f. read-as c e fault400 (elsewhere m .1 f), λ l. elsewhere m .0 (told-400 st (messageR m) (one-text (left c e) l)))
 
 one-of : (m : List ℕ) → Admitted m ⊎ Fault406 m ⊎ ((id : ℕ) × Fault403 m id) ⊎ Fault400 m
 one-of m = go (messageR m) refl
@@ -120,7 +121,7 @@ one-of m = go (messageR m) refl
     go fault400 q = inr (inr (inr (elsewhere m .0 q)))
 
 pub demand-2 : Demand-2
-demand-2 n m t own o c e =
+demand-2 n m st own o c e =
     record {
       run = run c e;
       gives = gives c e;

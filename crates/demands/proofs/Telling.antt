@@ -11,6 +11,7 @@ use Rattle.base.specs.Pick.{pick}
 use Rattle.base.specs.Bytes.{text, _then_, decimalF, decimal}
 use Rattle.base.proofs.PickLaws.{pick-ind}
 use Rattle.megaco.specs.Tree.{Transaction, transaction, Message, wellFormed, fault400, fault403, fault406}
+use Rattle.megaco.specs.State.{State}
 use Rattle.megaco.specs.Reply.{Acted, actionText, earlierText, actionsText, errorText, replyText, limited, transactionText}
 use Rattle.megaco.specs.Running.{runTransaction, runTransactions, runMessage}
 use Rattle.grammar.specs.Grammar.{valueFrom}
@@ -119,43 +120,43 @@ first-limited : (id : ℕ) (x rest : List ℕ) → getD (limited id (replyText i
 unfolding limited replyText _then_
 first-limited id x rest = pick-ind (λ z. getD (z ++ rest) 0 0 ≡ 0x50) (ltb 2048 (length (replyText id x))) (replyText id (errorText 533)) (replyText id x) (λ _. refl) (λ _. refl)
 
-run-not-403 : (xs : List Transaction) (t : List ℕ) (j : ℕ) → runTransactions xs t .text ≢ replyText j (errorText 403)
+run-not-403 : (xs : List Transaction) (st : State) (j : ℕ) → runTransactions xs st .text ≢ replyText j (errorText 403)
 unfolding runTransactions runTransaction transactionText _then_
-run-not-403 [] t j e = omega (arith, reply-first j (errorText 403), ap (λ (z : List ℕ). getD z 0 0) e)
-run-not-403 (transaction id acts ∷ xs) t j e = not-403 id j _ _ e
+run-not-403 [] st j e = omega (arith, reply-first j (errorText 403), ap (λ (z : List ℕ). getD z 0 0) e)
+run-not-403 (transaction id acts ∷ xs) st j e = not-403 id j _ _ e
 
-run-not-error : (xs : List Transaction) (t : List ℕ) → getD (runTransactions xs t .text) 0 0 ≢ 0x45
+run-not-error : (xs : List Transaction) (st : State) → getD (runTransactions xs st .text) 0 0 ≢ 0x45
 unfolding runTransactions runTransaction transactionText _then_
-run-not-error [] t e = omega (arith, e)
-run-not-error (transaction id acts ∷ xs) t e = let f : _≡_ {A = ℕ} 0x50 0x45 = sym (first-limited id _ _) ∙ e in omega (arith, f)
+run-not-error [] st e = omega (arith, e)
+run-not-error (transaction id acts ∷ xs) st e = let f : _≡_ {A = ℕ} 0x50 0x45 = sym (first-limited id _ _) ∙ e in omega (arith, f)
 
 -- ---- so a text tells the message's kind
 
-module _ (t : List ℕ) where
-  pub run-told : (y : Message) (xs : List Transaction) → runMessage y t .text ≡ runTransactions xs t .text → (ys : List Transaction) × (y ≡ wellFormed ys)
+module _ (st : State) where
+  pub run-told : (y : Message) (xs : List Transaction) → runMessage y st .text ≡ runTransactions xs st .text → (ys : List Transaction) × (y ≡ wellFormed ys)
   unfolding runMessage
   run-told (wellFormed ys) xs e = (ys, refl)
-  run-told fault400 xs e = absurd (run-not-error xs t (sym (ap (λ (z : List ℕ). getD z 0 0) (rw error-400 at e))))
-  run-told (fault403 id) xs e = absurd (run-not-403 xs t id (sym e))
-  run-told fault406 xs e = absurd (run-not-error xs t (sym (ap (λ (z : List ℕ). getD z 0 0) (rw error-406 at e))))
+  run-told fault400 xs e = absurd (run-not-error xs st (sym (ap (λ (z : List ℕ). getD z 0 0) (rw error-400 at e))))
+  run-told (fault403 id) xs e = absurd (run-not-403 xs st id (sym e))
+  run-told fault406 xs e = absurd (run-not-error xs st (sym (ap (λ (z : List ℕ). getD z 0 0) (rw error-406 at e))))
 
-  pub told-400 : (y : Message) → runMessage y t .text ≡ errorText 400 → y ≡ fault400
+  pub told-400 : (y : Message) → runMessage y st .text ≡ errorText 400 → y ≡ fault400
   unfolding runMessage
-  told-400 (wellFormed ys) e = absurd (run-not-error ys t (ap (λ (z : List ℕ). getD z 0 0) (rw error-400 at e)))
+  told-400 (wellFormed ys) e = absurd (run-not-error ys st (ap (λ (z : List ℕ). getD z 0 0) (rw error-400 at e)))
   told-400 fault400 e = refl
   told-400 (fault403 id) e = absurd (omega (arith, reply-first id (errorText 403), ap (λ (z : List ℕ). getD z 0 0) (rw error-400 at e)))
   told-400 fault406 e = absurd (omega (arith, ap (λ (z : List ℕ). getD z 5 0) (rw (error-400, error-406) at e)))
 
-  pub told-406 : (y : Message) → runMessage y t .text ≡ errorText 406 → y ≡ fault406
+  pub told-406 : (y : Message) → runMessage y st .text ≡ errorText 406 → y ≡ fault406
   unfolding runMessage
-  told-406 (wellFormed ys) e = absurd (run-not-error ys t (ap (λ (z : List ℕ). getD z 0 0) (rw error-406 at e)))
+  told-406 (wellFormed ys) e = absurd (run-not-error ys st (ap (λ (z : List ℕ). getD z 0 0) (rw error-406 at e)))
   told-406 fault400 e = absurd (omega (arith, ap (λ (z : List ℕ). getD z 5 0) (rw (error-400, error-406) at e)))
   told-406 (fault403 id) e = absurd (omega (arith, reply-first id (errorText 403), ap (λ (z : List ℕ). getD z 0 0) (rw error-406 at e)))
   told-406 fault406 e = refl
 
-  pub told-403 : (y : Message) (id : ℕ) → runMessage y t .text ≡ replyText id (errorText 403) → y ≡ fault403 id
+  pub told-403 : (y : Message) (id : ℕ) → runMessage y st .text ≡ replyText id (errorText 403) → y ≡ fault403 id
   unfolding runMessage
-  told-403 (wellFormed ys) id e = absurd (run-not-403 ys t id e)
+  told-403 (wellFormed ys) id e = absurd (run-not-403 ys st id e)
   told-403 fault400 id e = absurd (omega (arith, reply-first id (errorText 403), ap (λ (z : List ℕ). getD z 0 0) (rw error-400 at e)))
   told-403 (fault403 j) id e = ap fault403 (behind-brace j id (errorText 403) (errorText 403) [] (append-nil (replyText j (errorText 403)) ∙ e) .0)
   told-403 fault406 id e = absurd (omega (arith, reply-first id (errorText 403), ap (λ (z : List ℕ). getD z 0 0) (rw error-406 at e)))

@@ -13,6 +13,7 @@ use Rattle.base.proofs.PickLaws.{pick-ind}
 use Rattle.base.proofs.TestLaws.{clash, and-both, both-and, or-neither}
 use Rattle.megaco.specs.Tokens.{isMid}
 use Rattle.megaco.specs.Table.{words, mostLines, sound}
+use Rattle.megaco.specs.State.{State}
 use Rattle.megaco.specs.Names.{within}
 use Rattle.megaco.specs.Call.{Called, written, replied, taken, call}
 use Rattle.grammar.proofs.OwnLaws.{own-mid}
@@ -68,40 +69,40 @@ message-test m = (
 
 -- ---- the refusal is the first that applies
 
-module _ (n : ℕ) (m t own o : List ℕ) where
-  pub call-refusal : Refusal n m t own o (call n m t own o .refusal)
+module _ (n : ℕ) (m : List ℕ) (st : State) (own o : List ℕ) where
+  pub call-refusal : Refusal n m st own o (call n m st own o .refusal)
   unfolding call taken replied written
   call-refusal =
-      let P : Called → Type 0 = λ c. Refusal n m t own o (c .refusal) in
+      let P : Called → Type 0 = λ c. Refusal n m st own o (c .refusal) in
       pick-ind P _ _ _ (λ z. linesUnfit (unfit (lines-test n) z)) λ e.
       let a = lines-test n .0 e in
       pick-ind P _ _ _ (λ z. bufferUnfit a (unfit (buffer-test o) z)) λ f.
       let b = buffer-test o .0 f in
-      pick-ind P _ _ _ (λ z. tableUnfit a b (unfit (table-test n t) z)) λ g.
-      let c = table-test n t .0 g in
+      pick-ind P _ _ _ (λ z. tableUnfit a b (unfit (table-test n (st .table)) z)) λ g.
+      let c = table-test n (st .table) .0 g in
       pick-ind P _ _ _ (λ z. ownUnfit a b c (unfit (own-test own) z)) λ h.
       let d = own-test own .0 h in
       pick-ind P _ _ _ (λ z. messageUnfit a b c d (unfit (message-test m) z)) λ i.
       allFit a b c d (message-test m .0 i)
 
-  pub refusal-call : (k : ℕ) → Refusal n m t own o k → call n m t own o .refusal ≡ k
+  pub refusal-call : (k : ℕ) → Refusal n m st own o k → call n m st own o .refusal ≡ k
   unfolding call taken replied written pick
   refusal-call k (linesUnfit h) = rw (raised _ (lines-test n) h)
   refusal-call k (bufferUnfit a h) = rw (lines-test n .1 a, raised _ (buffer-test o) h)
-  refusal-call k (tableUnfit a b h) = rw (lines-test n .1 a, buffer-test o .1 b, raised _ (table-test n t) h)
-  refusal-call k (ownUnfit a b c h) = rw (lines-test n .1 a, buffer-test o .1 b, table-test n t .1 c, raised _ (own-test own) h)
-  refusal-call k (messageUnfit a b c d h) = rw (lines-test n .1 a, buffer-test o .1 b, table-test n t .1 c, own-test own .1 d, raised _ (message-test m) h)
-  refusal-call k (allFit a b c d h) = rw (lines-test n .1 a, buffer-test o .1 b, table-test n t .1 c, own-test own .1 d, message-test m .1 h)
+  refusal-call k (tableUnfit a b h) = rw (lines-test n .1 a, buffer-test o .1 b, raised _ (table-test n (st .table)) h)
+  refusal-call k (ownUnfit a b c h) = rw (lines-test n .1 a, buffer-test o .1 b, table-test n (st .table) .1 c, raised _ (own-test own) h)
+  refusal-call k (messageUnfit a b c d h) = rw (lines-test n .1 a, buffer-test o .1 b, table-test n (st .table) .1 c, own-test own .1 d, raised _ (message-test m) h)
+  refusal-call k (allFit a b c d h) = rw (lines-test n .1 a, buffer-test o .1 b, table-test n (st .table) .1 c, own-test own .1 d, message-test m .1 h)
 
 -- what a call that is taken has passed
-pub record Fits (n : ℕ) (m t own o : List ℕ) : Type 0 where
+pub record Fits (n : ℕ) (m : List ℕ) (st : State) (own o : List ℕ) : Type 0 where
   pub lines : LinesFit n
   pub buffer : BufferFits o
-  pub table : TableFits n t
+  pub table : TableFits n (st .table)
   pub own-fits : OwnFits own
   pub message : MessageFits m
 
-pub fits : {n : ℕ} {m t own o : List ℕ} (k : ℕ) → k ≡ 0 → Refusal n m t own o k → Fits n m t own o
+pub fits : {n : ℕ} {m : List ℕ} {st : State} {own o : List ℕ} (k : ℕ) → k ≡ 0 → Refusal n m st own o k → Fits n m st own o
 fits k e (linesUnfit h) = absurd (omega (arith, e))
 fits k e (bufferUnfit a h) = absurd (omega (arith, e))
 fits k e (tableUnfit a b h) = absurd (omega (arith, e))
@@ -109,38 +110,38 @@ fits k e (ownUnfit a b c h) = absurd (omega (arith, e))
 fits k e (messageUnfit a b c d h) = absurd (omega (arith, e))
 fits k e (allFit a b c d h) = record { lines = a; buffer = b; table = c; own-fits = d; message = h }
 
-pub fit-call : {n : ℕ} {m t own o : List ℕ} → Fits n m t own o → call n m t own o ≡ taken m t own o
+pub fit-call : {n : ℕ} {m : List ℕ} {st : State} {own o : List ℕ} → Fits n m st own o → call n m st own o ≡ taken m st own o
 unfolding call pick
-fit-call {n} {m} {t} {own} {o} f = rw (lines-test n .1 (f .lines), buffer-test o .1 (f .buffer), table-test n t .1 (f .table), own-test own .1 (f .own-fits), message-test m .1 (f .message))
+fit-call {n} {m} {st} {own} {o} f = rw (lines-test n .1 (f .lines), buffer-test o .1 (f .buffer), table-test n (st .table) .1 (f .table), own-test own .1 (f .own-fits), message-test m .1 (f .message))
 
 -- ---- demand 1
 
-module _ {n : ℕ} {m t own o : List ℕ} (c : Made n m t own o) where
-  pub number-is : (k : ℕ) → refusalOf (c .answer) ≡ k ↔ Refusal n m t own o k
+module _ {n : ℕ} {m : List ℕ} {st : State} {own o : List ℕ} (c : Made n m st own o) where
+  pub number-is : (k : ℕ) → refusalOf (c .answer) ≡ k ↔ Refusal n m st own o k
   number-is k = (
-    λ e. subst (Refusal n m t own o) (sym (c .promise .refusal) ∙ e) (call-refusal n m t own o),
-    λ v. c .promise .refusal ∙ refusal-call n m t own o k v,
+    λ e. subst (Refusal n m st own o) (sym (c .promise .refusal) ∙ e) (call-refusal n m st own o),
+    λ v. c .promise .refusal ∙ refusal-call n m st own o k v,
   )
 
-  untouched : refusalOf (c .answer) ≢ 0 → Untouched t o c
+  untouched : refusalOf (c .answer) ≢ 0 → Untouched st o c
   untouched h =
-      let k = refusal-keeps n m t own o (λ e. h (c .promise .refusal ∙ e)) in
-      record { size = c .promise .size ∙ k .size; table = c .promise .table ∙ k .table; buffer = c .promise .reply ∙ k .reply }
+      let k = refusal-keeps n m st own o (λ e. h (c .promise .refusal ∙ e)) in
+      record { size = c .promise .size ∙ k .size; state = c .promise .state ∙ k .state; buffer = c .promise .reply ∙ k .reply }
 
-  in-range : refusalOf (c .answer) ≡ 0 → InRange t o c
+  in-range : refusalOf (c .answer) ≡ 0 → InRange st o c
   in-range e =
-      let b = call-bounded n m t own o in
-      let f : Fits n m t own o = fits 0 refl (number-is 0 .0 e) in
+      let b = call-bounded n m st own o in
+      let f : Fits n m st own o = fits 0 refl (number-is 0 .0 e) in
       record {
         within = omega (arith, c .promise .size, b .fits, f .buffer);
         long = ap length (c .promise .reply) ∙ b .long;
         past = rw (c .promise .size, c .promise .reply) (b .past);
-        size = ap length (c .promise .table) ∙ call-length n m t own o;
-        again = rw (c .promise .table) (call-sound n m t own o (f .table .1));
+        size = ap (λ (z : State). length (z .table)) (c .promise .state) ∙ call-length n m st own o;
+        again = rw (c .promise .state) (call-sound n m st own o (f .table .1));
       }
 
 pub demand-1 : Demand-1
-demand-1 n m t own o c = record { number = number-is c; down = untouched c; taken = in-range c }
+demand-1 n m st own o c = record { number = number-is c; down = untouched c; taken = in-range c }
 
 -- ---- an answer for each refusal: a call from C
 
@@ -149,7 +150,7 @@ record Outcomes (k s : ℕ) : Type 0 where
   refusal : refusalOf outcome ≡ k
   size : sizeOf outcome ≡ s
 
-outcomes : {n : ℕ} {m t own o : List ℕ} {k : ℕ} (s : ℕ) → (k ≢ 0 → s ≡ 0) → Refusal n m t own o k → Outcomes k s
+outcomes : {n : ℕ} {m : List ℕ} {st : State} {own o : List ℕ} {k : ℕ} (s : ℕ) → (k ≢ 0 → s ≡ 0) → Refusal n m st own o k → Outcomes k s
 unfolding refusalOf sizeOf
 outcomes s z (linesUnfit h) = record { outcome = LinesUnfit; refusal = refl; size = sym (z (λ e. omega (arith, e))) }
 outcomes s z (bufferUnfit a h) = record { outcome = ReplyTooShort; refusal = refl; size = sym (z (λ e. omega (arith, e))) }
@@ -159,9 +160,9 @@ outcomes s z (messageUnfit a b c d h) = record { outcome = MessageUnfit; refusal
 outcomes s z (allFit a b c d h) = record { outcome = Taken s; refusal = refl; size = refl }
 
 pub from-c : From-C
-from-c n m t own o t′ o′ r p =
-    let x = outcomes (call n m t own o .size) (λ h. refusal-keeps n m t own o h .size) (call-refusal n m t own o) in (
-      record { table = t′; buffer = o′; answer = x .outcome; promise = record { refusal = x .refusal; size = x .size; table = p .table; reply = p .reply } },
+from-c n m st own o st′ o′ r p =
+    let x = outcomes (call n m st own o .size) (λ h. refusal-keeps n m st own o h .size) (call-refusal n m st own o) in (
+      record { state = st′; buffer = o′; answer = x .outcome; promise = record { refusal = x .refusal; size = x .size; state = p .state; reply = p .reply } },
       refl,
       refl,
       p .answer ∙ (λ i. sym (x .size) i + 4294967296 * sym (x .refusal) i),

@@ -11,6 +11,7 @@ use Rattle.base.specs.Lists.{same}
 use Rattle.base.specs.Bytes.{text}
 use Rattle.base.proofs.TestLaws.{clash}
 use Rattle.megaco.specs.Tree.{Transaction}
+use Rattle.megaco.specs.State.{State, state}
 use Rattle.megaco.specs.Tokens.{isMid}
 use Rattle.megaco.specs.Table.{words}
 use Rattle.grammar.specs.Grammar.{atMost, transactionList, lastRequest, nextRequest, megacoMessage}
@@ -59,7 +60,7 @@ pub pair : Pair
 pair =
     record {
       lines = 8;
-      table = start;
+      state = state start;
       own = own;
       one = message one;
       two = message two;

@@ -8,6 +8,7 @@ use mathlib.Core.List.{List, [], _∷_, _++_}
 use lib.ListN.{length, take, drop}
 use Rattle.megaco.specs.Tree.{Transaction}
 use Rattle.megaco.specs.Table.{words, fitted, sound}
+use Rattle.megaco.specs.State.{State}
 use Rattle.megaco.specs.Reply.{headerText, errorText, replyText}
 use Rattle.megaco.specs.Running.{Ran, ran, runTransaction, runTransactions}
 use Rattle.megaco.specs.Call.{call}
@@ -22,18 +23,18 @@ use Rattle.gateway.specs.Answers.{refusalOf, sizeOf, Answered, Packed}
 use Rattle.gateway.specs.declared.Outcome.{Outcome}
 use Rattle.gateway.specs.declared.Outcome.the-variants.{Taken}
 
--- a call of `answer` that was made with n lines, the message m, the table t, the gateway's own mId and the reply buffer o: the table and
--- the buffer that it left and what it answered, of which its contract promises `Answered`. It has no `requires`
-pub record Made (n : ℕ) (m t own o : List ℕ) : Type 0 where
-  pub table : List ℕ
+-- a call of `answer` that was made with n lines, the message m, the state st (the table), the gateway's own mId and the reply buffer o: the
+-- state and the buffer that it left and what it answered, of which its contract promises `Answered`. It has no `requires`
+pub record Made (n : ℕ) (m : List ℕ) (st : State) (own o : List ℕ) : Type 0 where
+  pub state : State
   pub buffer : List ℕ
   pub answer : Outcome
-  pub promise : Answered (call n m t own o) table buffer answer
+  pub promise : Answered (call n m st own o) state buffer answer
 
 -- a call of `cordafina_answer`, from C, is such a call with the answer in one number: so all that is said here of calls is said of these
 abbrev pub From-C : Type 0
-From-C = (n : ℕ) (m t own o t′ o′ : List ℕ) (r : ℕ) → Packed (call n m t own o) t′ o′ r
-    → (c : Made n m t own o) × (c .table ≡ t′) × (c .buffer ≡ o′) × (r ≡ sizeOf (c .answer) + 4294967296 * refusalOf (c .answer))
+From-C = (n : ℕ) (m : List ℕ) (st : State) (own o : List ℕ) (st′ : State) (o′ : List ℕ) (r : ℕ) → Packed (call n m st own o) st′ o′ r
+    → (c : Made n m st own o) × (c .state ≡ st′) × (c .buffer ≡ o′) × (r ≡ sizeOf (c .answer) + 4294967296 * refusalOf (c .answer))
 
 -- soundness, which the call tests, as facts about each termination and each context
 abbrev pub Soundness : Type 0
@@ -59,41 +60,41 @@ abbrev pub MessageFits : List ℕ → Type 0
 MessageFits m = (1 ≤ length m) × (length m ≤ 4096)
 
 -- "Checked in this order": the number of the first condition that does not hold; 0 where all do and the call is taken
-pub data Refusal (n : ℕ) (m t own o : List ℕ) : ℕ → Type 0 where
-  linesUnfit : ¬ LinesFit n → Refusal n m t own o 8
-  bufferUnfit : LinesFit n → ¬ BufferFits o → Refusal n m t own o 3
-  tableUnfit : LinesFit n → BufferFits o → ¬ TableFits n t → Refusal n m t own o 2
-  ownUnfit : LinesFit n → BufferFits o → TableFits n t → ¬ OwnFits own → Refusal n m t own o 4
-  messageUnfit : LinesFit n → BufferFits o → TableFits n t → OwnFits own → ¬ MessageFits m → Refusal n m t own o 1
-  allFit : LinesFit n → BufferFits o → TableFits n t → OwnFits own → MessageFits m → Refusal n m t own o 0
+pub data Refusal (n : ℕ) (m : List ℕ) (st : State) (own o : List ℕ) : ℕ → Type 0 where
+  linesUnfit : ¬ LinesFit n → Refusal n m st own o 8
+  bufferUnfit : LinesFit n → ¬ BufferFits o → Refusal n m st own o 3
+  tableUnfit : LinesFit n → BufferFits o → ¬ TableFits n (st .table) → Refusal n m st own o 2
+  ownUnfit : LinesFit n → BufferFits o → TableFits n (st .table) → ¬ OwnFits own → Refusal n m st own o 4
+  messageUnfit : LinesFit n → BufferFits o → TableFits n (st .table) → OwnFits own → ¬ MessageFits m → Refusal n m st own o 1
+  allFit : LinesFit n → BufferFits o → TableFits n (st .table) → OwnFits own → MessageFits m → Refusal n m st own o 0
 
 -- a call that is turned down: "Each gives length 0 and changes neither reply buffer nor table"
-pub record Untouched (t o : List ℕ) {n : ℕ} {m own : List ℕ} (c : Made n m t own o) : Type 0 where
+pub record Untouched (st : State) (o : List ℕ) {n : ℕ} {m own : List ℕ} (c : Made n m st own o) : Type 0 where
   pub size : sizeOf (c .answer) ≡ 0
-  pub table : c .table ≡ t
+  pub state : c .state ≡ st
   pub buffer : c .buffer ≡ o
 
 -- a call that is taken: the reply lies within the buffer, "and bytes past its length stay"; the table is of the same size and sound again
-pub record InRange (t o : List ℕ) {n : ℕ} {m own : List ℕ} (c : Made n m t own o) : Type 0 where
+pub record InRange (st : State) (o : List ℕ) {n : ℕ} {m own : List ℕ} (c : Made n m st own o) : Type 0 where
   pub within : sizeOf (c .answer) ≤ length o
   pub long : length (c .buffer) ≡ length o
   pub past : drop (sizeOf (c .answer)) (c .buffer) ≡ drop (sizeOf (c .answer)) o
-  pub size : length (c .table) ≡ length t
-  pub again : sound (c .table) ≡ true
+  pub size : length (c .state .table) ≡ length (st .table)
+  pub again : sound (c .state .table) ≡ true
 
-pub record Answers {n : ℕ} {m t own o : List ℕ} (c : Made n m t own o) : Type 0 where
+pub record Answers {n : ℕ} {m : List ℕ} {st : State} {own o : List ℕ} (c : Made n m st own o) : Type 0 where
   -- "it answers as document 01 says"
-  pub number : (k : ℕ) → refusalOf (c .answer) ≡ k ↔ Refusal n m t own o k
+  pub number : (k : ℕ) → refusalOf (c .answer) ≡ k ↔ Refusal n m st own o k
   -- "A call it turns down writes no byte of the reply and no word of the table"
-  pub down : refusalOf (c .answer) ≢ 0 → Untouched t o c
+  pub down : refusalOf (c .answer) ≢ 0 → Untouched st o c
   -- "it touches nothing out of range"
-  pub taken : refusalOf (c .answer) ≡ 0 → InRange t o c
+  pub taken : refusalOf (c .answer) ≡ 0 → InRange st o c
 
 abbrev pub Demand-1 : Type 0
 Demand-1 =
     -- "Feed it line noise, a message of one byte, a table somebody trampled, a reply buffer too short": any count and any four slices.
     -- "Callers check nothing beforehand": no condition. "it ends, it touches nothing out of range": that `answer` is proved at all
-    (n : ℕ) (m t own o : List ℕ) (c : Made n m t own o) → Answers c
+    (n : ℕ) (m : List ℕ) (st : State) (own o : List ℕ) (c : Made n m st own o) → Answers c
 
 -- ---- demand 2
 
@@ -101,10 +102,10 @@ Demand-1 =
 abbrev pub replyWith : List ℕ → List ℕ → List ℕ
 replyWith own x = headerText own ++ x
 
--- the call was taken and left this table and this text: "a reply is written from the start of the buffer, and bytes past its length stay"
-pub record Leaves {n : ℕ} {m t own o : List ℕ} (c : Made n m t own o) (x : Ran) : Type 0 where
+-- the call was taken and left this state and this text: "a reply is written from the start of the buffer, and bytes past its length stay"
+pub record Leaves {n : ℕ} {m : List ℕ} {st : State} {own o : List ℕ} (c : Made n m st own o) (x : Ran) : Type 0 where
   pub answer : c .answer ≡ Taken (length (replyWith own (x .text)))
-  pub table : c .table ≡ x .table
+  pub state : c .state ≡ x .state
   pub buffer : c .buffer ≡ replyWith own (x .text) ++ drop (length (replyWith own (x .text))) o
 
 -- "of version 1 and the grammar of H.248.1 Annex B, in the profile of document 01, admits it"
@@ -117,27 +118,27 @@ pub record Fault400 (m : List ℕ) : Type 0 where
   pub not-403 : (id : ℕ) → ¬ Fault403 m id
   pub not-406 : ¬ Fault406 m
 
-pub record Runs {n : ℕ} {m t own o : List ℕ} (c : Made n m t own o) : Type 0 where
+pub record Runs {n : ℕ} {m : List ℕ} {st : State} {own o : List ℕ} (c : Made n m st own o) : Type 0 where
   -- "is run exactly when it is of version 1 and the grammar .. admits it": that it was run means that it left what some transactions leave
-  pub run : Admitted m ↔ ((xs : List Transaction) × Leaves c (runTransactions xs t))
+  pub run : Admitted m ↔ ((xs : List Transaction) × Leaves c (runTransactions xs st))
   -- "The table afterwards and each byte of the reply are then what clauses 6 to 8 and document 01's rules give, command by command"
-  pub gives : (xs : List Transaction) → megacoMessage m 1 xs → Leaves c (runTransactions xs t)
+  pub gives : (xs : List Transaction) → megacoMessage m 1 xs → Leaves c (runTransactions xs st)
   -- the transactions that the grammar finds in a message are the only ones
   pub only : (xs ys : List Transaction) → megacoMessage m 1 xs → megacoMessage m 1 ys → xs ≡ ys
-  -- "On a fault nothing runs": the table is t, and each answer is given exactly when the grammar calls for it.
+  -- "On a fault nothing runs": the state is st, and each answer is given exactly when the grammar calls for it.
   -- "A header .. that reads well with a version other than 1: `ER=406{}`"
-  pub on-406 : Fault406 m ↔ Leaves c (ran t (errorText 406))
+  pub on-406 : Fault406 m ↔ Leaves c (ran st (errorText 406))
   -- "Fault between a transaction's opening and closing brace, or identifier 0: the reply is `P=id{ER=403{}}` alone"
-  pub on-403 : (id : ℕ) → Fault403 m id ↔ Leaves c (ran t (replyText id (errorText 403)))
+  pub on-403 : (id : ℕ) → Fault403 m id ↔ Leaves c (ran st (replyText id (errorText 403)))
   -- "Fault elsewhere: `ER=400{}`"
-  pub on-400 : Fault400 m ↔ Leaves c (ran t (errorText 400))
+  pub on-400 : Fault400 m ↔ Leaves c (ran st (errorText 400))
   -- there is no fifth case
   pub one-of : Admitted m ⊎ Fault406 m ⊎ ((id : ℕ) × Fault403 m id) ⊎ Fault400 m
 
 abbrev pub Demand-2 : Type 0
 Demand-2 =
     -- "A message not turned down"
-    (n : ℕ) (m t own o : List ℕ) (c : Made n m t own o) → refusalOf (c .answer) ≡ 0
+    (n : ℕ) (m : List ℕ) (st : State) (own o : List ℕ) (c : Made n m st own o) → refusalOf (c .answer) ≡ 0
     -- "is run exactly when .. admits it. The table afterwards and each byte of the reply are then what .. give"
     → Runs c
 
@@ -148,9 +149,9 @@ pub record WellFormed (x : Transaction) : Type 0 where
   pub bytes : List ℕ
   pub derives : transactionRequest bytes x
 
-pub record Conditions (t : List ℕ) (x y : Transaction) : Type 0 where
+pub record Conditions (st : State) (x y : Transaction) : Type 0 where
   -- "Take any sound table to start from"
-  pub start : sound t ≡ true
+  pub start : sound (st .table) ≡ true
   -- "and any two well-formed transactions"
   pub formed-one : WellFormed x
   pub formed-two : WellFormed y
@@ -161,29 +162,29 @@ pub record Conditions (t : List ℕ) (x y : Transaction) : Type 0 where
   pub names-one : NamesPlain x
   pub names-two : NamesPlain y
   -- "Say that no termination is named by both"
-  pub terminations : TerminationsApart (fitted t) x y
+  pub terminations : TerminationsApart (fitted (st .table)) x y
   -- "Say that the numbered contexts each names, with the numbered ones its terminations stand in at the start, are apart from the other's"
-  pub contexts : ContextsApart t x y
+  pub contexts : ContextsApart (st .table) x y
 
 -- what a call replied
-abbrev pub replyOf : {n : ℕ} {m t own o : List ℕ} → Made n m t own o → List ℕ
+abbrev pub replyOf : {n : ℕ} {m : List ℕ} {st : State} {own o : List ℕ} → Made n m st own o → List ℕ
 replyOf c = take (sizeOf (c .answer)) (c .buffer)
 
 -- the messages m and k hold the transactions x and y alone, and can be sent to a gateway of n lines
-pub record Sent (n : ℕ) (t own m k : List ℕ) (x y : Transaction) : Type 0 where
+pub record Sent (n : ℕ) (st : State) (own m k : List ℕ) (x y : Transaction) : Type 0 where
   pub one : megacoMessage m 1 (x ∷ [])
   pub two : megacoMessage k 1 (y ∷ [])
   pub size-one : MessageFits m
   pub size-two : MessageFits k
-  pub lines : length t ≡ words n
+  pub lines : length (st .table) ≡ words n
   pub own-fits : OwnFits own
 
 -- "ends alike in both orders", of four calls: m and then k, with the answers a and b; k and then m, with c and d
-pub record Alike {n : ℕ} {m k t own o₁ o₂ o₃ o₄ : List ℕ} (a : Made n m t own o₁) (b : Made n k (a .table) own o₂) (c : Made n k t own o₃) (d : Made n m (c .table) own o₄) : Type 0 where
+pub record Alike {n : ℕ} {m k : List ℕ} {st : State} {own o₁ o₂ o₃ o₄ : List ℕ} (a : Made n m st own o₁) (b : Made n k (a .state) own o₂) (c : Made n k st own o₃) (d : Made n m (c .state) own o₄) : Type 0 where
   -- none is turned down
   pub taken : (refusalOf (a .answer) ≡ 0) × (refusalOf (b .answer) ≡ 0) × (refusalOf (c .answer) ≡ 0) × (refusalOf (d .answer) ≡ 0)
   -- "the same in every word of the table"
-  pub table : b .table ≡ d .table
+  pub state : b .state ≡ d .state
   -- "and each transaction's reply the same byte for byte": the answer with the reply's length, and the reply
   pub answer-one : a .answer ≡ d .answer
   pub answer-two : b .answer ≡ c .answer
@@ -193,30 +194,30 @@ pub record Alike {n : ℕ} {m k t own o₁ o₂ o₃ o₄ : List ℕ} (a : Made 
   pub buffer-one : o₁ ≡ o₄ → a .buffer ≡ d .buffer
   pub buffer-two : o₂ ≡ o₃ → b .buffer ≡ c .buffer
 
-pub record Orders (t : List ℕ) (x y : Transaction) : Type 0 where
-  -- "running one after the other from that table ends alike in both orders": `runTransaction`'s tables and `P=id{..}`, 533 included
-  pub transactions : EitherOrder t x y
+pub record Orders (st : State) (x y : Transaction) : Type 0 where
+  -- "running one after the other from that table ends alike in both orders": `runTransaction`'s states and `P=id{..}`, 533 included
+  pub transactions : EitherOrder st x y
   -- "Table and replies are those that demand 2 defines": four calls, whatever the buffers hold. "The second starts from the table the first left"
-  pub calls : (n : ℕ) (own m k : List ℕ) → Sent n t own m k x y → (o₁ o₂ o₃ o₄ : List ℕ) → BufferFits o₁ → BufferFits o₂ → BufferFits o₃ → BufferFits o₄
-      → (a : Made n m t own o₁) (b : Made n k (a .table) own o₂) (c : Made n k t own o₃) (d : Made n m (c .table) own o₄) → Alike a b c d
+  pub calls : (n : ℕ) (own m k : List ℕ) → Sent n st own m k x y → (o₁ o₂ o₃ o₄ : List ℕ) → BufferFits o₁ → BufferFits o₂ → BufferFits o₃ → BufferFits o₄
+      → (a : Made n m st own o₁) (b : Made n k (a .state) own o₂) (c : Made n k st own o₃) (d : Made n m (c .state) own o₄) → Alike a b c d
   -- document 02, CR 13: "in any mixture that keeps each one's own order"
-  pub mixture : (z : Mixture (stepsOf x) (stepsOf y)) → AsOneAfterOther t x y (mixed z (outset t))
+  pub mixture : (z : Mixture (stepsOf x) (stepsOf y)) → AsOneAfterOther st x y (mixed z (outset st))
 
 abbrev pub Demand-3 : Type 0
 Demand-3 =
     -- "Then, whatever commands the two hold and whichever of these fail": no other condition
-    (t : List ℕ) (x y : Transaction) → Conditions t x y → Orders t x y
+    (st : State) (x y : Transaction) → Conditions st x y → Orders st x y
 
 -- it is not empty: two messages, sent to a gateway in use, that meet every condition and of which each changes the table
 pub record Pair : Type 0 where
   pub lines : ℕ
-  pub table : List ℕ
+  pub state : State
   pub own : List ℕ
   pub one : List ℕ
   pub two : List ℕ
   pub x : Transaction
   pub y : Transaction
-  pub conditions : Conditions table x y
-  pub sent : Sent lines table own one two x y
-  pub changes-one : runTransaction x table .table ≢ table
-  pub changes-two : runTransaction y table .table ≢ table
+  pub conditions : Conditions state x y
+  pub sent : Sent lines state own one two x y
+  pub changes-one : runTransaction x state .state .table ≢ state .table
+  pub changes-two : runTransaction y state .state .table ≢ state .table

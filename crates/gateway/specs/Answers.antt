@@ -2,6 +2,7 @@
 use Prim.Native.Nat.{ℕ, _+_, _*_}
 use mathlib.Core.Path.{_≡_}
 use mathlib.Core.List.{List}
+use Rattle.megaco.specs.State.{State}
 use Rattle.megaco.specs.Call.{Called}
 use Rattle.gateway.specs.declared.Outcome.{Outcome}
 use Rattle.gateway.specs.declared.Outcome.the-variants.{Taken, ReplyTooShort, TableUnsound, MidUnfit, MessageUnfit, LinesUnfit}
@@ -24,11 +25,11 @@ sizeOf MidUnfit = 0
 sizeOf MessageUnfit = 0
 sizeOf LinesUnfit = 0
 
--- an answer, the table and the reply buffer after the call are those of the definition
-pub record Answered (c : Called) (t′ o′ : List ℕ) (r : Outcome) : Type 0 where
+-- an answer, the state made of the lent slices and the reply buffer after the call are those of the definition
+pub record Answered (c : Called) (t′ : State) (o′ : List ℕ) (r : Outcome) : Type 0 where
   pub refusal : refusalOf r ≡ c .refusal
   pub size : sizeOf r ≡ c .size
-  pub table : t′ ≡ c .table
+  pub state : t′ ≡ c .state
   pub reply : o′ ≡ c .reply
 
 -- the answer as one number of 64 bits: the length in the low 32, the refusal in the high 32
@@ -36,7 +37,7 @@ unfoldable pub numberOf : Outcome → ℕ
 numberOf a = sizeOf a + 4294967296 * refusalOf a
 
 -- the same with that number
-pub record Packed (c : Called) (t′ o′ : List ℕ) (r : ℕ) : Type 0 where
+pub record Packed (c : Called) (t′ : State) (o′ : List ℕ) (r : ℕ) : Type 0 where
   pub answer : r ≡ c .size + 4294967296 * c .refusal
-  pub table : t′ ≡ c .table
+  pub state : t′ ≡ c .state
   pub reply : o′ ≡ c .reply

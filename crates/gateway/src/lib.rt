@@ -2,6 +2,7 @@
 ghost use mathlib.Core.Path.{_≡_};
 ghost use mathlib.Core.Bool.{true};
 ghost use Rattle.megaco.specs.Table.{words, mostLines};
+ghost use Rattle.megaco.specs.State.{state};
 ghost use Rattle.megaco.specs.Names.{within};
 ghost use Rattle.megaco.specs.Call.{call};
 ghost use Rattle.gateway.specs.Answers.{Answered};
@@ -25,7 +26,7 @@ pub fn answer(
     own: &[u8],
     reply: &mut [u8],
 ) -> Outcome
-    ensures { λ r. ⌜ Answered (call lines (now (message .entry)) (now (table .entry)) (now (own .entry)) (now (reply .entry))) (now (table .exit)) (now (reply .exit)) r ⌝ }
+    ensures { λ r. ⌜ Answered (call lines (now (message .entry)) (state (now (table .entry))) (now (own .entry)) (now (reply .entry))) (state (now (table .exit))) (now (reply .exit)) r ⌝ }
 {
     if are_fitted(lines) {
         return answer_fitted(lines, message, table, own, reply);
@@ -57,7 +58,7 @@ fn answer_fitted(
     reply: &mut [u8],
 ) -> Outcome
     requires { ⌜ within lines mostLines ≡ true ⌝ }
-    ensures { λ r. ⌜ Answered (call lines (now (message .entry)) (now (table .entry)) (now (own .entry)) (now (reply .entry))) (now (table .exit)) (now (reply .exit)) r ⌝ }
+    ensures { λ r. ⌜ Answered (call lines (now (message .entry)) (state (now (table .entry))) (now (own .entry)) (now (reply .entry))) (state (now (table .exit))) (now (reply .exit)) r ⌝ }
 {
     if reply.len() < 16640 {
         return Outcome::ReplyTooShort;

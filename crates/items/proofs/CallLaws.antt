@@ -5,18 +5,20 @@ use mathlib.Core.Bool.{Bool, true, false}
 use mathlib.Core.List.{List}
 use mathlib.Core.Option.{some}
 use native.Mathlib.Omega.{arith}
-use borrow.Author.Tests.{ne-eqb}
 use Rattle.base.specs.Pick.{pick}
 use Rattle.base.specs.Lists.{isAt}
 use Rattle.megaco.specs.Bytes.{comma, rightBrace}
 use Rattle.megaco.specs.Tree.{plain, ItemOf}
-use Rattle.megaco.specs.Items.{modeGiven, stateGiven, propertyToken, valueGiven, setValue, propertyItems, topItems, unchanged, judgeItems}
+use Rattle.megaco.specs.Items.{modeGiven, stateGiven, propertyToken, valueGiven, setValue, propertyItems, topItems, unchanged, isSubtract, judgeItems}
 use Rattle.megaco.specs.declared.Parsed.the-variants.{Next, Fault}
 use Rattle.megaco.specs.declared.Token.{Token}
 use Rattle.megaco.specs.declared.Given.{Given}
 use Rattle.megaco.specs.declared.Given.the-variants.{Keep, To}
 use Rattle.megaco.specs.declared.Judged.{Judged}
 use Rattle.megaco.specs.declared.Judged.the-variants.{Wrong, Right}
+use Rattle.megaco.specs.declared.Checked.{Checked}
+use Rattle.megaco.specs.declared.Checked.the-variants.{Passes, Fails}
+use Rattle.megaco.specs.declared.Op.{Op}
 use Rattle.megaco.specs.declared.Kind.{Kind}
 use Rattle.megaco.specs.declared.Kind.the-variants.{InControl, InState}
 use Rattle.megaco.specs.declared.Values.{Values}
@@ -26,7 +28,7 @@ use Rattle.parts.specs.declared.ItemPlaces.{ItemPlaces}
 use Rattle.parts.specs.declared.CommandPlaces.{CommandPlaces}
 use Rattle.parts.specs.Found.{itemsFrom, commandEndFrom}
 use Rattle.items.specs.declared.JudgedItems.{JudgedItems}
-use Rattle.items.specs.Judging.{calledBy, valueBy, nextAt, itemCode, judgedBy, kindOf, Known, closedBy}
+use Rattle.items.specs.Judging.{calledBy, valueBy, nextAt, itemChecked, judgedBy, kindOf, Known, closedBy}
 
 -- ---- values
 
@@ -54,16 +56,16 @@ module _ (k : Kind) (g : Given) (vs : Values) where
 
 -- ---- what calls tell
 
-module _ (c code : ℕ) (b r g : Bool) (e : c ≡ itemCode code b r g) (y : Judged) where
-  pub judged-right : (j : Judged) → c ≡ 0 → j ≡ y → j ≡ judgedBy (itemCode code b r g) y
-  unfolding judgedBy pick
+module _ (c : Checked) (code : ℕ) (b r g : Bool) (e : c ≡ itemChecked code b r g) (y : Judged) where
+  pub judged-right : (j : Judged) → c ≡ Passes → j ≡ y → j ≡ judgedBy (itemChecked code b r g) y
+  unfolding judgedBy
   judged-right j z h = rw (← e, z) h
 
-  pub judged-wrong : (c ≡ 0 → ⊥) → Wrong c ≡ judgedBy (itemCode code b r g) y
-  unfolding judgedBy pick
-  judged-wrong n = rw (← e, ne-eqb c 0 n)
+  pub judged-wrong : (k : ℕ) → c ≡ Fails k → Wrong k ≡ judgedBy (itemChecked code b r g) y
+  unfolding judgedBy
+  judged-wrong k z = rw (← e, z)
 
-pub code-by : (c code : ℕ) (b x r g : Bool) → x ≡ b → c ≡ itemCode code x r g → c ≡ itemCode code b r g
+pub code-by : (c : Checked) (code : ℕ) (b x r g : Bool) → x ≡ b → c ≡ itemChecked code x r g → c ≡ itemChecked code b r g
 code-by c code b x r g e h = rw (← e) h
 
 module _ (s : List ℕ) (p : ItemPlaces) (k : Kind) where
@@ -109,16 +111,16 @@ module _ (s : List ℕ) (x y : JudgedItems) (h : y ≡ closedBy s x) where
 
 -- ---- a command's items
 
-module _ (s : List ℕ) (p : CommandPlaces) (subtracts : Bool) where
-  pub judge-subtract : p .braces ≡ true → subtracts ≡ true → Wrong 447 ≡ judgeItems subtracts (itemsFrom s p)
+module _ (s : List ℕ) (p : CommandPlaces) (op : Op) where
+  pub judge-subtract : (x : Bool) → p .braces ≡ true → x ≡ isSubtract op → x ≡ true → Wrong 447 ≡ judgeItems op (itemsFrom s p)
   unfolding judgeItems itemsFrom pick
-  judge-subtract b t = rw (b, t)
+  judge-subtract x b f t = rw (b, ← f, t)
 
-  pub judge-all : (r : Judged) → p .braces ≡ true → subtracts ≡ false → r ≡ topItems (itemsAt 8 s (p .inside) .tree) false unchanged → r ≡ judgeItems subtracts (itemsFrom s p)
+  pub judge-all : (x : Bool) (r : Judged) → p .braces ≡ true → x ≡ isSubtract op → x ≡ false → r ≡ topItems (itemsAt 8 s (p .inside) .tree) false unchanged → r ≡ judgeItems op (itemsFrom s p)
   unfolding judgeItems itemsFrom pick
-  judge-all r b f e = rw (b, f) e
+  judge-all x r b f t e = rw (b, ← f, t) e
 
-  pub judge-none : p .braces ≡ false → Right unchanged ≡ judgeItems subtracts (itemsFrom s p)
+  pub judge-none : p .braces ≡ false → Right unchanged ≡ judgeItems op (itemsFrom s p)
   unfolding judgeItems itemsFrom pick
   judge-none b = rw b
 

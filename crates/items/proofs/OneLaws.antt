@@ -5,7 +5,6 @@ use mathlib.Core.Bool.{Bool, true, false, not, _&&_, _||_}
 use mathlib.Core.List.{List, [], _∷_}
 use mathlib.Core.Option.{none, some}
 use native.Mathlib.Omega.{arith}
-use lib.Dec.{eqb}
 use Rattle.base.specs.Pick.{pick}
 use Rattle.base.proofs.TestLaws.{and-left, and-right}
 use Rattle.megaco.specs.Bytes.{rightBrace}
@@ -28,7 +27,7 @@ use Rattle.parts.specs.Found.{inQuotes, bytesOf, valueFrom, OfItem, itemFrom}
 use Rattle.parts.proofs.PlaceLaws.{item-is, item-braced, item-plain}
 use Rattle.items.specs.declared.JudgedItems.{JudgedItems}
 use Rattle.items.specs.declared.Descriptors.{Descriptors}
-use Rattle.items.specs.Judging.{calledBy, valueBy, itemCode, judgedBy, descriptorShapeBy, propertyShapeBy, propertyBy, calledIn, kindOf, stoodAfter, mediaBy, topBy, Known}
+use Rattle.items.specs.Judging.{calledBy, valueBy, itemChecked, judgedBy, descriptorShapeBy, propertyShapeBy, propertyBy, calledIn, kindOf, stoodAfter, mediaBy, topBy, Known}
 
 -- ---- what the parts tell
 
@@ -69,13 +68,13 @@ stoodNext (item w x v is) stood = stoodAfter (called LocalControlToken w x) stoo
 -- ---- the tests of one item
 
 -- an item judged alone
-alone : (code : ℕ) (b seen g : Bool) (x y : Judged) → eqb code 0 ≡ false → (g ≡ true → x ≡ y)
-    → pick (not b) (Wrong code) (pick seen (Wrong 448) (pick g (onward x Right) (Wrong 442))) ≡ judgedBy (itemCode code b seen g) y
-unfolding onward judgedBy itemCode pick
-alone code false seen g x y n e = rw n
-alone code true true g x y n e = refl
-alone code true false false x y n e = refl
-alone code true false true x y n e = by x ∙ e refl
+alone : (code : ℕ) (b seen g : Bool) (x y : Judged) → (g ≡ true → x ≡ y)
+    → pick (not b) (Wrong code) (pick seen (Wrong 448) (pick g (onward x Right) (Wrong 442))) ≡ judgedBy (itemChecked code b seen g) y
+unfolding onward judgedBy itemChecked pick
+alone code false seen g x y e = refl
+alone code true true g x y e = refl
+alone code true false false x y e = refl
+alone code true false true x y e = by x ∙ e refl
   where
     by : (j : Judged) → onward j Right ≡ j
     by (Wrong c) = refl
@@ -93,7 +92,7 @@ module _ (s : List ℕ) (at : ℕ) (p : ItemPlaces) (h : OfItem s at p) (vs : Va
   unfolding propertyItems propertyBy propertyShape calledBy itemFrom
   property-one k seen e =
       e ∙ sym (rw (item-is (itemsAt 5 s) s at p h, called-second, given-value, given-pick)
-      (alone 445 _ seen (propertyShapeBy p) _ _ refl (λ t. ap (λ g. setValue k g vs) (value-by k s _ p (and-left _ _ t)))))
+      (alone 445 _ seen (propertyShapeBy p) _ _ (λ t. ap (λ g. setValue k g vs) (value-by k s _ p (and-left _ _ t)))))
 
   pub media-one : (c stood : Descriptors) → c ≡ calledIn s p → j ≡ mediaBy c stood vs s p → j ≡ mediaAll (itemAt (itemsAt 6 s) s at .tree ∷ []) stood vs
   unfolding mediaAll mediaItems mediaBy calledIn calledBy descriptorShape itemFrom
@@ -109,30 +108,30 @@ module _ (s : List ℕ) (at : ℕ) (p : ItemPlaces) (h : OfItem s at p) (vs : Va
         given-pick,
         by-kind (calledBy LocalControlToken s p) (stood .control) (stood .state) (λ k. propertyItems k is false vs) f,
       )
-      (alone 444 _ _ (descriptorShapeBy p) _ _ refl (λ t. rw (items-in (p .braces) (itemsAt 6 s (p .inside) .tree) (and-right (not (p .value .given)) (p .braces) t)))))
+      (alone 444 _ _ (descriptorShapeBy p) _ _ (λ t. rw (items-in (p .braces) (itemsAt 6 s (p .inside) .tree) (and-right (not (p .value .given)) (p .braces) t)))))
 
   pub top-one : (seen : Bool) → j ≡ topBy seen vs s p → j ≡ topItems (itemAt (itemsAt 7 s) s at .tree ∷ []) seen vs
   unfolding topItems topBy calledBy descriptorShape itemFrom
   top-one seen e =
       e ∙ sym (rw (item-is (itemsAt 7 s) s at p h, called-second, given-value, given-pick)
-      (alone 444 _ seen (descriptorShapeBy p) _ _ refl (λ t. rw (items-in (p .braces) (itemsAt 7 s (p .inside) .tree) (and-right (not (p .value .given)) (p .braces) t)))))
+      (alone 444 _ seen (descriptorShapeBy p) _ _ (λ t. rw (items-in (p .braces) (itemsAt 7 s (p .inside) .tree) (and-right (not (p .value .given)) (p .braces) t)))))
 
 -- ---- where an item ends that nothing is wrong with
 
 -- its shape is right
-shaped : (code : ℕ) (b seen g : Bool) (y : Judged) (us : Values) → eqb code 0 ≡ false → judgedBy (itemCode code b seen g) y ≡ Right us → g ≡ true
-unfolding judgedBy itemCode pick
-shaped code false seen g y us n e = let z : Wrong code ≡ Right us = rw n at e in absurd (let w : _≡_ {A = ℕ} 0 1 = cc in omega arith)
-shaped code true true g y us n e = absurd (let w : _≡_ {A = ℕ} 0 1 = cc in omega arith)
-shaped code true false false y us n e = absurd (let w : _≡_ {A = ℕ} 0 1 = cc in omega arith)
-shaped code true false true y us n e = refl
+shaped : (code : ℕ) (b seen g : Bool) (y : Judged) (us : Values) → judgedBy (itemChecked code b seen g) y ≡ Right us → g ≡ true
+unfolding judgedBy itemChecked pick
+shaped code false seen g y us e = absurd (let w : _≡_ {A = ℕ} 0 1 = cc in omega arith)
+shaped code true true g y us e = absurd (let w : _≡_ {A = ℕ} 0 1 = cc in omega arith)
+shaped code true false false y us e = absurd (let w : _≡_ {A = ℕ} 0 1 = cc in omega arith)
+shaped code true false true y us e = refl
 
 module _ (s : List ℕ) (at : ℕ) (p : ItemPlaces) (h : OfItem s at p) (vs : Values) where
   -- a property where its value does
   pub property-ends : (k : Kind) (seen : Bool) (j : Judged) (us : Values) → j ≡ propertyBy k seen vs s p → j ≡ Right us → p .value .end ≡ itemAt (itemsAt 5 s) s at .end
   unfolding propertyBy
   property-ends k seen j us e r =
-      item-plain 5 s at p h (not-true (p .braces) (and-right (p .value .given) (not (p .braces)) (shaped 445 _ seen (propertyShapeBy p) _ us refl (sym e ∙ r))))
+      item-plain 5 s at p h (not-true (p .braces) (and-right (p .value .given) (not (p .braces)) (shaped 445 _ seen (propertyShapeBy p) _ us (sym e ∙ r))))
     where
       not-true : (b : Bool) → not b ≡ true → b ≡ false
       not-true true n = absurd (let w : _≡_ {A = ℕ} 0 1 = cc in omega arith)
@@ -145,12 +144,12 @@ module _ (s : List ℕ) (at : ℕ) (p : ItemPlaces) (h : OfItem s at p) (vs : Va
   pub media-ends : (c stood : Descriptors) (y : JudgedItems) (us : Values) → y .judged ≡ mediaBy c stood vs s p → y .judged ≡ Right us → Known (pastSign rightBrace s (itemsAt 6 s (p .inside) .end)) y
       → y .end ≡ itemAt (itemsAt 6 s) s at .end
   unfolding mediaBy
-  media-ends c stood y us e r k = described 6 y us (shaped 444 _ _ (descriptorShapeBy p) _ us refl (sym e ∙ r)) r k
+  media-ends c stood y us e r k = described 6 y us (shaped 444 _ _ (descriptorShapeBy p) _ us (sym e ∙ r)) r k
 
   pub top-ends : (seen : Bool) (y : JudgedItems) (us : Values) → y .judged ≡ topBy seen vs s p → y .judged ≡ Right us → Known (pastSign rightBrace s (itemsAt 7 s (p .inside) .end)) y
       → y .end ≡ itemAt (itemsAt 7 s) s at .end
   unfolding topBy
-  top-ends seen y us e r k = described 7 y us (shaped 444 _ seen (descriptorShapeBy p) _ us refl (sym e ∙ r)) r k
+  top-ends seen y us e r k = described 7 y us (shaped 444 _ seen (descriptorShapeBy p) _ us (sym e ∙ r)) r k
 
 pub stood-next : (s : List ℕ) (at : ℕ) (p : ItemPlaces) (c stood r : Descriptors) → OfItem s at p → c ≡ calledIn s p → r ≡ stoodAfter (c .control) stood
     → r ≡ stoodNext (itemAt (itemsAt 6 s) s at .tree) stood

@@ -5,7 +5,6 @@ use mathlib.Core.Bool.{Bool, false, not, _&&_, _||_}
 use mathlib.Core.List.{List}
 use mathlib.Core.Option.{some}
 use lib.ListN.{length}
-use lib.Dec.{eqb}
 use Rattle.base.specs.Pick.{pick}
 use Rattle.base.specs.Lists.{isAt}
 use Rattle.megaco.specs.Bytes.{comma, rightBrace}
@@ -20,6 +19,8 @@ use Rattle.megaco.specs.declared.Given.{Given}
 use Rattle.megaco.specs.declared.Given.the-variants.{Keep}
 use Rattle.megaco.specs.declared.Judged.{Judged}
 use Rattle.megaco.specs.declared.Judged.the-variants.{Wrong, Right}
+use Rattle.megaco.specs.declared.Checked.{Checked}
+use Rattle.megaco.specs.declared.Checked.the-variants.{Passes, Fails}
 use Rattle.megaco.specs.declared.Kind.{Kind}
 use Rattle.megaco.specs.declared.Kind.the-variants.{InControl, InState}
 use Rattle.megaco.specs.declared.Values.{Values}
@@ -59,13 +60,14 @@ closedBy s x = record { judged = x .judged; end = pastSign rightBrace s (x .end)
 
 -- ---- one item at each level
 
--- "444 .. 445 ..; 448 repeated in its braces; 442 wrong shape"; 0 for an item that is none of these
-unfoldable pub itemCode : ℕ → Bool → Bool → Bool → ℕ
-itemCode unknown known repeated shaped = pick (not known) unknown (pick repeated 448 (pick (not shaped) 442 0))
+-- "444 .. 445 ..; 448 repeated in its braces; 442 wrong shape"
+unfoldable pub itemChecked : ℕ → Bool → Bool → Bool → Checked
+itemChecked unknown known repeated shaped = pick (not known) (Fails unknown) (pick repeated (Fails 448) (pick (not shaped) (Fails 442) Passes))
 
 -- the code, or what stands inside
-unfoldable pub judgedBy : ℕ → Judged → Judged
-judgedBy code inside = pick (eqb code 0) inside (Wrong code)
+unfoldable pub judgedBy : Checked → Judged → Judged
+judgedBy Passes inside = inside
+judgedBy (Fails code) inside = Wrong code
 
 -- "the three descriptors have braces and no value, the two properties a value and no braces"
 abbrev pub descriptorShapeBy : ItemPlaces → Bool
@@ -75,7 +77,7 @@ abbrev pub propertyShapeBy : ItemPlaces → Bool
 propertyShapeBy p = p .value .given && not (p .braces)
 
 unfoldable pub propertyBy : Kind → Bool → Values → List ℕ → ItemPlaces → Judged
-propertyBy k seen vs s p = judgedBy (itemCode 445 (calledBy (propertyToken k) s p) seen (propertyShapeBy p)) (setValue k (valueBy k s p) vs)
+propertyBy k seen vs s p = judgedBy (itemChecked 445 (calledBy (propertyToken k) s p) seen (propertyShapeBy p)) (setValue k (valueBy k s p) vs)
 
 unfoldable pub calledIn : List ℕ → ItemPlaces → Descriptors
 calledIn s p = record { control = calledBy LocalControlToken s p; state = calledBy TerminationStateToken s p }
@@ -92,8 +94,8 @@ repeatedBy called stood = (called .control && stood .control) || (called .state 
 
 unfoldable pub mediaBy : Descriptors → Descriptors → Values → List ℕ → ItemPlaces → Judged
 mediaBy called stood vs s p =
-    judgedBy (itemCode 444 (called .control || called .state) (repeatedBy called stood) (descriptorShapeBy p))
+    judgedBy (itemChecked 444 (called .control || called .state) (repeatedBy called stood) (descriptorShapeBy p))
     (propertyItems (kindOf (called .control)) (itemsAt 6 s (p .inside) .tree) false vs)
 
 unfoldable pub topBy : Bool → Values → List ℕ → ItemPlaces → Judged
-topBy seen vs s p = judgedBy (itemCode 444 (calledBy MediaToken s p) seen (descriptorShapeBy p)) (mediaItems (itemsAt 7 s (p .inside) .tree) false false vs)
+topBy seen vs s p = judgedBy (itemChecked 444 (calledBy MediaToken s p) seen (descriptorShapeBy p)) (mediaItems (itemsAt 7 s (p .inside) .tree) false false vs)

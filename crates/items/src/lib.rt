@@ -8,10 +8,12 @@ ghost use Rattle.megaco.specs.Bytes.{rightBrace};
 ghost use Rattle.syntax.specs.Production.{pastSign};
 ghost use Rattle.syntax.specs.Places.{itemsAt};
 ghost use Rattle.parts.specs.Found.{itemsFrom, commandEndFrom};
-ghost use Rattle.items.specs.Judging.{Lies, calledBy, itemCode, calledIn, kindOf, stoodAfter, valueBy, nextAt, propertyBy, mediaBy, topBy, Known, closedBy};
+ghost use Rattle.items.specs.Judging.{Lies, calledBy, itemChecked, calledIn, kindOf, stoodAfter, valueBy, nextAt, propertyBy, mediaBy, topBy, Known, closedBy};
+use megaco::Checked;
 use megaco::Given;
 use megaco::Judged;
 use megaco::Kind;
+use megaco::Op;
 use megaco::Parsed;
 use megaco::Token;
 use megaco::Values;
@@ -125,20 +127,20 @@ fn item_called(s: &[u8], p: ItemPlaces, k: Token) -> bool
     !p.second & text::spells(k, &s[a..e])
 }
 
-// The code of an item by its name and its shape, or 0: `unknown` is the code of a name that is not called for.
-fn item_code(unknown: u32, known: bool, repeated: bool, shaped: bool) -> u32
-    ensures { λ r. ⌜ r ≡ itemCode unknown known repeated shaped ⌝ }
+// The tests of an item's name and shape: `unknown` is the code of a name that is not called for.
+fn check_item(unknown: u32, known: bool, repeated: bool, shaped: bool) -> Checked
+    ensures { λ r. ⌜ r ≡ itemChecked unknown known repeated shaped ⌝ }
 {
     if !known {
-        return unknown;
+        return Checked::Fails(unknown);
     }
     if repeated {
-        return 448;
+        return Checked::Fails(448);
     }
     if !shaped {
-        return 442;
+        return Checked::Fails(442);
     }
-    0
+    Checked::Passes
 }
 
 // Where the next item begins, if one follows the one that ends here.
@@ -180,11 +182,11 @@ fn property_item(s: &[u8], p: ItemPlaces, k: Kind, seen: bool, values: Values) -
 {
     let v = p.value;
     let known = item_called(s, p, property_token(k));
-    let code = item_code(445, known, seen, v.given & !p.braces);
-    if code == 0 {
-        return set_value(k, value_given(s, p, k), values);
+    let checked = check_item(445, known, seen, v.given & !p.braces);
+    match checked {
+        Checked::Passes => set_value(k, value_given(s, p, k), values),
+        Checked::Fails(code) => Judged::Wrong(code),
     }
-    Judged::Wrong(code)
 }
 
 fn property_items(s: &[u8], at: usize, k: Kind, values: Values) -> JudgedItems
@@ -263,15 +265,17 @@ fn media_item(
     let v = p.value;
     let known = called.control | called.state;
     let repeated = called.control & stood.control | called.state & stood.state;
-    let code = item_code(444, known, repeated, !v.given & p.braces);
-    if code == 0 {
-        let inside = p.inside;
-        let x = property_items(s, inside, kind_of(called.control), values);
-        return closed(s, x);
-    }
-    JudgedItems {
-        judged: Judged::Wrong(code),
-        end: 0,
+    let checked = check_item(444, known, repeated, !v.given & p.braces);
+    match checked {
+        Checked::Passes => {
+            let inside = p.inside;
+            let x = property_items(s, inside, kind_of(called.control), values);
+            closed(s, x)
+        }
+        Checked::Fails(code) => JudgedItems {
+            judged: Judged::Wrong(code),
+            end: 0,
+        },
     }
 }
 
@@ -317,15 +321,17 @@ fn top_item(s: &[u8], p: ItemPlaces, seen: bool, values: Values) -> JudgedItems
 {
     let v = p.value;
     let known = item_called(s, p, Token::MediaToken);
-    let code = item_code(444, known, seen, !v.given & p.braces);
-    if code == 0 {
-        let inside = p.inside;
-        let x = media_items(s, inside, values);
-        return closed(s, x);
-    }
-    JudgedItems {
-        judged: Judged::Wrong(code),
-        end: 0,
+    let checked = check_item(444, known, seen, !v.given & p.braces);
+    match checked {
+        Checked::Passes => {
+            let inside = p.inside;
+            let x = media_items(s, inside, values);
+            closed(s, x)
+        }
+        Checked::Fails(code) => JudgedItems {
+            judged: Judged::Wrong(code),
+            end: 0,
+        },
     }
 }
 
@@ -374,15 +380,15 @@ fn end_of_command(s: &[u8], p: CommandPlaces, x: JudgedItems) -> usize
 }
 
 // A command's items by themselves.
-fn judge_inside(s: &[u8], p: CommandPlaces, subtracts: bool) -> JudgedItems
-    ensures { λ r. ⌜ (r .judged ≡ judgeItems subtracts (itemsFrom (now (s .entry)) p)) × Known (commandEndFrom (now (s .entry)) p) r ⌝ }
+fn judge_inside(s: &[u8], p: CommandPlaces, op: Op) -> JudgedItems
+    ensures { λ r. ⌜ (r .judged ≡ judgeItems op (itemsFrom (now (s .entry)) p)) × Known (commandEndFrom (now (s .entry)) p) r ⌝ }
 {
     let none = Values {
         mode: Given::Keep,
         state: Given::Keep,
     };
     if p.braces {
-        if subtracts {
+        if aims::is_subtract(op) {
             return JudgedItems {
                 judged: Judged::Wrong(447),
                 end: 0,
@@ -399,10 +405,10 @@ fn judge_inside(s: &[u8], p: CommandPlaces, subtracts: bool) -> JudgedItems
 }
 
 // A command's items, and where it ends.
-pub fn judge_items(s: &[u8], p: CommandPlaces, subtracts: bool) -> JudgedItems
-    ensures { λ r. ⌜ (r .judged ≡ judgeItems subtracts (itemsFrom (now (s .entry)) p)) × (r .end ≡ commandEndFrom (now (s .entry)) p) ⌝ }
+pub fn judge_items(s: &[u8], p: CommandPlaces, op: Op) -> JudgedItems
+    ensures { λ r. ⌜ (r .judged ≡ judgeItems op (itemsFrom (now (s .entry)) p)) × (r .end ≡ commandEndFrom (now (s .entry)) p) ⌝ }
 {
-    let x = judge_inside(s, p, subtracts);
+    let x = judge_inside(s, p, op);
     let j = x.judged;
     JudgedItems {
         judged: j,

@@ -11,6 +11,7 @@ use Rattle.base.specs.Lists.{has}
 use Rattle.megaco.specs.Bytes.{star, dollar}
 use Rattle.megaco.specs.Tree.{Transaction}
 use Rattle.megaco.specs.Table.{fitted, ctx, get, sound}
+use Rattle.megaco.specs.State.{State}
 use Rattle.megaco.specs.Names.{nameOf}
 use Rattle.megaco.specs.declared.Context.{Context}
 use Rattle.megaco.specs.declared.Context.the-variants.{Null, Numbered, Choose, All}
@@ -189,5 +190,5 @@ apart-is t x y = (
   λ A. rw (contexts-plain-is x .1 (A .contexts-one), contexts-plain-is y .1 (A .contexts-two), names-plain-is x .1 (A .names-one), names-plain-is y .1 (A .names-two), terminations-apart-is (fitted t) x y .1 (A .terminations), contexts-apart-is t x y .1 (A .contexts)),
 )
 
-pub tested-order : (t : List ℕ) → sound t ≡ true → (x y : Transaction) → apart? t x y ≡ true → EitherOrder t x y
-tested-order t s x y e = either-order t s x y (apart-is t x y .0 e)
+pub tested-order : (st : State) → sound (st .table) ≡ true → (x y : Transaction) → apart? (st .table) x y ≡ true → EitherOrder st x y
+tested-order st s x y e = either-order st s x y (apart-is (st .table) x y .0 e)

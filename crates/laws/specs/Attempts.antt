@@ -12,12 +12,14 @@ use Rattle.megaco.specs.declared.Context.{Context}
 use Rattle.megaco.specs.declared.Context.the-variants.{Numbered, Choose}
 use Rattle.megaco.specs.declared.Op.{Op}
 use Rattle.megaco.specs.declared.Op.the-variants.{Add, Modify, Subtract, Move}
+use Rattle.megaco.specs.declared.Checked.{Checked}
 use Rattle.megaco.specs.declared.Values.{Values}
 use Rattle.megaco.specs.declared.Seen.{Seen}
 use Rattle.megaco.specs.declared.View.{View}
 use Rattle.megaco.specs.Table.{lineTerminations, terminations, contexts, fitted, most, prop, rec, used, ctx, cell, get, Write, write, apply, recordWords, isEphemeral, exists, known, members, freeContext}
 use Rattle.megaco.specs.Items.{update}
-use Rattle.megaco.specs.Running.{unseen, seen, numberOf, freeAt, look, isChoose, target, roomChecks, checks, joining, leaving, placed, marking, added, subtracted, changes, settled, isModify, Result, attempt, Effect, concluded, effect, tries}
+use Rattle.megaco.specs.State.{State, wrote}
+use Rattle.megaco.specs.Running.{unseen, seen, numberOf, freeAt, look, isChoose, target, roomChecks, checks, joining, leaving, placed, marking, added, subtracted, changes, settled, isModify, Effect, concluded, effect, tries}
 use Rattle.base.proofs.TestLaws.{clash, and-both, both-and, pick-of}
 use Rattle.laws.specs.Passed.{Passed, judged}
 use Rattle.laws.specs.Slots.{fitted-apply}
@@ -362,17 +364,17 @@ attempt-sound Move at given i vs t W j M G F p =
 pub effect-sound : (op : Op) (wild : Bool) (name : List ℕ) (given : ℕ) (vs : Values) (i : ℕ) (at : Context) (t : List ℕ)
     → Whole t → Ready op at t → Meant op t i → Present given → Fair vs
     → Leaves op (effect op wild name given vs i at (look at i t) .at) t (apply (effect op wild name given vs i at (look at i t) .writes) t)
-unfolding effect attempt concluded apply
+unfolding effect concluded apply
 effect-sound op wild name given vs i at t W r m G F =
-    judged (λ (x : Result). Leaves op (concluded op wild name i at (look at i t) x .at) t (apply (concluded op wild name i at (look at i t) x .writes) t))
-    (checks op at (look at i t)) (changes op at given i vs (look at i t)) (λ code. record { whole = W; ready = r; meant = λ j k. k })
+    judged (λ (x : Checked). Leaves op (concluded op wild name given vs i at (look at i t) x .at) t (apply (concluded op wild name given vs i at (look at i t) x .writes) t))
+    (checks op at (look at i t)) (λ code. record { whole = W; ready = r; meant = λ j k. k })
     (λ p. attempt-sound op at given i vs t W r m G F p)
 
-pub tries-sound : (op : Op) (wild : Bool) (name : List ℕ) (given : ℕ) (vs : Values) (is : List ℕ) (at : Context) (t : List ℕ)
-    → Whole t → Ready op at t → Each (Meant op t) is → Present given → Fair vs → Whole (tries op wild name given vs is at t .table)
+pub tries-sound : (op : Op) (wild : Bool) (name : List ℕ) (given : ℕ) (vs : Values) (is : List ℕ) (at : Context) (st : State)
+    → Whole (st .table) → Ready op at (st .table) → Each (Meant op (st .table)) is → Present given → Fair vs → Whole (tries op wild name given vs is at st .state .table)
 unfolding tries
-tries-sound op wild name given vs [] at t W r m G F = W
-tries-sound op wild name given vs (i ∷ is) at t W r (more m ms) G F =
-    let e : Effect = effect op wild name given vs i at (look at i t) in
-    let l = effect-sound op wild name given vs i at t W r m G F in
-    tries-sound op wild name given vs is (e .at) (apply (e .writes) t) (l .whole) (l .ready) (each-on (Meant op t) (Meant op (apply (e .writes) t)) is (l .meant) ms) G F
+tries-sound op wild name given vs [] at st W r m G F = W
+tries-sound op wild name given vs (i ∷ is) at st W r (more m ms) G F =
+    let e : Effect = effect op wild name given vs i at (look at i (st .table)) in
+    let l = effect-sound op wild name given vs i at (st .table) W r m G F in
+    tries-sound op wild name given vs is (e .at) (wrote (e .writes) st) (l .whole) (l .ready) (each-on (Meant op (st .table)) (Meant op (apply (e .writes) (st .table))) is (l .meant) ms) G F

@@ -21,7 +21,8 @@ use Rattle.megaco.specs.Tokens.{numberAt, numberFrom, numberEnd, isMid}
 use Rattle.megaco.specs.Tree.{Action, Transaction, transaction, Message, wellFormed, fault400, fault403, fault406}
 use Rattle.megaco.specs.Reading.{Read, got, fault, elsewhere, numbered, inside, followed, endOr, bracesThen, transactionsR, messageR}
 use Rattle.megaco.specs.Reply.{Acted, errorText, replyText, limited, transactionText, headerText}
-use Rattle.megaco.specs.Running.{state, fresh, run, steps, runTransaction, runTransactions, runMessage}
+use Rattle.megaco.specs.State.{State}
+use Rattle.megaco.specs.Running.{course, fresh, run, steps, runTransaction, runTransactions, runMessage}
 use Rattle.megaco.specs.Table.{mostLines, words, sound}
 use Rattle.megaco.specs.Names.{within}
 use Rattle.megaco.specs.Call.{Called, turnedDown, written, replied, taken, call}
@@ -133,28 +134,28 @@ pub transaction-fits : (id : ℕ) (acts : List Acted) → id ≤ largest → len
 unfolding transactionText
 transaction-fits id acts h = limited-length id _ h
 
-transactions-fit : (k : ℕ) (xs : List Transaction) (t : List ℕ) → Few k xs → length (runTransactions xs t .text) ≤ k * 2048
+transactions-fit : (k : ℕ) (xs : List Transaction) (st : State) → Few k xs → length (runTransactions xs st .text) ≤ k * 2048
 unfolding runTransactions runTransaction
-transactions-fit k [] t few-none = omega arith
-transactions-fit (suc k) (transaction id acts ∷ xs) t (few-more l f) =
-    let x = run (steps acts) (state t fresh) in
-    simp length-then (omega (arith, transaction-fits id (x .progress .acts) l, transactions-fit k xs (x .table) f))
+transactions-fit k [] st few-none = omega arith
+transactions-fit (suc k) (transaction id acts ∷ xs) st (few-more l f) =
+    let x = run (steps acts) (course st fresh) in
+    simp length-then (omega (arith, transaction-fits id (x .progress .acts) l, transactions-fit k xs (x .state) f))
 
-message-fits : (x : Message) (t : List ℕ) → FewIn 8 x → length (runMessage x t .text) ≤ 16384
+message-fits : (x : Message) (st : State) → FewIn 8 x → length (runMessage x st .text) ≤ 16384
 unfolding runMessage
-message-fits (wellFormed xs) t h = transactions-fit 8 xs t h
-message-fits fault400 t h = omega (arith, error-length 400 (omega arith))
-message-fits (fault403 id) t h = omega (arith, fault-length id 403 h (omega arith))
-message-fits fault406 t h = omega (arith, error-length 406 (omega arith))
+message-fits (wellFormed xs) st h = transactions-fit 8 xs st h
+message-fits fault400 st h = omega (arith, error-length 400 (omega arith))
+message-fits (fault403 id) st h = omega (arith, fault-length id 403 h (omega arith))
+message-fits fault406 st h = omega (arith, error-length 406 (omega arith))
 
 -- the reply to a message, header and all
-abbrev pub replyTo : List ℕ → List ℕ → List ℕ → List ℕ
-replyTo m t own = headerText own then runMessage (messageR m) t .text
+abbrev pub replyTo : List ℕ → State → List ℕ → List ℕ
+replyTo m st own = headerText own then runMessage (messageR m) st .text
 
 -- "reply buffer under 16,640 bytes" is turned down: every reply fits into one of that size
-pub reply-fits : (m t own : List ℕ) → length own ≤ 64 → length (replyTo m t own) ≤ 16640
+pub reply-fits : (m : List ℕ) (st : State) (own : List ℕ) → length own ≤ 64 → length (replyTo m st own) ≤ 16640
 unfolding headerText
-reply-fits m t own h = simp length-then (omega (arith, message-fits (messageR m) t (few-read m)))
+reply-fits m st own h = simp length-then (omega (arith, message-fits (messageR m) st (few-read m)))
 
 -- ---- every call is turned down or taken
 
@@ -163,30 +164,30 @@ unfolding isMid
 own-fits own e = leb-true _ _ (and-eq-true-iff (leb (length own) 64) _ .0 e .0)
 
 -- what holds of each way to turn a call down, and of a call that is taken, holds of every call
-pub call-ind : (P : Called → Type 0) (n : ℕ) (m t own o : List ℕ) → ((k : ℕ) → 0 < k → P (turnedDown k t o))
-    → (within n mostLines ≡ true → 16640 ≤ length o → length t ≡ words n → sound t ≡ true → isMid own ≡ true → 0 < length m → length m ≤ 4096 → P (taken m t own o)) → P (call n m t own o)
+pub call-ind : (P : Called → Type 0) (n : ℕ) (m : List ℕ) (st : State) (own o : List ℕ) → ((k : ℕ) → 0 < k → P (turnedDown k st o))
+    → (within n mostLines ≡ true → 16640 ≤ length o → length (st .table) ≡ words n → sound (st .table) ≡ true → isMid own ≡ true → 0 < length m → length m ≤ 4096 → P (taken m st own o)) → P (call n m st own o)
 unfolding call
-call-ind P n m t own o down up =
+call-ind P n m st own o down up =
     pick-ind P _ _ _ (λ e. down 8 (omega arith)) λ w.
     pick-ind P _ _ _ (λ e. down 3 (omega arith)) λ a.
     pick-ind P _ _ _ (λ e. down 2 (omega arith)) λ b.
     pick-ind P _ _ _ (λ e. down 4 (omega arith)) λ c.
     pick-ind P _ _ _ (λ e. down 1 (omega arith)) λ d.
     let z = or-neither (eqb (length m) 0) (ltb 4096 (length m)) d in
-    let y = and-eq-true-iff (eqb (length t) (words n)) (sound t) .0 (not-false _ b) in
-    up (not-false _ w) (ltb-false _ _ a) (eqb-true (length t) (words n) (y .0)) (y .1) (not-false _ c) (omega (arith, eqb-false (length m) 0 (z .0))) (ltb-false _ _ (z .1))
+    let y = and-eq-true-iff (eqb (length (st .table)) (words n)) (sound (st .table)) .0 (not-false _ b) in
+    up (not-false _ w) (ltb-false _ _ a) (eqb-true (length (st .table)) (words n) (y .0)) (y .1) (not-false _ c) (omega (arith, eqb-false (length m) 0 (z .0))) (ltb-false _ _ (z .1))
 
 -- "Each gives length 0 and changes neither reply buffer nor table"
-pub record Kept (t o : List ℕ) (x : Called) : Type 0 where
+pub record Kept (st : State) (o : List ℕ) (x : Called) : Type 0 where
   pub size : x .size ≡ 0
-  pub table : x .table ≡ t
+  pub state : x .state ≡ st
   pub reply : x .reply ≡ o
 
-pub refusal-keeps : (n : ℕ) (m t own o : List ℕ) → call n m t own o .refusal ≢ 0 → Kept t o (call n m t own o)
+pub refusal-keeps : (n : ℕ) (m : List ℕ) (st : State) (own o : List ℕ) → call n m st own o .refusal ≢ 0 → Kept st o (call n m st own o)
 unfolding taken replied written
-refusal-keeps n m t own o =
-    call-ind (λ x. x .refusal ≢ 0 → Kept t o x) n m t own o
-    (λ k p h. record { size = refl; table = refl; reply = refl })
+refusal-keeps n m st own o =
+    call-ind (λ x. x .refusal ≢ 0 → Kept st o x) n m st own o
+    (λ k p h. record { size = refl; state = refl; reply = refl })
     (λ w a l b c d e h. absurd (h refl))
 
 -- "bytes past its length stay": of every call, turned down or taken
@@ -195,48 +196,48 @@ pub record Bounded (o : List ℕ) (x : Called) : Type 0 where
   pub past : drop (x .size) (x .reply) ≡ drop (x .size) o
   pub fits : x .size ≤ 16640
 
-pub call-bounded : (n : ℕ) (m t own o : List ℕ) → Bounded o (call n m t own o)
+pub call-bounded : (n : ℕ) (m : List ℕ) (st : State) (own o : List ℕ) → Bounded o (call n m st own o)
 unfolding taken replied written
-call-bounded n m t own o =
-    call-ind (Bounded o) n m t own o
+call-bounded n m st own o =
+    call-ind (Bounded o) n m st own o
     (λ k p. record { long = refl; past = refl; fits = omega arith })
     (λ w a l b c d e.
     record {
-      long = length-put o 0 (replyTo m t own);
-      past = drop-put o 0 (replyTo m t own) (length (replyTo m t own)) (omega arith);
-      fits = reply-fits m t own (own-fits own c);
+      long = length-put o 0 (replyTo m st own);
+      past = drop-put o 0 (replyTo m st own) (length (replyTo m st own)) (omega arith);
+      fits = reply-fits m st own (own-fits own c);
     })
 
--- a call that is taken: the table is the one that the message leaves, and the reply stands at the start of the buffer, its header first
-pub record Taken (m t own : List ℕ) (x : Called) : Type 0 where
-  pub table : x .table ≡ runMessage (messageR m) t .table
-  pub size : x .size ≡ length (replyTo m t own)
-  pub whole : take (x .size) (x .reply) ≡ replyTo m t own
+-- a call that is taken: the state is the one that the message leaves, and the reply stands at the start of the buffer, its header first
+pub record Taken (m : List ℕ) (st : State) (own : List ℕ) (x : Called) : Type 0 where
+  pub state : x .state ≡ runMessage (messageR m) st .state
+  pub size : x .size ≡ length (replyTo m st own)
+  pub whole : take (x .size) (x .reply) ≡ replyTo m st own
   pub header : take (length (headerText own)) (x .reply) ≡ headerText own
 
-pub call-taken : (n : ℕ) (m t own o : List ℕ) → call n m t own o .refusal ≡ 0 → Taken m t own (call n m t own o)
+pub call-taken : (n : ℕ) (m : List ℕ) (st : State) (own o : List ℕ) → call n m st own o .refusal ≡ 0 → Taken m st own (call n m st own o)
 unfolding taken replied written
-call-taken n m t own o =
-    call-ind (λ x. x .refusal ≡ 0 → Taken m t own x) n m t own o
+call-taken n m st own o =
+    call-ind (λ x. x .refusal ≡ 0 → Taken m st own x) n m st own o
     (λ k p h. absurd (omega arith))
     (λ w a l b c d e h.
-    let r : length (replyTo m t own) ≤ length o = omega (arith, reply-fits m t own (own-fits own c)) in
+    let r : length (replyTo m st own) ≤ length o = omega (arith, reply-fits m st own (own-fits own c)) in
     record {
-      table = refl;
+      state = refl;
       size = refl;
-      whole = take-put o (replyTo m t own) r;
-      header = take-front o (headerText own) _ (omega (arith, length-then (headerText own) (runMessage (messageR m) t .text)));
+      whole = take-put o (replyTo m st own) r;
+      header = take-front o (headerText own) _ (omega (arith, length-then (headerText own) (runMessage (messageR m) st .text)));
     })
 
 -- "On a fault nothing runs"
-fault-runs-nothing : (x : Message) (t : List ℕ) → ((xs : List Transaction) → x ≢ wellFormed xs) → runMessage x t .table ≡ t
+fault-runs-nothing : (x : Message) (st : State) → ((xs : List Transaction) → x ≢ wellFormed xs) → runMessage x st .state ≡ st
 unfolding runMessage
-fault-runs-nothing (wellFormed xs) t h = absurd (h xs refl)
-fault-runs-nothing fault400 t h = refl
-fault-runs-nothing (fault403 id) t h = refl
-fault-runs-nothing fault406 t h = refl
+fault-runs-nothing (wellFormed xs) st h = absurd (h xs refl)
+fault-runs-nothing fault400 st h = refl
+fault-runs-nothing (fault403 id) st h = refl
+fault-runs-nothing fault406 st h = refl
 
-pub fault-keeps : (n : ℕ) (m t own o : List ℕ) → ((xs : List Transaction) → messageR m ≢ wellFormed xs) → call n m t own o .table ≡ t
+pub fault-keeps : (n : ℕ) (m : List ℕ) (st : State) (own o : List ℕ) → ((xs : List Transaction) → messageR m ≢ wellFormed xs) → call n m st own o .state ≡ st
 unfolding taken replied written
-fault-keeps n m t own o h =
-    call-ind (λ x. x .table ≡ t) n m t own o (λ k p. refl) (λ w a l b c d e. fault-runs-nothing (messageR m) t h)
+fault-keeps n m st own o h =
+    call-ind (λ x. x .state ≡ st) n m st own o (λ k p. refl) (λ w a l b c d e. fault-runs-nothing (messageR m) st h)

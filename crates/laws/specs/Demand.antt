@@ -6,6 +6,7 @@ use mathlib.Core.Bool.{true}
 use mathlib.Core.List.{List}
 use Rattle.megaco.specs.Tree.{Transaction, transaction}
 use Rattle.megaco.specs.Table.{sound}
+use Rattle.megaco.specs.State.{State}
 use Rattle.megaco.specs.Reply.{transactionText}
 use Rattle.megaco.specs.Running.{Progress, runTransaction}
 use Rattle.laws.specs.Mix.{Both, Mixture, mixed}
@@ -13,19 +14,19 @@ use Rattle.laws.specs.Apart.{Apart}
 use Rattle.laws.specs.Reaching.{stepsOf, outset, orders-alike, mixture-alike}
 
 -- "running one after the other from that table ends alike in both orders". "The second starts from the table the first left"
-pub record EitherOrder (t : List ℕ) (x y : Transaction) : Type 0 where
+pub record EitherOrder (st : State) (x y : Transaction) : Type 0 where
   -- "the same in every word of the table"
-  pub table : runTransaction y (runTransaction x t .table) .table ≡ runTransaction x (runTransaction y t .table) .table
+  pub state : runTransaction y (runTransaction x st .state) .state ≡ runTransaction x (runTransaction y st .state) .state
   -- "and each transaction's reply the same byte for byte": its `P=id{..}`, 533 included
-  pub reply-one : runTransaction x t .text ≡ runTransaction x (runTransaction y t .table) .text
-  pub reply-two : runTransaction y (runTransaction x t .table) .text ≡ runTransaction y t .text
+  pub reply-one : runTransaction x st .text ≡ runTransaction x (runTransaction y st .state) .text
+  pub reply-two : runTransaction y (runTransaction x st .state) .text ≡ runTransaction y st .text
 
-pub either-order : (t : List ℕ) → sound t ≡ true → (x y : Transaction) → Apart t x y → EitherOrder t x y
+pub either-order : (st : State) → sound (st .table) ≡ true → (x y : Transaction) → Apart (st .table) x y → EitherOrder st x y
 unfolding runTransaction
-either-order t e (transaction j xs) (transaction k ys) A =
-    let p = orders-alike t e (transaction j xs) (transaction k ys) A in
+either-order st e (transaction j xs) (transaction k ys) A =
+    let p = orders-alike st e (transaction j xs) (transaction k ys) A in
     record {
-      table = sym (ap (λ (b : Both). b .table) p);
+      state = sym (ap (λ (b : Both). b .state) p);
       reply-one = sym (ap (λ (b : Both). transactionText j (b .one .acts)) p);
       reply-two = sym (ap (λ (b : Both). transactionText k (b .two .acts)) p);
     }
@@ -37,19 +38,19 @@ abbrev pub replyOf : Transaction → Progress → List ℕ
 replyOf (transaction id acts) p = transactionText id (p .acts)
 
 -- "the table .. and both replies are those of one after the other"
-pub record AsOneAfterOther (t : List ℕ) (x y : Transaction) (b : Both) : Type 0 where
-  pub table : b .table ≡ runTransaction y (runTransaction x t .table) .table
-  pub reply-one : replyOf x (b .one) ≡ runTransaction x t .text
-  pub reply-two : replyOf y (b .two) ≡ runTransaction y (runTransaction x t .table) .text
+pub record AsOneAfterOther (st : State) (x y : Transaction) (b : Both) : Type 0 where
+  pub state : b .state ≡ runTransaction y (runTransaction x st .state) .state
+  pub reply-one : replyOf x (b .one) ≡ runTransaction x st .text
+  pub reply-two : replyOf y (b .two) ≡ runTransaction y (runTransaction x st .state) .text
 
 -- "let the commands of two transactions be run in any mixture that keeps each one's own order, action starts counted as steps"
-pub any-mixture : (t : List ℕ) → sound t ≡ true → (x y : Transaction) → Apart t x y → (z : Mixture (stepsOf x) (stepsOf y))
-    → AsOneAfterOther t x y (mixed z (outset t))
+pub any-mixture : (st : State) → sound (st .table) ≡ true → (x y : Transaction) → Apart (st .table) x y → (z : Mixture (stepsOf x) (stepsOf y))
+    → AsOneAfterOther st x y (mixed z (outset st))
 unfolding runTransaction
-any-mixture t e (transaction j xs) (transaction k ys) A z =
-    let p = mixture-alike t e (transaction j xs) (transaction k ys) A z in
+any-mixture st e (transaction j xs) (transaction k ys) A z =
+    let p = mixture-alike st e (transaction j xs) (transaction k ys) A z in
     record {
-      table = ap (λ (b : Both). b .table) p;
+      state = ap (λ (b : Both). b .state) p;
       reply-one = ap (λ (b : Both). transactionText j (b .one .acts)) p;
       reply-two = ap (λ (b : Both). transactionText k (b .two .acts)) p;
     }

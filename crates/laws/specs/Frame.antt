@@ -11,9 +11,12 @@ use lib.Dec.{eqb}
 use borrow.Author.Tests.{ne-eqb}
 use native.Mathlib.Omega.{arith}
 use native.Mathlib.Decide.{ℕ-discrete}
-use Rattle.megaco.specs.Table.{terminations, contexts, words, fitted, prop, rec, used, offset, Slot, ctx, cell, get, Write, write, store, apply}
+use Rattle.megaco.specs.Table.{terminations, contexts, words, fitted, prop, rec, used, Cell, Slot, ctx, cell, get, Write, write, store, apply}
 use Rattle.megaco.proofs.Sizes.{fitted-is}
 use Rattle.laws.specs.Slots.{Valid, length-store, fitted-store, get-other, store-comm}
+
+two-kinds : (i : ℕ) (x : Cell) → ctx i ≢ cell x
+two-kinds i x e = let z : _≡_ {A = ℕ} 0 1 = cc in omega (arith, z)
 
 -- whose a slot is
 pub data Owner : Type 0 where
@@ -81,7 +84,7 @@ module _ (lines : ℕ) (N K : ℕ → Type 0) where
   closed-store F (cell x) v t o c =
       record {
         long = length-store (write (cell x) v) t ∙ c .long;
-        home = λ i m. subst (λ (y : ℕ). 0 < y → K y) (sym (getD-set-other t (terminations (fitted t) + offset (fitted t) x) i _ 0 (let h : i < terminations lines = F .small i m in omega (arith, fitted-is lines t (c .long))))) (c .home i m);
+        home = λ i m. subst (λ (y : ℕ). 0 < y → K y) (sym (get-other lines (ctx i) (cell x) v t (fitted-is lines t (c .long)) (F .small i m) (o .valid) (two-kinds i x))) (c .home i m);
       }
   closed-store F (ctx j) v t o c = record { long = length-store (write (ctx j) v) t ∙ c .long; home = λ i m. at i m (ℕ-discrete i j) }
     where
@@ -127,7 +130,7 @@ module _ (lines : ℕ) (N K M L : ℕ → Type 0) where
       }
     where
       at : (r : Slot) → Ours lines M L r v → (d : ℕ) → K d → (i : ℕ) → i < terminations lines → eqb (get t (ctx i)) d ≡ eqb (get (store (write r v) t) (ctx i)) d
-      at (cell x) o d k i h = ap (λ (y : ℕ). eqb y d) (sym (getD-set-other t (terminations (fitted t) + offset (fitted t) x) i _ 0 (omega (arith, fitted-is lines t (c .long)))))
+      at (cell x) o d k i h = ap (λ (y : ℕ). eqb y d) (sym (get-other lines (ctx i) (cell x) v t (fitted-is lines t (c .long)) h (o .valid) (two-kinds i x)))
       at (ctx j) o d k i h = by (ℕ-discrete i j)
         where
           by : Dec (i ≡ j) → eqb (get t (ctx i)) d ≡ eqb (getD (set t j v) i 0) d

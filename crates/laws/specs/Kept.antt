@@ -14,8 +14,10 @@ use Rattle.megaco.specs.declared.Op.the-variants.{Add, Modify, Subtract, Move}
 use Rattle.megaco.specs.declared.Values.{Values}
 use Rattle.megaco.specs.Tree.{Command, Transaction, Message}
 use Rattle.megaco.specs.Table.{contexts, fitted, rec, cell, get, sound}
+use Rattle.megaco.specs.State.{State}
 use Rattle.megaco.specs.Names.{nameOf}
-use Rattle.megaco.specs.Running.{Step, State, step, seen, numberOf, missed, Aim, misses, gateway, meets, isSubtract, isNull, isModify, aimed, barred, lost, runCommand, runTransaction, runTransactions, runMessage}
+use Rattle.megaco.specs.Items.{isSubtract}
+use Rattle.megaco.specs.Running.{Step, Course, step, seen, numberOf, missed, Aim, misses, gateway, meets, isNull, isModify, aimed, barred, lost, runCommand, runTransaction, runTransactions, runMessage}
 use Rattle.megaco.specs.Call.{call}
 use Rattle.base.proofs.TestLaws.{clash}
 use Rattle.laws.specs.Sound.{Whole, sound-whole, whole-sound}
@@ -50,39 +52,42 @@ ready Modify at t b l = tt
 ready Subtract at t b l = ready-leave at t b l
 ready Move at t b l = ready-join Move at t refl b l
 
-aimed-sound : (op : Op) (name : List ℕ) (given : ℕ) (vs : Values) (a : Aim) (at : Context) (t : List ℕ) → Whole t → Aims op t a → Present given → Fair vs → Ready op at t
-    → Whole (aimed op name given vs a at t .table)
+aimed-sound : (op : Op) (name : List ℕ) (given : ℕ) (vs : Values) (a : Aim) (at : Context) (st : State) → Whole (st .table) → Aims op (st .table) a → Present given → Fair vs
+    → Ready op at (st .table) → Whole (aimed op name given vs a at st .state .table)
 unfolding aimed missed
-aimed-sound op name given vs (misses code) at t W a G F r = W
-aimed-sound op name given vs gateway at t W a G F r = W
-aimed-sound op name given vs (meets wild is) at t W (those m) G F r = tries-sound op wild name given vs is at t W r m G F
+aimed-sound op name given vs (misses code) at st W a G F r = W
+aimed-sound op name given vs gateway at st W a G F r = W
+aimed-sound op name given vs (meets wild is) at st W (those m) G F r = tries-sound op wild name given vs is at st W r m G F
 
-pub whole-kept : Keeps Whole Present
+abbrev pub WholeIn : State → Type 0
+WholeIn st = Whole (st .table)
+
+pub whole-kept : Keeps WholeIn Present
 whole-kept =
     record {
-      orders = λ op name given vs items at t W G F b l. aimed-sound op name given vs _ at t W (aim-meant op at items (nameOf (fitted t) name) t (W .long) (name-low (fitted t) name)) G F (ready op at t b l);
-      starts = start-sound;
+      orders = λ op name given vs items at st W G F b l. aimed-sound op name given vs _ at st W (aim-meant op at items (nameOf (fitted (st .table)) name) (st .table) (W .long) (name-low (fitted (st .table)) name)) G F (ready op at (st .table) b l);
+      starts = λ c ps alone st W. start-sound c ps alone (st .table) W;
       gives = start-given;
     }
 
 -- a step, from a sound table, where the running action gives a record that a context may have
-pub step-sound : (s : Step) (x : State) → Kept Whole Present x → Kept Whole Present (step s x)
-step-sound = step-keeps Whole Present whole-kept
+pub step-sound : (s : Step) (x : Course) → Kept WholeIn Present x → Kept WholeIn Present (step s x)
+step-sound = step-keeps WholeIn Present whole-kept
 
-sound-by : (t u : List ℕ) → (Whole t → Whole u) → sound t ≡ true → sound u ≡ true
-sound-by t u f s = whole-sound u (f (sound-whole t s))
+sound-by : (st u : State) → (WholeIn st → WholeIn u) → sound (st .table) ≡ true → sound (u .table) ≡ true
+sound-by st u f s = whole-sound (u .table) (f (sound-whole (st .table) s))
 
-pub command-sound : (c : Command) (given : ℕ) (at : Context) (t : List ℕ) → Present given → sound t ≡ true → sound (runCommand c given at t .table) ≡ true
-command-sound c given at t G = sound-by t _ (λ W. command-keeps Whole Present whole-kept c given at t W G)
+pub command-sound : (c : Command) (given : ℕ) (at : Context) (st : State) → Present given → sound (st .table) ≡ true → sound (runCommand c given at st .state .table) ≡ true
+command-sound c given at st G = sound-by st _ (λ W. command-keeps WholeIn Present whole-kept c given at st W G)
 
-pub transaction-sound : (x : Transaction) (t : List ℕ) → sound t ≡ true → sound (runTransaction x t .table) ≡ true
-transaction-sound x t = sound-by t _ (transaction-keeps Whole Present whole-kept x t)
+pub transaction-sound : (x : Transaction) (st : State) → sound (st .table) ≡ true → sound (runTransaction x st .state .table) ≡ true
+transaction-sound x st = sound-by st _ (transaction-keeps WholeIn Present whole-kept x st)
 
-pub transactions-sound : (xs : List Transaction) (t : List ℕ) → sound t ≡ true → sound (runTransactions xs t .table) ≡ true
-transactions-sound xs t = sound-by t _ (transactions-keep Whole Present whole-kept xs t)
+pub transactions-sound : (xs : List Transaction) (st : State) → sound (st .table) ≡ true → sound (runTransactions xs st .state .table) ≡ true
+transactions-sound xs st = sound-by st _ (transactions-keep WholeIn Present whole-kept xs st)
 
-pub message-sound : (m : Message) (t : List ℕ) → sound t ≡ true → sound (runMessage m t .table) ≡ true
-message-sound m t = sound-by t _ (message-keeps Whole Present whole-kept m t)
+pub message-sound : (m : Message) (st : State) → sound (st .table) ≡ true → sound (runMessage m st .state .table) ≡ true
+message-sound m st = sound-by st _ (message-keeps WholeIn Present whole-kept m st)
 
-pub call-sound : (n : ℕ) (m t own o : List ℕ) → sound t ≡ true → sound (call n m t own o .table) ≡ true
-call-sound n m t own o = sound-by t _ (call-keeps Whole Present whole-kept n m t own o)
+pub call-sound : (n : ℕ) (m : List ℕ) (st : State) (own o : List ℕ) → sound (st .table) ≡ true → sound (call n m st own o .state .table) ≡ true
+call-sound n m st own o = sound-by st _ (call-keeps WholeIn Present whole-kept n m st own o)

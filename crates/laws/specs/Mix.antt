@@ -3,36 +3,37 @@ use Prim.Native.Nat.{ℕ}
 use mathlib.Core.Path.{_≡_, refl, sym, ap, _∙_, subst}
 use mathlib.Core.List.{List, [], _∷_}
 use Rattle.megaco.specs.Table.{apply}
-use Rattle.megaco.specs.Running.{Step, Progress, State, state, step, run}
+use Rattle.megaco.specs.State.{State, state, wrote}
+use Rattle.megaco.specs.Running.{Step, Progress, Course, course, step, run}
 use Rattle.megaco.proofs.Sizes.{fitted-is}
 use Rattle.laws.specs.Frame.{Closed, Agree, agree-refl, closed-agree, closed-apply, Disjoint, disjoint-sym, apply-agree, apply-comm}
 use Rattle.laws.specs.Steps.{enact, Named, Seats, Acts, acts}
 
--- the table, and how far each of the two has come
+-- the state, and how far each of the two has come
 pub record Both : Type 0 where
-  pub table : List ℕ
+  pub state : State
   pub one : Progress
   pub two : Progress
 
-abbrev pub with-one : State → Progress → Both
-with-one x q = record { table = x .table; one = x .progress; two = q }
+abbrev pub with-one : Course → Progress → Both
+with-one x q = record { state = x .state; one = x .progress; two = q }
 
-abbrev pub with-two : Progress → State → Both
-with-two p x = record { table = x .table; one = p; two = x .progress }
+abbrev pub with-two : Progress → Course → Both
+with-two p x = record { state = x .state; one = p; two = x .progress }
 
 -- a step of the first, of the second
 abbrev pub step-one : Step → Both → Both
-step-one s b = with-one (step s (state (b .table) (b .one))) (b .two)
+step-one s b = with-one (step s (course (b .state) (b .one))) (b .two)
 
 abbrev pub step-two : Step → Both → Both
-step-two s b = with-two (b .one) (step s (state (b .table) (b .two)))
+step-two s b = with-two (b .one) (step s (course (b .state) (b .two)))
 
 -- all steps of the first, of the second
 abbrev pub run-one : List Step → Both → Both
-run-one ss b = with-one (run ss (state (b .table) (b .one))) (b .two)
+run-one ss b = with-one (run ss (course (b .state) (b .one))) (b .two)
 
 abbrev pub run-two : List Step → Both → Both
-run-two rs b = with-two (b .one) (run rs (state (b .table) (b .two)))
+run-two rs b = with-two (b .one) (run rs (course (b .state) (b .two)))
 
 -- "any mixture that keeps each one's own order": the next step is the first's next or the second's next, until both have none left
 pub data Mixture : List Step → List Step → Type 0 where
@@ -50,31 +51,31 @@ Each P [] = Unit {0}
 Each P (s ∷ ss) = P s × Each P ss
 
 -- one step, seen by its own footprint and by another one
-module _ (lines : ℕ) (N K M L : ℕ → Type 0) (D : Disjoint lines M L N K) (s : Step) (t : List ℕ) (p : Progress) (c : Closed lines N K t) (m : Named lines N K s) (h : Seats lines N K (p .acts)) where
-  act : Acts lines N K (λ u. step s (state u p)) t
-  act = acts lines N K (D .two) t c s p m h
+module _ (lines : ℕ) (N K M L : ℕ → Type 0) (D : Disjoint lines M L N K) (s : Step) (st : State) (p : Progress) (c : Closed lines N K (st .table)) (m : Named lines N K s) (h : Seats lines N K (p .acts)) where
+  act : Acts lines N K (λ u. step s (course u p)) st
+  act = acts lines N K (D .two) st c s p m h
 
-  is : step s (state t p) ≡ enact (act .change) t
-  is = act .on t (agree-refl lines N K t)
+  is : step s (course st p) ≡ enact (act .change) st
+  is = act .on st (agree-refl lines N K (st .table))
 
   -- its own footprint stays closed
-  own-closed : Closed lines N K (step s (state t p) .table)
-  own-closed = subst (λ (x : State). Closed lines N K (x .table)) (sym is) (closed-apply lines N K (D .two) (act .change .writes) t (act .all) c)
+  own-closed : Closed lines N K (step s (course st p) .state .table)
+  own-closed = subst (λ (x : Course). Closed lines N K (x .state .table)) (sym is) (closed-apply lines N K (D .two) (act .change .writes) (st .table) (act .all) c)
 
-  own-seats : Seats lines N K (step s (state t p) .progress .acts)
-  own-seats = subst (λ (x : State). Seats lines N K (x .progress .acts)) (sym is) (act .seats)
+  own-seats : Seats lines N K (step s (course st p) .progress .acts)
+  own-seats = subst (λ (x : Course). Seats lines N K (x .progress .acts)) (sym is) (act .seats)
 
   -- the other one sees no change
-  other-agrees : Agree lines M L t (apply (act .change .writes) t)
-  other-agrees = apply-agree lines M L N K D (act .change .writes) t (act .all) c
+  other-agrees : Agree lines M L (st .table) (apply (act .change .writes) (st .table))
+  other-agrees = apply-agree lines M L N K D (act .change .writes) (st .table) (act .all) c
 
-  other-closed : Closed lines M L t → Closed lines M L (step s (state t p) .table)
-  other-closed d = subst (λ (x : State). Closed lines M L (x .table)) (sym is) (closed-agree lines M L (D .one) t _ other-agrees d)
+  other-closed : Closed lines M L (st .table) → Closed lines M L (step s (course st p) .state .table)
+  other-closed d = subst (λ (x : Course). Closed lines M L (x .state .table)) (sym is) (closed-agree lines M L (D .one) (st .table) _ other-agrees d)
 
 -- each footprint is closed, and each transaction's action stands in its own
 pub record Ready (lines : ℕ) (N K M L : ℕ → Type 0) (b : Both) : Type 0 where
-  pub one-closed : Closed lines N K (b .table)
-  pub two-closed : Closed lines M L (b .table)
+  pub one-closed : Closed lines N K (b .state .table)
+  pub two-closed : Closed lines M L (b .state .table)
   pub one-seats : Seats lines N K (b .one .acts)
   pub two-seats : Seats lines M L (b .two .acts)
 
@@ -85,35 +86,36 @@ module _ (lines : ℕ) (N K M L : ℕ → Type 0) (D : Disjoint lines N K M L) w
   ready-one : (s : Step) (b : Both) → Named lines N K s → Ready lines N K M L b → Ready lines N K M L (step-one s b)
   ready-one s b m r =
       record {
-        one-closed = own-closed lines N K M L E s (b .table) (b .one) (r .one-closed) m (r .one-seats);
-        two-closed = other-closed lines N K M L E s (b .table) (b .one) (r .one-closed) m (r .one-seats) (r .two-closed);
-        one-seats = own-seats lines N K M L E s (b .table) (b .one) (r .one-closed) m (r .one-seats);
+        one-closed = own-closed lines N K M L E s (b .state) (b .one) (r .one-closed) m (r .one-seats);
+        two-closed = other-closed lines N K M L E s (b .state) (b .one) (r .one-closed) m (r .one-seats) (r .two-closed);
+        one-seats = own-seats lines N K M L E s (b .state) (b .one) (r .one-closed) m (r .one-seats);
         two-seats = r .two-seats;
       }
 
   ready-two : (s : Step) (b : Both) → Named lines M L s → Ready lines N K M L b → Ready lines N K M L (step-two s b)
   ready-two s b m r =
       record {
-        one-closed = other-closed lines M L N K D s (b .table) (b .two) (r .two-closed) m (r .two-seats) (r .one-closed);
-        two-closed = own-closed lines M L N K D s (b .table) (b .two) (r .two-closed) m (r .two-seats);
+        one-closed = other-closed lines M L N K D s (b .state) (b .two) (r .two-closed) m (r .two-seats) (r .one-closed);
+        two-closed = own-closed lines M L N K D s (b .state) (b .two) (r .two-closed) m (r .two-seats);
         one-seats = r .one-seats;
-        two-seats = own-seats lines M L N K D s (b .table) (b .two) (r .two-closed) m (r .two-seats);
+        two-seats = own-seats lines M L N K D s (b .state) (b .two) (r .two-closed) m (r .two-seats);
       }
 
   -- two steps, one of each, may change places
   diamond : (s r : Step) (b : Both) → Named lines N K s → Named lines M L r → Ready lines N K M L b → step-one s (step-two r b) ≡ step-two r (step-one s b)
   diamond s r b m o h =
-      let t = b .table in
-      let p = act lines N K M L E s t (b .one) (h .one-closed) m (h .one-seats) in
-      let q = act lines M L N K D r t (b .two) (h .two-closed) o (h .two-seats) in
+      let st = b .state in
+      let t = st .table in
+      let p = act lines N K M L E s st (b .one) (h .one-closed) m (h .one-seats) in
+      let q = act lines M L N K D r st (b .two) (h .two-closed) o (h .two-seats) in
       let vs = p .change .writes in
       let ws = q .change .writes in
-      let p₀ : step s (state t (b .one)) ≡ enact (p .change) t = p .on t (agree-refl lines N K t) in
-      let q₀ : step r (state t (b .two)) ≡ enact (q .change) t = q .on t (agree-refl lines M L t) in
-      let p₁ : step s (state (apply ws t) (b .one)) ≡ enact (p .change) (apply ws t) = p .on (apply ws t) (apply-agree lines N K M L D ws t (q .all) (h .two-closed)) in
-      let q₁ : step r (state (apply vs t) (b .two)) ≡ enact (q .change) (apply vs t) = q .on (apply vs t) (apply-agree lines M L N K E vs t (p .all) (h .one-closed)) in
+      let p₀ : step s (course st (b .one)) ≡ enact (p .change) st = p .on st (agree-refl lines N K t) in
+      let q₀ : step r (course st (b .two)) ≡ enact (q .change) st = q .on st (agree-refl lines M L t) in
+      let p₁ : step s (course (wrote ws st) (b .one)) ≡ enact (p .change) (wrote ws st) = p .on (wrote ws st) (apply-agree lines N K M L D ws t (q .all) (h .two-closed)) in
+      let q₁ : step r (course (wrote vs st) (b .two)) ≡ enact (q .change) (wrote vs st) = q .on (wrote vs st) (apply-agree lines M L N K E vs t (p .all) (h .one-closed)) in
       let c : apply vs (apply ws t) ≡ apply ws (apply vs t) = apply-comm lines N K M L D vs ws t (fitted-is lines t (h .one-closed .long)) (p .all) (q .all) in
-      rw (q₀, p₀) (rw (p₁, q₁) (ap (λ (x : List ℕ). record { table = x; one = p .change .next; two = q .change .next }) c))
+      rw (q₀, p₀) (rw (p₁, q₁) (ap (λ (x : List ℕ). record { state = state x; one = p .change .next; two = q .change .next }) c))
 
   past : (ss : List Step) (r : Step) (b : Both) → Each (Named lines N K) ss → Named lines M L r → Ready lines N K M L b → run-one ss (step-two r b) ≡ step-two r (run-one ss b)
   unfolding run

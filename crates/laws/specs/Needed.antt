@@ -10,6 +10,7 @@ use Rattle.base.specs.Lists.{has, same}
 use Rattle.megaco.specs.Bytes.{star, dollar}
 use Rattle.megaco.specs.Tree.{Transaction}
 use Rattle.megaco.specs.Table.{fitted, sound}
+use Rattle.megaco.specs.State.{State, state}
 use Rattle.megaco.specs.Running.{runTransaction}
 use Rattle.megaco.specs.declared.Context.the-variants.{Numbered}
 use Rattle.base.proofs.TestLaws.{clash, and-left, and-right}
@@ -21,36 +22,36 @@ use Rattle.laws.specs.Witness.{read, with-words, tests, start}
 
 -- demand 3 with other conditions than its own
 abbrev pub Claim : (List ℕ → Transaction → Transaction → Type 0) → Type 0
-Claim P = (t : List ℕ) → sound t ≡ true → (x y : Transaction) → P t x y → EitherOrder t x y
+Claim P = (st : State) → sound (st .table) ≡ true → (x y : Transaction) → P (st .table) x y → EitherOrder st x y
 
 pub demand-3-claims : Claim Apart
-demand-3-claims t e x y = either-order t e x y
+demand-3-claims st e x y = either-order st e x y
 
 -- ---- a computed difference refutes a claim
 
 -- both orders give the same words and bytes
 unfoldable pub alike? : List ℕ → Transaction → Transaction → Bool
 alike? t x y =
-    let a = runTransaction x t in
-    let b = runTransaction y t in
-    let c = runTransaction y (a .table) in
-    let d = runTransaction x (b .table) in
-    same (c .table) (d .table) && same (a .text) (d .text) && same (c .text) (b .text)
+    let a = runTransaction x (state t) in
+    let b = runTransaction y (state t) in
+    let c = runTransaction y (a .state) in
+    let d = runTransaction x (b .state) in
+    same (c .state .table) (d .state .table) && same (a .text) (d .text) && same (c .text) (b .text)
 
 same-refl : (l : List ℕ) → same l l ≡ true
 unfolding same pick
 same-refl [] = refl
 same-refl (x ∷ xs) = rw (eq-eqb x x refl, same-refl xs)
 
-order-counts : (t : List ℕ) (x y : Transaction) → alike? t x y ≡ false → EitherOrder t x y → ⊥
+order-counts : (t : List ℕ) (x y : Transaction) → alike? t x y ≡ false → EitherOrder (state t) x y → ⊥
 unfolding alike?
 order-counts t x y e o = clash (sym holds ∙ e)
   where
     holds : alike? t x y ≡ true
-    holds = rw (o .table, o .reply-one, o .reply-two) (rw (same-refl (runTransaction x (runTransaction y t .table) .table), same-refl (runTransaction x (runTransaction y t .table) .text), same-refl (runTransaction y t .text)))
+    holds = rw (o .state, o .reply-one, o .reply-two) (rw (same-refl (runTransaction x (runTransaction y (state t) .state) .state .table), same-refl (runTransaction x (runTransaction y (state t) .state) .text), same-refl (runTransaction y (state t) .text)))
 
 refute : (P : List ℕ → Transaction → Transaction → Type 0) (t : List ℕ) (x y : Transaction) → sound t ≡ true → alike? t x y ≡ false → P t x y → Claim P → ⊥
-refute P t x y s e p claim = order-counts t x y e (claim t s x y p)
+refute P t x y s e p claim = order-counts t x y e (claim (state t) s x y p)
 
 -- ---- the conditions, of both transactions
 

@@ -12,6 +12,7 @@ use Rattle.base.specs.Lists.{every}
 use Rattle.megaco.specs.Bytes.{star, dollar}
 use Rattle.megaco.specs.Tree.{Command, command, Action, action, Transaction, transaction}
 use Rattle.megaco.specs.Table.{terminations, contexts, words, fitted, ctx, get, contextWords, sized, sound}
+use Rattle.megaco.specs.State.{State}
 use Rattle.megaco.specs.Names.{nameOf}
 use Rattle.megaco.specs.Running.{Step, orders, steps, fresh}
 use Rattle.megaco.specs.declared.Context.{Context}
@@ -105,10 +106,13 @@ named t (transaction id acts) p q = named-steps (fitted t) (Names (fitted t) x) 
 -- ---- both orders, any mixture
 
 -- at the start neither has taken a step
-abbrev pub outset : List ℕ → Both
-outset t = record { table = t; one = fresh; two = fresh }
+abbrev pub outset : State → Both
+outset st = record { state = st; one = fresh; two = fresh }
 
-module _ (t : List ℕ) (e : sound t ≡ true) (x y : Transaction) (A : Apart t x y) where
+module _ (st : State) (e : sound (st .table) ≡ true) (x y : Transaction) (A : Apart (st .table) x y) where
+  abbrev t : List ℕ
+  t = st .table
+
   disjoint : Disjoint (fitted t) (Names (fitted t) x) (Reach t x) (Names (fitted t) y) (Reach t y)
   disjoint =
       record {
@@ -118,15 +122,15 @@ module _ (t : List ℕ) (e : sound t ≡ true) (x y : Transaction) (A : Apart t 
         apart-contexts = λ c a b. A .contexts c (a .0) (a .2) (b .2);
       }
 
-  ready : Ready (fitted t) (Names (fitted t) x) (Reach t x) (Names (fitted t) y) (Reach t y) (outset t)
+  ready : Ready (fitted t) (Names (fitted t) x) (Reach t x) (Names (fitted t) y) (Reach t y) (outset st)
   ready = record { one-closed = closed t x e (A .names-one); two-closed = closed t y e (A .names-two); one-seats = tt; two-seats = tt }
 
-  pub orders-alike : run-one (stepsOf x) (run-two (stepsOf y) (outset t)) ≡ run-two (stepsOf y) (run-one (stepsOf x) (outset t))
+  pub orders-alike : run-one (stepsOf x) (run-two (stepsOf y) (outset st)) ≡ run-two (stepsOf y) (run-one (stepsOf x) (outset st))
   orders-alike =
-      exchange (fitted t) (Names (fitted t) x) (Reach t x) (Names (fitted t) y) (Reach t y) disjoint (stepsOf x) (stepsOf y) (outset t)
+      exchange (fitted t) (Names (fitted t) x) (Reach t x) (Names (fitted t) y) (Reach t y) disjoint (stepsOf x) (stepsOf y) (outset st)
       (named t x (A .contexts-one) (A .names-one)) (named t y (A .contexts-two) (A .names-two)) ready
 
-  pub mixture-alike : (z : Mixture (stepsOf x) (stepsOf y)) → mixed z (outset t) ≡ run-two (stepsOf y) (run-one (stepsOf x) (outset t))
+  pub mixture-alike : (z : Mixture (stepsOf x) (stepsOf y)) → mixed z (outset st) ≡ run-two (stepsOf y) (run-one (stepsOf x) (outset st))
   mixture-alike z =
-      one-after-other (fitted t) (Names (fitted t) x) (Reach t x) (Names (fitted t) y) (Reach t y) disjoint z (outset t)
+      one-after-other (fitted t) (Names (fitted t) x) (Reach t x) (Names (fitted t) y) (Reach t y) disjoint z (outset st)
       (named t x (A .contexts-one) (A .names-one)) (named t y (A .contexts-two) (A .names-two)) ready

@@ -10,129 +10,131 @@ use Rattle.megaco.specs.declared.Op.{Op}
 use Rattle.megaco.specs.declared.Property.{Property}
 use Rattle.megaco.specs.declared.Judged.{Judged}
 use Rattle.megaco.specs.declared.Judged.the-variants.{Wrong, Right}
+use Rattle.megaco.specs.declared.Seen.{Seen}
 use Rattle.megaco.specs.declared.Values.{Values}
 use Rattle.megaco.specs.Tree.{Items, Command, command, Transaction, transaction, Message, wellFormed, fault400, fault403, fault406}
-use Rattle.megaco.specs.Table.{fitted, apply}
+use Rattle.megaco.specs.Table.{fitted}
+use Rattle.megaco.specs.State.{State, wrote}
 use Rattle.megaco.specs.Names.{nameOf}
 use Rattle.megaco.specs.Items.{given?}
 use Rattle.megaco.specs.Reply.{Acted}
-use Rattle.megaco.specs.Running.{seen, numberOf, look, Effect, effect, Outcome, tries, missed, actionError, Aim, misses, gateway, meets, isSubtract, aim, aimed, opOf, barred, lost, named, tested, unlessOptional, ordered, runCommand, started, Step, start, order, steps, progress, State, state, begin, advance, proceed, step, run, fresh, runTransaction, runTransactions, runMessage}
+use Rattle.megaco.specs.Running.{seen, numberOf, look, Effect, effect, Outcome, tries, missed, actionError, Aim, misses, gateway, meets, aim, aimed, opOf, barred, lost, named, tested, unlessOptional, ordered, runCommand, started, Step, start, order, steps, progress, Course, course, begin, advance, proceed, step, run, fresh, runTransaction, runTransactions, runMessage}
 use Rattle.megaco.specs.Reading.{messageR}
 use Rattle.megaco.specs.Call.{Called, written, replied, taken, call}
 use Rattle.base.proofs.TestLaws.{pick-of}
 use Rattle.laws.specs.Slots.{length-apply}
 use Rattle.laws.specs.Values.{Fair, FairItems, right, items-fair}
 
--- P is kept of the table, and G holds of the record that the running action gives to `$`
-pub record Keeps (P : List ℕ → Type 0) (G : ℕ → Type 0) : Type 0 where
-  pub orders : (op : Op) (name : List ℕ) (given : ℕ) (vs : Values) (items : Bool) (at : Context) (t : List ℕ) → P t → G given → Fair vs → barred op at ≡ false
-      → lost op at (seen (numberOf at) t .held) ≡ false → P (aimed op name given vs (aim op at items (nameOf (fitted t) name) t) at t .table)
-  pub starts : (c : Context) (ps : List Property) (alone : Bool) (t : List ℕ) → P t → P (apply (started c ps alone (seen (numberOf c) t .held) .writes) t)
-  pub gives : (c : Context) (ps : List Property) (alone : Bool) (held : ℕ) → G (started c ps alone held .acted .given)
+-- P is kept of the state, and G holds of the record that the running action gives to `$`
+pub record Keeps (P : State → Type 0) (G : ℕ → Type 0) : Type 0 where
+  pub orders : (op : Op) (name : List ℕ) (given : ℕ) (vs : Values) (items : Bool) (at : Context) (st : State) → P st → G given → Fair vs → barred op at ≡ false
+      → lost op at (seen (numberOf at) (st .table) .held) ≡ false → P (aimed op name given vs (aim op at items (nameOf (fitted (st .table)) name) (st .table)) at st .state)
+  pub starts : (c : Context) (ps : List Property) (alone : Bool) (st : State) → P st → P (wrote (started c ps alone (seen (numberOf c) (st .table)) .writes) st)
+  pub gives : (c : Context) (ps : List Property) (alone : Bool) (there : Seen) → G (started c ps alone there .acted .given)
 
 -- of the action that is running
 abbrev pub Running : (ℕ → Type 0) → List Acted → Type 0
 Running G [] = Unit {0}
 Running G (a ∷ acts) = G (a .given)
 
-pub record Kept (P : List ℕ → Type 0) (G : ℕ → Type 0) (x : State) : Type 0 where
-  pub table : P (x .table)
+pub record Kept (P : State → Type 0) (G : ℕ → Type 0) (x : Course) : Type 0 where
+  pub state : P (x .state)
   pub running : Running G (x .progress .acts)
 
-module _ (P : List ℕ → Type 0) (G : ℕ → Type 0) (K : Keeps P G) where
-  named-keeps : (op : Op) (name : List ℕ) (given : ℕ) (items : Bool) (j : Judged) (at : Context) (t : List ℕ) → P t → G given → FairItems j → barred op at ≡ false
-      → lost op at (seen (numberOf at) t .held) ≡ false → P (named op name given items j at t .table)
+module _ (P : State → Type 0) (G : ℕ → Type 0) (K : Keeps P G) where
+  named-keeps : (op : Op) (name : List ℕ) (given : ℕ) (items : Bool) (j : Judged) (at : Context) (st : State) → P st → G given → FairItems j → barred op at ≡ false
+      → lost op at (seen (numberOf at) (st .table) .held) ≡ false → P (named op name given items j at st .state)
   unfolding named missed
-  named-keeps op name given items (Wrong code) at t p g f b l = p
-  named-keeps op name given items (Right vs) at t p g (right f) b l = K .orders op name given vs items at t p g f b l
+  named-keeps op name given items (Wrong code) at st p g f b l = p
+  named-keeps op name given items (Right vs) at st p g (right f) b l = K .orders op name given vs items at st p g f b l
 
-  tested-keeps : (op : Op) (name : List ℕ) (items : Items) (given : ℕ) (at : Context) (t : List ℕ) → P t → G given → barred op at ≡ false
-      → P (tested op name items given at t .table)
+  tested-keeps : (op : Op) (name : List ℕ) (items : Items) (given : ℕ) (at : Context) (st : State) → P st → G given → barred op at ≡ false
+      → P (tested op name items given at st .state)
   unfolding tested missed
-  tested-keeps op name items given at t p g b =
-      pick-of (λ (x : Outcome). P (x .table)) _ (λ _. p) (λ l. named-keeps op name given (given? items) _ at t p g (items-fair (isSubtract op) items) b l)
+  tested-keeps op name items given at st p g b =
+      pick-of (λ (x : Outcome). P (x .state)) _ (λ _. p) (λ l. named-keeps op name given (given? items) _ at st p g (items-fair op items) b l)
 
-  ordered-keeps : (o : Bool) (op : Option Op) (name : List ℕ) (items : Items) (given : ℕ) (at : Context) (t : List ℕ) → P t → G given
-      → P (ordered o op name items given at t .table)
+  ordered-keeps : (o : Bool) (op : Option Op) (name : List ℕ) (items : Items) (given : ℕ) (at : Context) (st : State) → P st → G given
+      → P (ordered o op name items given at st .state)
   unfolding ordered actionError unlessOptional
-  ordered-keeps o none name items given at t p g = p
-  ordered-keeps o (some op) name items given at t p g =
-      pick-of (λ (x : Outcome). P (x .table)) (barred op at) (λ _. p) (λ b. tested-keeps op name items given at t p g b)
+  ordered-keeps o none name items given at st p g = p
+  ordered-keeps o (some op) name items given at st p g =
+      pick-of (λ (x : Outcome). P (x .state)) (barred op at) (λ _. p) (λ b. tested-keeps op name items given at st p g b)
 
-  pub command-keeps : (c : Command) (given : ℕ) (at : Context) (t : List ℕ) → P t → G given → P (runCommand c given at t .table)
+  pub command-keeps : (c : Command) (given : ℕ) (at : Context) (st : State) → P st → G given → P (runCommand c given at st .state)
   unfolding runCommand
-  command-keeps (command o w word name items) given at t p g = ordered-keeps o (opOf w word) name items given at t p g
+  command-keeps (command o w word name items) given at st p g = ordered-keeps o (opOf w word) name items given at st p g
 
-  proceed-keeps : (s : Step) (t : List ℕ) (acts : List Acted) → P t → Running G acts → Kept P G (proceed s t acts)
+  proceed-keeps : (s : Step) (st : State) (acts : List Acted) → P st → Running G acts → Kept P G (proceed s st acts)
   unfolding proceed begin advance
-  proceed-keeps (start c ps alone) t acts p g = record { table = K .starts c ps alone t p; running = K .gives c ps alone _ }
-  proceed-keeps (order c) t [] p g = record { table = p; running = tt }
-  proceed-keeps (order c) t (a ∷ acts) p g = record { table = command-keeps c (a .given) (a .at) t p g; running = g }
+  proceed-keeps (start c ps alone) st acts p g = record { state = K .starts c ps alone st p; running = K .gives c ps alone _ }
+  proceed-keeps (order c) st [] p g = record { state = p; running = tt }
+  proceed-keeps (order c) st (a ∷ acts) p g = record { state = command-keeps c (a .given) (a .at) st p g; running = g }
 
-  pub step-keeps : (s : Step) (x : State) → Kept P G x → Kept P G (step s x)
+  pub step-keeps : (s : Step) (x : Course) → Kept P G x → Kept P G (step s x)
   unfolding step
-  step-keeps s x k = pick-of (Kept P G) (x .progress .going) (λ _. proceed-keeps s (x .table) (x .progress .acts) (k .table) (k .running)) (λ _. k)
+  step-keeps s x k = pick-of (Kept P G) (x .progress .going) (λ _. proceed-keeps s (x .state) (x .progress .acts) (k .state) (k .running)) (λ _. k)
 
-  pub run-keeps : (ss : List Step) (x : State) → Kept P G x → Kept P G (run ss x)
+  pub run-keeps : (ss : List Step) (x : Course) → Kept P G x → Kept P G (run ss x)
   unfolding run
   run-keeps [] x k = k
   run-keeps (s ∷ ss) x k = run-keeps ss (step s x) (step-keeps s x k)
 
-  pub transaction-keeps : (x : Transaction) (t : List ℕ) → P t → P (runTransaction x t .table)
+  pub transaction-keeps : (x : Transaction) (st : State) → P st → P (runTransaction x st .state)
   unfolding runTransaction
-  transaction-keeps (transaction id acts) t p = run-keeps (steps acts) (state t fresh) (record { table = p; running = tt }) .table
+  transaction-keeps (transaction id acts) st p = run-keeps (steps acts) (course st fresh) (record { state = p; running = tt }) .state
 
-  pub transactions-keep : (xs : List Transaction) (t : List ℕ) → P t → P (runTransactions xs t .table)
+  pub transactions-keep : (xs : List Transaction) (st : State) → P st → P (runTransactions xs st .state)
   unfolding runTransactions
-  transactions-keep [] t p = p
-  transactions-keep (x ∷ xs) t p = transactions-keep xs (runTransaction x t .table) (transaction-keeps x t p)
+  transactions-keep [] st p = p
+  transactions-keep (x ∷ xs) st p = transactions-keep xs (runTransaction x st .state) (transaction-keeps x st p)
 
-  pub message-keeps : (m : Message) (t : List ℕ) → P t → P (runMessage m t .table)
+  pub message-keeps : (m : Message) (st : State) → P st → P (runMessage m st .state)
   unfolding runMessage
-  message-keeps (wellFormed xs) t p = transactions-keep xs t p
-  message-keeps fault400 t p = p
-  message-keeps (fault403 id) t p = p
-  message-keeps fault406 t p = p
+  message-keeps (wellFormed xs) st p = transactions-keep xs st p
+  message-keeps fault400 st p = p
+  message-keeps (fault403 id) st p = p
+  message-keeps fault406 st p = p
 
-  pub call-keeps : (n : ℕ) (m t own o : List ℕ) → P t → P (call n m t own o .table)
+  pub call-keeps : (n : ℕ) (m : List ℕ) (st : State) (own o : List ℕ) → P st → P (call n m st own o .state)
   unfolding call taken replied written
-  call-keeps n m t own o p =
-      pick-of (λ (x : Called). P (x .table)) _ (λ _. p) (λ _. pick-of (λ (x : Called). P (x .table)) _ (λ _. p) (λ _. pick-of (λ (x : Called). P (x .table)) _ (λ _. p) (λ _. pick-of (λ (x : Called). P (x .table)) _ (λ _. p)
-      (λ _. pick-of (λ (x : Called). P (x .table)) _ (λ _. p) (λ _. message-keeps (messageR m) t p)))))
+  call-keeps n m st own o p =
+      pick-of (λ (x : Called). P (x .state)) _ (λ _. p) (λ _. pick-of (λ (x : Called). P (x .state)) _ (λ _. p) (λ _. pick-of (λ (x : Called). P (x .state)) _ (λ _. p) (λ _. pick-of (λ (x : Called). P (x .state)) _ (λ _. p)
+      (λ _. pick-of (λ (x : Called). P (x .state)) _ (λ _. p) (λ _. message-keeps (messageR m) st p)))))
 
 -- ---- the length
 
-length-tries : (op : Op) (wild : Bool) (name : List ℕ) (given : ℕ) (vs : Values) (is : List ℕ) (at : Context) (t : List ℕ)
-    → length (tries op wild name given vs is at t .table) ≡ length t
+length-tries : (op : Op) (wild : Bool) (name : List ℕ) (given : ℕ) (vs : Values) (is : List ℕ) (at : Context) (st : State)
+    → length (tries op wild name given vs is at st .state .table) ≡ length (st .table)
 unfolding tries
-length-tries op wild name given vs [] at t = refl
-length-tries op wild name given vs (i ∷ is) at t =
-    let e : Effect = effect op wild name given vs i at (look at i t) in
-    length-tries op wild name given vs is (e .at) (apply (e .writes) t) ∙ length-apply (e .writes) t
+length-tries op wild name given vs [] at st = refl
+length-tries op wild name given vs (i ∷ is) at st =
+    let e : Effect = effect op wild name given vs i at (look at i (st .table)) in
+    length-tries op wild name given vs is (e .at) (wrote (e .writes) st) ∙ length-apply (e .writes) (st .table)
 
-length-aimed : (op : Op) (name : List ℕ) (given : ℕ) (vs : Values) (a : Aim) (at : Context) (t : List ℕ) → length (aimed op name given vs a at t .table) ≡ length t
+length-aimed : (op : Op) (name : List ℕ) (given : ℕ) (vs : Values) (a : Aim) (at : Context) (st : State) → length (aimed op name given vs a at st .state .table) ≡ length (st .table)
 unfolding aimed missed
-length-aimed op name given vs (misses code) at t = refl
-length-aimed op name given vs gateway at t = refl
-length-aimed op name given vs (meets wild is) at t = length-tries op wild name given vs is at t
+length-aimed op name given vs (misses code) at st = refl
+length-aimed op name given vs gateway at st = refl
+length-aimed op name given vs (meets wild is) at st = length-tries op wild name given vs is at st
 
-pub length-kept : (n : ℕ) → Keeps (λ t. length t ≡ n) (λ _. Unit {0})
+pub length-kept : (n : ℕ) → Keeps (λ st. length (st .table) ≡ n) (λ _. Unit {0})
 length-kept n =
     record {
-      orders = λ op name given vs items at t l _ _ _ _. length-aimed op name given vs (aim op at items (nameOf (fitted t) name) t) at t ∙ l;
-      starts = λ c ps alone t l. length-apply _ t ∙ l;
-      gives = λ c ps alone held. tt;
+      orders = λ op name given vs items at st l _ _ _ _. length-aimed op name given vs (aim op at items (nameOf (fitted (st .table)) name) (st .table)) at st ∙ l;
+      starts = λ c ps alone st l. length-apply _ (st .table) ∙ l;
+      gives = λ c ps alone there. tt;
     }
 
-pub run-length : (ss : List Step) (x : State) → length (run ss x .table) ≡ length (x .table)
-run-length ss x = run-keeps (λ t. length t ≡ length (x .table)) (λ _. Unit {0}) (length-kept (length (x .table))) ss x (record { table = refl; running = any (x .progress .acts) }) .table
+pub run-length : (ss : List Step) (x : Course) → length (run ss x .state .table) ≡ length (x .state .table)
+run-length ss x = run-keeps (λ st. length (st .table) ≡ length (x .state .table)) (λ _. Unit {0}) (length-kept (length (x .state .table))) ss x (record { state = refl; running = any (x .progress .acts) }) .state
   where
     any : (acts : List Acted) → Running (λ _. Unit {0}) acts
     any [] = tt
     any (a ∷ acts) = tt
 
-pub message-length : (m : Message) (t : List ℕ) → length (runMessage m t .table) ≡ length t
-message-length m t = message-keeps (λ u. length u ≡ length t) (λ _. Unit {0}) (length-kept (length t)) m t refl
+pub message-length : (m : Message) (st : State) → length (runMessage m st .state .table) ≡ length (st .table)
+message-length m st = message-keeps (λ u. length (u .table) ≡ length (st .table)) (λ _. Unit {0}) (length-kept (length (st .table))) m st refl
 
-pub call-length : (n : ℕ) (m t own o : List ℕ) → length (call n m t own o .table) ≡ length t
-call-length n m t own o = call-keeps (λ u. length u ≡ length t) (λ _. Unit {0}) (length-kept (length t)) n m t own o refl
+pub call-length : (n : ℕ) (m : List ℕ) (st : State) (own o : List ℕ) → length (call n m st own o .state .table) ≡ length (st .table)
+call-length n m st own o = call-keeps (λ u. length (u .table) ≡ length (st .table)) (λ _. Unit {0}) (length-kept (length (st .table))) n m st own o refl

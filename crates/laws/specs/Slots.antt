@@ -11,7 +11,7 @@ use borrow.Author.Tests.{eqb-true, eq-eqb}
 use native.Mathlib.Omega.{arith}
 use native.Mathlib.Decide.{ℕ-discrete}
 use Rattle.base.specs.Pick.{pick}
-use Rattle.megaco.specs.Table.{lineTerminations, terminations, contexts, mapStart, words, fitted, prop, rec, used, Slot, ctx, cell, address, told, kept, get, Write, write, store, apply}
+use Rattle.megaco.specs.Table.{lineTerminations, terminations, contexts, regions, onward, total, place, mapStart, words, fitted, prop, rec, used, Slot, ctx, cell, regionOf, wordOf, address, told, kept, get, Write, write, store, apply}
 use Rattle.megaco.specs.Map.{digit, withDigit}
 use Rattle.megaco.proofs.Sizes.{fitted-is, fitted-same}
 use Rattle.megaco.proofs.Places.{digit-same, digit-other, digit-comm, with-below}
@@ -30,23 +30,53 @@ Valid n (cell (used i)) = (lineTerminations n ≤ i) × (i < terminations n)
 pub data Shared (n : ℕ) : Slot → Slot → Type 0 where
   both : {i j : ℕ} → (i - lineTerminations n) % 32 ≢ (j - lineTerminations n) % 32 → Shared n (cell (used i)) (cell (used j))
 
+-- a slot's word lies in its region
+word-below : (n : ℕ) (s : Slot) → Valid n s → wordOf n s < getD (regions n) (regionOf s) 0
+word-below n (ctx i) h = h
+word-below n (cell (prop i)) h = h
+word-below n (cell (rec c)) h = omega arith
+word-below n (cell (used i)) h = omega arith
+
+-- which of its kind a slot is, and the slot of a kind
+abbrev index : Slot → ℕ
+index (ctx i) = i
+index (cell (prop i)) = i
+index (cell (rec c)) = c
+index (cell (used i)) = i
+
+abbrev slotOf : ℕ → ℕ → Slot
+slotOf zero i = ctx i
+slotOf (suc zero) i = cell (prop i)
+slotOf (suc (suc zero)) c = cell (rec c)
+slotOf (suc (suc (suc k))) i = cell (used i)
+
+slot-of : (s : Slot) → slotOf (regionOf s) (index s) ≡ s
+slot-of (ctx i) = refl
+slot-of (cell (prop i)) = refl
+slot-of (cell (rec c)) = refl
+slot-of (cell (used i)) = refl
+
+-- an address tells its region and the word there
+place-tells : (rs : List ℕ) (k j a b : ℕ) → a < getD rs k 0 → b < getD rs j 0 → place k rs a ≡ place j rs b → (k ≡ j) × (a ≡ b)
+place-tells [] k j a b h l e = absurd (omega arith)
+place-tells (r ∷ rs) zero zero a b h l e = (refl, e)
+place-tells (r ∷ rs) zero (suc j) a b h l e = absurd (omega (arith, h, e))
+place-tells (r ∷ rs) (suc k) zero a b h l e = absurd (omega (arith, l, e))
+place-tells (r ∷ rs) (suc k) (suc j) a b h l e = let p = place-tells rs k j a b h l (omega (arith, e)) in (ap suc (p .0), p .1)
+
+-- and a word of its region tells a slot, but for the map's
+word-tells : (n : ℕ) (s : Slot) (j : ℕ) → Valid n s → Valid n (slotOf (regionOf s) j) → s ≢ slotOf (regionOf s) j → wordOf n s ≡ wordOf n (slotOf (regionOf s) j)
+    → Shared n s (slotOf (regionOf s) j)
+word-tells n (ctx i) j h k d e = absurd (d (ap ctx e))
+word-tells n (cell (prop i)) j h k d e = absurd (d (ap (λ (x : ℕ). cell (prop x)) e))
+word-tells n (cell (rec c)) j h k d e = absurd (d (let q : c ≡ j = omega (arith, e) in ap (λ (x : ℕ). cell (rec x)) q))
+word-tells n (cell (used i)) j h k d e = both {i = i} {j = j} (λ z. d (let q : i ≡ j = omega (arith, e, z) in ap (λ (x : ℕ). cell (used x)) q))
+
 shared : (n : ℕ) (s r : Slot) → Valid n s → Valid n r → s ≢ r → address n s ≡ address n r → Shared n s r
-shared n (ctx i) (ctx j) h k d e = absurd (d (ap ctx e))
-shared n (ctx i) (cell (prop j)) h k d e = absurd (omega (arith, e))
-shared n (ctx i) (cell (rec c)) h k d e = absurd (omega (arith, e))
-shared n (ctx i) (cell (used j)) h k d e = absurd (omega (arith, e))
-shared n (cell (prop i)) (ctx j) h k d e = absurd (omega (arith, e))
-shared n (cell (prop i)) (cell (prop j)) h k d e = absurd (d (let q : i ≡ j = omega (arith, e) in ap (λ (x : ℕ). cell (prop x)) q))
-shared n (cell (prop i)) (cell (rec c)) h k d e = absurd (omega (arith, e))
-shared n (cell (prop i)) (cell (used j)) h k d e = absurd (omega (arith, e))
-shared n (cell (rec c)) (ctx j) h k d e = absurd (omega (arith, e))
-shared n (cell (rec c)) (cell (prop j)) h k d e = absurd (omega (arith, e))
-shared n (cell (rec c)) (cell (rec b)) h k d e = absurd (d (let q : c ≡ b = omega (arith, e) in ap (λ (x : ℕ). cell (rec x)) q))
-shared n (cell (rec c)) (cell (used j)) h k d e = absurd (omega (arith, e))
-shared n (cell (used i)) (ctx j) h k d e = absurd (omega (arith, e))
-shared n (cell (used i)) (cell (prop j)) h k d e = absurd (omega (arith, e))
-shared n (cell (used i)) (cell (rec c)) h k d e = absurd (omega (arith, e))
-shared n (cell (used i)) (cell (used j)) h k d e = both {i = i} {j = j} (λ z. d (let q : i ≡ j = omega (arith, e, z) in ap (λ (x : ℕ). cell (used x)) q))
+shared n s r h k d e =
+    let p = place-tells (regions n) (regionOf s) (regionOf r) (wordOf n s) (wordOf n r) (word-below n s h) (word-below n r k) e in
+    let q : slotOf (regionOf s) (index r) ≡ r = ap (λ (x : ℕ). slotOf x (index r)) (p .0) ∙ slot-of r in
+    subst (Shared n s) q (word-tells n s (index r) h (subst (Valid n) (sym q) k) (λ z. d (z ∙ q)) (p .1 ∙ ap (wordOf n) (sym q)))
 
 -- what a slot holds once v is put there
 abbrev pub held : Slot → ℕ → ℕ
@@ -91,11 +121,22 @@ change-comm f g t a b d =
     ∙ sym (ap (λ (w : ℕ). set (change t b g) a (f w)) (getD-set-other t b a (g (getD t b 0)) 0 d))
 
 -- a slot lies in the table
+onward-on : (rs : List ℕ) (c : ℕ) → c ≤ onward c rs
+onward-on [] c = omega arith
+onward-on (r ∷ rs) c = let h : c + r ≤ onward (c + r) rs = onward-on rs (c + r) in omega (arith, h)
+
+onward-below : (rs : List ℕ) (c k a : ℕ) → a < getD rs k 0 → c + place k rs a < onward c rs
+onward-below [] c k a h = absurd (omega arith)
+onward-below (r ∷ rs) c zero a h = omega (arith, h, onward-on rs (c + r))
+onward-below (r ∷ rs) c (suc k) a h = omega (arith, onward-below rs (c + r) k a h)
+
+place-below : (rs : List ℕ) (k a : ℕ) → a < getD rs k 0 → place k rs a < total rs
+place-below [] k a h = absurd (omega arith)
+place-below (r ∷ rs) zero a h = omega (arith, h, onward-on rs r)
+place-below (r ∷ rs) (suc k) a h = onward-below rs r k a h
+
 pub address-below : (n : ℕ) (s : Slot) → Valid n s → address n s < words n
-address-below n (ctx i) h = omega arith
-address-below n (cell (prop i)) h = omega arith
-address-below n (cell (rec c)) h = omega arith
-address-below n (cell (used i)) h = omega arith
+address-below n s h = place-below (regions n) (regionOf s) (wordOf n s) (word-below n s h)
 
 pub length-store : (w : Write) (t : List ℕ) → length (store w t) ≡ length t
 length-store (write s v) t = length-set t (address (fitted t) s) _
@@ -152,42 +193,17 @@ store-comm n s r u v t f hs hr d = twice s r u v ∙ by (ℕ-discrete (address n
 
 -- ---- what a slot holds after writes
 
--- the kind of a slot, and which of its kind it is
-abbrev kind : Slot → ℕ
-kind (ctx i) = 0
-kind (cell (prop i)) = 1
-kind (cell (rec c)) = 2
-kind (cell (used i)) = 3
-
-abbrev index : Slot → ℕ
-index (ctx i) = i
-index (cell (prop i)) = i
-index (cell (rec c)) = c
-index (cell (used i)) = i
-
-abbrev slotOf : ℕ → ℕ → Slot
-slotOf zero i = ctx i
-slotOf (suc zero) i = cell (prop i)
-slotOf (suc (suc zero)) c = cell (rec c)
-slotOf (suc (suc (suc k))) i = cell (used i)
-
-slot-of : (s : Slot) → slotOf (kind s) (index s) ≡ s
-slot-of (ctx i) = refl
-slot-of (cell (prop i)) = refl
-slot-of (cell (rec c)) = refl
-slot-of (cell (used i)) = refl
-
 -- the same slot: computed as far as the kinds tell
 abbrev pub alike : Slot → Slot → Bool
-alike r s = eqb (kind r) (kind s) && eqb (index r) (index s)
+alike r s = eqb (regionOf r) (regionOf s) && eqb (index r) (index s)
 
 pub alike-same : (r s : Slot) → alike r s ≡ true → r ≡ s
 alike-same r s e =
-    let b = and-both (eqb (kind r) (kind s)) (eqb (index r) (index s)) e in
-    sym (slot-of r) ∙ ap₂ slotOf (eqb-true (kind r) (kind s) (b .0)) (eqb-true (index r) (index s) (b .1)) ∙ slot-of s
+    let b = and-both (eqb (regionOf r) (regionOf s)) (eqb (index r) (index s)) e in
+    sym (slot-of r) ∙ ap₂ slotOf (eqb-true (regionOf r) (regionOf s) (b .0)) (eqb-true (index r) (index s) (b .1)) ∙ slot-of s
 
 pub alike-self : (s : Slot) → alike s s ≡ true
-alike-self s = rw (eq-eqb (kind s) (kind s) refl, eq-eqb (index s) (index s) refl)
+alike-self s = rw (eq-eqb (regionOf s) (regionOf s) refl, eq-eqb (index s) (index s) refl)
 
 pub get-store : (n : ℕ) (r s : Slot) (v : ℕ) (t : List ℕ) → Valid n r → Valid n s → length t ≡ words n → get (store (write r v) t) s ≡ pick (alike r s) (held r v) (get t s)
 unfolding pick
@@ -217,10 +233,10 @@ get-apply n (write r x ∷ ws) s t h v l =
 
 -- a slot at a word of the map holds one of its digits
 kept-narrow : (n : ℕ) (s : Slot) (v word k : ℕ) → Valid n s → k < 2 → mapStart n + k ≡ address n s → kept n s v word < 2 ^ 32
-kept-narrow n (ctx i) v word k h b e = absurd (omega (arith, e))
-kept-narrow n (cell (prop i)) v word k h b e = absurd (omega (arith, e))
-kept-narrow n (cell (rec c)) v word k h b e = absurd (omega (arith, e))
-kept-narrow n (cell (used i)) v word k h b e = with-below ((i - lineTerminations n) % 32) (v % 2) word (omega arith)
+kept-narrow n s v word k h b e =
+    let p : 3 ≡ regionOf s = place-tells (regions n) 3 (regionOf s) k (wordOf n s) b (word-below n s h) (omega (arith, e)) .0 in
+    let q : cell (used (index s)) ≡ s = ap (λ (x : ℕ). slotOf x (index s)) p ∙ slot-of s in
+    subst (λ (x : Slot). kept n x v word < 2 ^ 32) q (with-below ((index s - lineTerminations n) % 32) (v % 2) word (omega arith))
 
 narrow-store : (n : ℕ) (s : Slot) (v : ℕ) (t : List ℕ) → Valid n s → length t ≡ words n → ((k : ℕ) → k < 2 → getD t (mapStart n + k) 0 < 2 ^ 32)
     → (k : ℕ) → k < 2 → getD (store (write s v) t) (mapStart n + k) 0 < 2 ^ 32

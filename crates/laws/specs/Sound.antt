@@ -236,11 +236,11 @@ place-at t k h = by (k / 32) refl
     a : ℕ
     a = mapStart (fitted t)
 
-    from : (q : ℕ) → a + (L + k - L) / 32 ≡ q → getD t q 0 ≡ getD t (terminations (fitted t) + (terminations (fitted t) + contexts + (L + k - L) / 32)) 0
+    from : (q : ℕ) → a + (L + k - L) / 32 ≡ q → getD t q 0 ≡ getD t (terminations (fitted t) + (terminations (fitted t) + (contexts + (L + k - L) / 32))) 0
     from q e = ap (λ (x : ℕ). getD t x 0) (omega (arith, e))
 
     by : (q : ℕ) → k / 32 ≡ q → getD (digits 32 (getD t a 0) ++ digits 32 (getD t (a + 1) 0)) k 0
-        ≡ getD (digits 32 (getD t (terminations (fitted t) + (terminations (fitted t) + contexts + (L + k - L) / 32)) 0)) ((L + k - L) % 32) 0
+        ≡ getD (digits 32 (getD t (terminations (fitted t) + (terminations (fitted t) + (contexts + (L + k - L) / 32))) 0)) ((L + k - L) % 32) 0
     by zero e =
         let m : k ≡ (L + k - L) % 32 = omega (arith, e) in
         List·getD-append (digits 32 (getD t a 0)) (digits 32 (getD t (a + 1) 0)) 0 k (omega (arith, e, length-digits 32 (getD t a 0)))

@@ -6,12 +6,13 @@ use mathlib.Core.List.{List, [], _∷_, _++_}
 use mathlib.Core.Option.{Option, none, some}
 use Rattle.base.specs.Pick.{pick}
 use Rattle.megaco.specs.Table.{fitted, ctx, get, Write, apply, exists}
+use Rattle.megaco.specs.State.{State, wrote}
 use Rattle.megaco.specs.Tree.{Items, Command, command}
 use Rattle.megaco.specs.Names.{nameOf}
 use Rattle.megaco.specs.Items.{judgeItems, given?}
 use Rattle.megaco.specs.Reply.{Report, Acted}
-use Rattle.megaco.specs.Running.{seen, numberOf, look, Effect, effect, Outcome, outcome, tries, missed, actionError, Aim, misses, gateway, meets, aimRoot, aim, aimed, opOf, isSubtract, barred, lost}
-use Rattle.megaco.specs.Running.{named, tested, unlessOptional, ordered, runCommand, started, Step, start, order, Progress, progress, State, state, begin, advance, proceed, step}
+use Rattle.megaco.specs.Running.{seen, numberOf, look, Effect, effect, Outcome, outcome, tries, missed, actionError, Aim, misses, gateway, meets, aimRoot, aim, aimed, opOf, barred, lost}
+use Rattle.megaco.specs.Running.{named, tested, unlessOptional, ordered, runCommand, started, Step, start, order, Progress, progress, Course, course, begin, advance, proceed, step}
 use Rattle.megaco.specs.declared.Context.{Context}
 use Rattle.megaco.specs.declared.Op.{Op}
 use Rattle.megaco.specs.declared.Name.{Name}
@@ -30,8 +31,8 @@ pub record Change : Type 0 where
   pub writes : List Write
   pub next : Progress
 
-abbrev pub enact : Change → List ℕ → State
-enact e t = state (apply (e .writes) t) (e .next)
+abbrev pub enact : Change → State → Course
+enact e st = course (wrote (e .writes) st) (e .next)
 
 -- whom a name means that is tried on no termination
 data Nobody : Aim → Type 0 where
@@ -67,21 +68,21 @@ module _ (lines : ℕ) (N K : ℕ → Type 0) where
   Seats [] = Unit {0}
   Seats (a ∷ acts) = Seat lines N K (a .at)
 
-  -- ---- a command that is local: what it writes and reports is the same on every table that the footprint takes for t
+  -- ---- a command that is local: what it writes and reports is the same on every table that the footprint takes for st
 
-  record Local (f : List ℕ → Outcome) (t : List ℕ) : Type 0 where
+  record Local (f : State → Outcome) (st : State) : Type 0 where
     writes : List Write
     reports : List Report
     at : Context
     going : Bool
     all : AllOurs lines N K writes
     seat : Seat lines N K at
-    on : (u : List ℕ) → Agree lines N K t u → f u ≡ outcome (apply writes u) reports at going
+    on : (u : State) → Agree lines N K (st .table) (u .table) → f u ≡ outcome (wrote writes u) reports at going
 
   -- it may first read what the footprint tells
-  local-reads : {A : Type 0} (t : List ℕ) (r : List ℕ → A) (f : A → List ℕ → Outcome) → ((u : List ℕ) → Agree lines N K t u → r t ≡ r u)
-      → Local (f (r t)) t → Local (λ u. f (r u) u) t
-  local-reads t r f e l =
+  local-reads : {A : Type 0} (st : State) (r : State → A) (f : A → State → Outcome) → ((u : State) → Agree lines N K (st .table) (u .table) → r st ≡ r u)
+      → Local (f (r st)) st → Local (λ u. f (r u) u) st
+  local-reads st r f e l =
       record {
         writes = l .writes;
         reports = l .reports;
@@ -93,35 +94,35 @@ module _ (lines : ℕ) (N K : ℕ → Type 0) where
       }
 
   -- a test that the footprint does not touch
-  local-pick : (t : List ℕ) (b : Bool) (f g : List ℕ → Outcome) → Local f t → (b ≡ false → Local g t) → Local (λ u. pick b (f u) (g u)) t
+  local-pick : (st : State) (b : Bool) (f g : State → Outcome) → Local f st → (b ≡ false → Local g st) → Local (λ u. pick b (f u) (g u)) st
   unfolding pick
-  local-pick t true f g p q = p
-  local-pick t false f g p q = q refl
+  local-pick st true f g p q = p
+  local-pick st false f g p q = q refl
 
   -- it writes nothing
-  local-still : (t : List ℕ) (rs : List Report) (w : Context) (g : Bool) → Seat lines N K w → Local (λ u. outcome u rs w g) t
+  local-still : (st : State) (rs : List Report) (w : Context) (g : Bool) → Seat lines N K w → Local (λ u. outcome u rs w g) st
   unfolding apply
-  local-still t rs w g s = record { writes = []; reports = rs; at = w; going = g; all = nothing; seat = s; on = λ u a. refl }
+  local-still st rs w g s = record { writes = []; reports = rs; at = w; going = g; all = nothing; seat = s; on = λ u a. refl }
 
-  local-missed : (t : List ℕ) (op : Op) (name : List ℕ) (code : ℕ) (w : Context) → Seat lines N K w → Local (λ u. missed op name code w u) t
+  local-missed : (st : State) (op : Op) (name : List ℕ) (code : ℕ) (w : Context) → Seat lines N K w → Local (λ u. missed op name code w u) st
   unfolding missed
-  local-missed t op name code w s = local-still t _ w _ s
+  local-missed st op name code w s = local-still st _ w _ s
 
-  local-error : (t : List ℕ) (code : ℕ) (w : Context) → Seat lines N K w → Local (λ u. actionError code w u) t
+  local-error : (st : State) (code : ℕ) (w : Context) → Seat lines N K w → Local (λ u. actionError code w u) st
   unfolding actionError
-  local-error t code w s = local-still t _ w _ s
+  local-error st code w s = local-still st _ w _ s
 
-  module _ (F : Foot lines N K) (t : List ℕ) (c : Closed lines N K t) where
-    fit : fitted t ≡ lines
-    fit = fitted-is lines t (c .long)
+  module _ (F : Foot lines N K) (st : State) (c : Closed lines N K (st .table)) where
+    fit : fitted (st .table) ≡ lines
+    fit = fitted-is lines (st .table) (c .long)
 
     -- one attempt, in a context that exists
     local-try : (op : Op) (name : List ℕ) (given : ℕ) (vs : Values) (i : ℕ) (w : Context) → Seat lines N K w → N i → barred op w ≡ false
-        → lost op w (seen (numberOf w) t .held) ≡ false → Local (λ u. tries op false name given vs (i ∷ []) w u) t
+        → lost op w (seen (numberOf w) (st .table) .held) ≡ false → Local (λ u. tries op false name given vs (i ∷ []) w u) st
     unfolding tries
     local-try op name given vs i w s m b l =
-        local-reads t (look w i) (λ v u. let e = effect op false name given vs i w v in outcome (apply (e .writes) u) (e .report ∷ []) (e .at) (e .good && true))
-        (λ u a. look-same lines N K F t u a fit w i c s m)
+        local-reads st (λ u. look w i (u .table)) (λ v u. let e = effect op false name given vs i w v in outcome (wrote (e .writes) u) (e .report ∷ []) (e .at) (e .good && true))
+        (λ u a. look-same lines N K F (st .table) (u .table) a fit w i c s m)
         (record {
           writes = e .writes;
           reports = e .report ∷ [];
@@ -133,29 +134,29 @@ module _ (lines : ℕ) (N K : ℕ → Type 0) where
         })
       where
         e : Effect
-        e = effect op false name given vs i w (look w i t)
+        e = effect op false name given vs i w (look w i (st .table))
 
         lies : Lies lines N K F e
-        lies = effect-lies lines N K F op false name given vs i w (look w i t) (unfold look in fit) s m (unfold look in c .home i m) (seat-home lines N K op w t s l) (λ x. seat-above lines N K op w t s x b l)
+        lies = effect-lies lines N K F op false name given vs i w (look w i (st .table)) (unfold look in fit) s m (unfold look in c .home i m) (seat-home lines N K op w (st .table) s l) (λ x. seat-above lines N K op w (st .table) s x b l)
 
-    module _ (op : Op) (name : List ℕ) (given : ℕ) (w : Context) (s : Seat lines N K w) (b : barred op w ≡ false) (l : lost op w (seen (numberOf w) t .held) ≡ false) where
+    module _ (op : Op) (name : List ℕ) (given : ℕ) (w : Context) (s : Seat lines N K w) (b : barred op w ≡ false) (l : lost op w (seen (numberOf w) (st .table) .held) ≡ false) where
       -- a name that means nobody to try
-      local-nobody : (vs : Values) (x : Aim) → Nobody x → Local (λ u. aimed op name given vs x w u) t
+      local-nobody : (vs : Values) (x : Aim) → Nobody x → Local (λ u. aimed op name given vs x w u) st
       unfolding aimed
-      local-nobody vs _ (missing {code = code}) = local-missed t op name code w s
-      local-nobody vs _ itself = local-still t _ w true s
+      local-nobody vs _ (missing {code = code}) = local-missed st op name code w s
+      local-nobody vs _ itself = local-still st _ w true s
 
       -- a termination of the footprint
-      local-met : (vs : Values) (i : ℕ) → N i → (b : Bool) → Local (λ u. aimed op name given vs (pick b (meets false (i ∷ [])) (misses 430)) w u) t
+      local-met : (vs : Values) (i : ℕ) → N i → (b : Bool) → Local (λ u. aimed op name given vs (pick b (meets false (i ∷ [])) (misses 430)) w u) st
       unfolding aimed pick
       local-met vs i m true = local-try op name given vs i w s m b l
       local-met vs i m false = local-nobody vs (misses 430) missing
 
-      local-aimed : (items : Bool) (vs : Values) (n : Name) → Means n → Local (λ u. aimed op name given vs (aim op w items n u) w u) t
+      local-aimed : (items : Bool) (vs : Values) (n : Name) → Means n → Local (λ u. aimed op name given vs (aim op w items n (u .table)) w u) st
       unfolding aim
       local-aimed items vs (Termination i) m =
-          local-reads t (λ u. exists (fitted u) i (get u (ctx i))) (λ b u. aimed op name given vs (pick b (meets false (i ∷ [])) (misses 430)) w u)
-          (λ u a j. exists (fitted-same t u (a .long) j) i (a .same (ctx i) (F .small i m) m j)) (local-met vs i m (exists (fitted t) i (get t (ctx i))))
+          local-reads st (λ u. exists (fitted (u .table)) i (get (u .table) (ctx i))) (λ b u. aimed op name given vs (pick b (meets false (i ∷ [])) (misses 430)) w u)
+          (λ u a j. exists (fitted-same (st .table) (u .table) (a .long) j) i (a .same (ctx i) (F .small i m) m j)) (local-met vs i m (exists (fitted (st .table)) i (get (st .table) (ctx i))))
       local-aimed items vs Root m = local-nobody vs _ (root-nobody op w items)
       local-aimed items vs Chosen m = absurd m
       local-aimed items vs Unchosen m = absurd m
@@ -163,23 +164,23 @@ module _ (lines : ℕ) (N K : ℕ → Type 0) where
       local-aimed items vs Unmatched m = absurd m
       local-aimed items vs Unknown m = local-nobody vs (misses 430) missing
 
-      local-named : (items : Bool) (j : Judged) → Means (nameOf lines name) → Local (λ u. named op name given items j w u) t
+      local-named : (items : Bool) (j : Judged) → Means (nameOf lines name) → Local (λ u. named op name given items j w u) st
       unfolding named
-      local-named items (Wrong code) m = local-missed t op name code w s
+      local-named items (Wrong code) m = local-missed st op name code w s
       local-named items (Right vs) m =
-          local-reads t (λ u. nameOf (fitted u) name) (λ n u. aimed op name given vs (aim op w items n u) w u) (λ u a. ap (λ (k : ℕ). nameOf k name) (fitted-same t u (a .long)))
-          (local-aimed items vs (nameOf (fitted t) name) (subst (λ (k : ℕ). Means (nameOf k name)) (sym fit) m))
+          local-reads st (λ u. nameOf (fitted (u .table)) name) (λ n u. aimed op name given vs (aim op w items n (u .table)) w u) (λ u a. ap (λ (k : ℕ). nameOf k name) (fitted-same (st .table) (u .table) (a .long)))
+          (local-aimed items vs (nameOf (fitted (st .table)) name) (subst (λ (k : ℕ). Means (nameOf k name)) (sym fit) m))
 
     local-tested : (op : Op) (name : List ℕ) (items : Items) (given : ℕ) (w : Context) → Seat lines N K w → barred op w ≡ false → Means (nameOf lines name)
-        → Local (λ u. tested op name items given w u) t
+        → Local (λ u. tested op name items given w u) st
     unfolding tested
     local-tested op name items given w s b m =
-        local-reads t (λ u. seen (numberOf w) u .held) (λ h u. pick (lost op w h) (missed op name 411 w u) (named op name given (given? items) (judgeItems (isSubtract op) items) w u))
-        (λ u a. ap (λ (x : Seen). x .held) (seat-same lines N K F t u a fit w s))
-        (local-pick t (lost op w (seen (numberOf w) t .held)) _ _ (local-missed t op name 411 w s)
-        (λ l. local-named op name given w s b l (given? items) (judgeItems (isSubtract op) items) m))
+        local-reads st (λ u. seen (numberOf w) (u .table) .held) (λ h u. pick (lost op w h) (missed op name 411 w u) (named op name given (given? items) (judgeItems op items) w u))
+        (λ u a. ap (λ (x : Seen). x .held) (seat-same lines N K F (st .table) (u .table) a fit w s))
+        (local-pick st (lost op w (seen (numberOf w) (st .table) .held)) _ _ (local-missed st op name 411 w s)
+        (λ l. local-named op name given w s b l (given? items) (judgeItems op items) m))
 
-    local-optional : (o : Bool) (f : List ℕ → Outcome) → Local f t → Local (λ u. unlessOptional o (f u)) t
+    local-optional : (o : Bool) (f : State → Outcome) → Local f st → Local (λ u. unlessOptional o (f u)) st
     unfolding unlessOptional
     local-optional o f l =
         record {
@@ -193,43 +194,43 @@ module _ (lines : ℕ) (N K : ℕ → Type 0) where
         }
 
     local-ordered : (o : Bool) (op : Option Op) (name : List ℕ) (items : Items) (given : ℕ) (w : Context) → Seat lines N K w → Means (nameOf lines name)
-        → Local (λ u. ordered o op name items given w u) t
+        → Local (λ u. ordered o op name items given w u) st
     unfolding ordered
-    local-ordered o none name items given w s m = local-error t 443 w s
+    local-ordered o none name items given w s m = local-error st 443 w s
     local-ordered o (some op) name items given w s m =
-        local-pick t (barred op w) _ _ (local-error t 421 w s) (λ b. local-optional o _ (local-tested op name items given w s b m))
+        local-pick st (barred op w) _ _ (local-error st 421 w s) (λ b. local-optional o _ (local-tested op name items given w s b m))
 
-    local-command : (x : Command) (given : ℕ) (w : Context) → Seat lines N K w → Named (order x) → Local (λ u. runCommand x given w u) t
+    local-command : (x : Command) (given : ℕ) (w : Context) → Seat lines N K w → Named (order x) → Local (λ u. runCommand x given w u) st
     unfolding runCommand
     local-command (command o wild word name items) given w s m = local-ordered o (opOf wild word) name items given w s m
 
-  -- ---- the locality of a step: one change, on every table that the footprint takes for t
+  -- ---- the locality of a step: one change, on every table that the footprint takes for st
 
-  pub record Acts (f : List ℕ → State) (t : List ℕ) : Type 0 where
+  pub record Acts (f : State → Course) (st : State) : Type 0 where
     pub change : Change
     pub all : AllOurs lines N K (change .writes)
     pub seats : Seats (change .next .acts)
-    pub on : (u : List ℕ) → Agree lines N K t u → f u ≡ enact change u
+    pub on : (u : State) → Agree lines N K (st .table) (u .table) → f u ≡ enact change u
 
-  acts-still : (t : List ℕ) (p : Progress) → Seats (p .acts) → Acts (λ u. state u p) t
+  acts-still : (st : State) (p : Progress) → Seats (p .acts) → Acts (λ u. course u p) st
   unfolding apply
-  acts-still t p s = record { change = record { writes = []; next = p }; all = nothing; seats = s; on = λ u a. refl }
+  acts-still st p s = record { change = record { writes = []; next = p }; all = nothing; seats = s; on = λ u a. refl }
 
-  module _ (F : Foot lines N K) (t : List ℕ) (c : Closed lines N K t) where
-    acts-proceed : (s : Step) (acts : List Acted) → Named s → Seats acts → Acts (λ u. proceed s u acts) t
+  module _ (F : Foot lines N K) (st : State) (c : Closed lines N K (st .table)) where
+    acts-proceed : (s : Step) (acts : List Acted) → Named s → Seats acts → Acts (λ u. proceed s u acts) st
     unfolding proceed begin advance
     acts-proceed (start w ps alone) acts m h =
-        let lies = started-lies lines N K F w ps alone t m in
-        let x = started w ps alone (seen (numberOf w) t .held) in
+        let lies = started-lies lines N K F w ps alone (st .table) m in
+        let x = started w ps alone (seen (numberOf w) (st .table)) in
         record {
           change = record { writes = x .writes; next = progress (x .going) (x .acted ∷ acts) };
           all = lies .all;
           seats = lies .seat;
-          on = λ u a. ap (λ (y : Seen). begin (started w ps alone (y .held)) u acts) (sym (seat-same lines N K F t u a (fitted-is lines t (c .long)) w m));
+          on = λ u a. ap (λ (y : Seen). begin (started w ps alone y) u acts) (sym (seat-same lines N K F (st .table) (u .table) a (fitted-is lines (st .table) (c .long)) w m));
         }
-    acts-proceed (order x) [] m h = acts-still t (progress true []) tt
+    acts-proceed (order x) [] m h = acts-still st (progress true []) tt
     acts-proceed (order x) (a ∷ acts) m h =
-        let l = local-command F t c x (a .given) (a .at) h m in
+        let l = local-command F st c x (a .given) (a .at) h m in
         record {
           change = record { writes = l .writes; next = progress (l .going) (record { at = l .at; given = a .given; said = a .said ++ l .reports } ∷ acts) };
           all = l .all;
@@ -238,10 +239,10 @@ module _ (lines : ℕ) (N K : ℕ → Type 0) where
         }
 
     -- a transaction that has stopped stays as it is
-    pub acts : (s : Step) (p : Progress) → Named s → Seats (p .acts) → Acts (λ u. step s (state u p)) t
+    pub acts : (s : Step) (p : Progress) → Named s → Seats (p .acts) → Acts (λ u. step s (course u p)) st
     unfolding step pick
     acts s p m h = by (p .going)
       where
-        by : (g : Bool) → Acts (λ u. pick g (proceed s u (p .acts)) (state u p)) t
+        by : (g : Bool) → Acts (λ u. pick g (proceed s u (p .acts)) (course u p)) st
         by true = acts-proceed s (p .acts) m h
-        by false = acts-still t p h
+        by false = acts-still st p h

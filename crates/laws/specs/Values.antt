@@ -10,10 +10,11 @@ use Rattle.megaco.specs.declared.Judged.{Judged}
 use Rattle.megaco.specs.declared.Judged.the-variants.{Wrong, Right}
 use Rattle.megaco.specs.declared.Kind.{Kind}
 use Rattle.megaco.specs.declared.Kind.the-variants.{InControl, InState}
+use Rattle.megaco.specs.declared.Op.{Op}
 use Rattle.megaco.specs.declared.Values.{Values}
 use Rattle.megaco.specs.Tree.{Value, plain, quoted, ItemOf, item, Items}
 use Rattle.megaco.specs.Table.{modeOf, stateOf}
-use Rattle.megaco.specs.Items.{change, update, onward, modeGiven, stateGiven, valueGiven, setValue, propertyItems, itemsIn, mediaItems, topItems, unchanged, judgeItems}
+use Rattle.megaco.specs.Items.{change, update, onward, modeGiven, stateGiven, valueGiven, setValue, propertyItems, itemsIn, mediaItems, topItems, unchanged, isSubtract, judgeItems}
 use Rattle.base.proofs.TestLaws.{pick-of}
 use Rattle.laws.specs.Sound.{SoundWord}
 
@@ -100,7 +101,7 @@ module _ {A : Type 0} where
 unchanged-fair : Fair unchanged
 unchanged-fair = omega arith
 
-pub items-fair : (subtracts : Bool) (items : Items) → FairItems (judgeItems subtracts items)
+pub items-fair : (op : Op) (items : Items) → FairItems (judgeItems op items)
 unfolding judgeItems
-items-fair b none = right unchanged-fair
-items-fair b (some is) = pick-of FairItems b (λ _. wrong) (λ _. top-fair is false unchanged unchanged-fair)
+items-fair op none = right unchanged-fair
+items-fair op (some is) = pick-of FairItems (isSubtract op) (λ _. wrong) (λ _. top-fair is false unchanged unchanged-fair)

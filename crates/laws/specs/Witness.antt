@@ -10,6 +10,7 @@ use Rattle.base.specs.Bytes.{text}
 use Rattle.megaco.specs.Tree.{Transaction, transaction, Message, wellFormed, fault400, fault403, fault406}
 use Rattle.megaco.specs.Reading.{messageR}
 use Rattle.megaco.specs.Table.{words, sound}
+use Rattle.megaco.specs.State.{state}
 use Rattle.megaco.specs.Running.{Step, runTransaction}
 use Rattle.laws.specs.Membership.{all?, noneShared?, onlyZeroShared?, ahead, collect}
 use Rattle.laws.specs.Mix.{Mixture, over, first, second, mixed}
@@ -73,7 +74,7 @@ unfolding tests
 meets = refl
 
 -- both change the table
-pub both-change : (same (runTransaction (read one) start .table) start ≡ false) × (same (runTransaction (read two) start .table) start ≡ false)
+pub both-change : (same (runTransaction (read one) (state start) .state .table) start ≡ false) × (same (runTransaction (read two) (state start) .state .table) start ≡ false)
 unfolding tests
 both-change = (refl, refl)
 
@@ -81,13 +82,13 @@ both-change = (refl, refl)
 abbrev map : List ℕ → ℕ
 map t = getD t 752 0
 
-pub share-the-map : (map start ≡ 3) × (map (runTransaction (read one) start .table) ≡ 2) × (map (runTransaction (read two) start .table) ≡ 1)
-    × (map (runTransaction (read two) (runTransaction (read one) start .table) .table) ≡ 0)
+pub share-the-map : (map start ≡ 3) × (map (runTransaction (read one) (state start) .state .table) ≡ 2) × (map (runTransaction (read two) (state start) .state .table) ≡ 1)
+    × (map (runTransaction (read two) (runTransaction (read one) (state start) .state) .state .table) ≡ 0)
 unfolding tests
 share-the-map = (refl, refl, refl, refl)
 
-pub replies : (runTransaction (read one) start .text ≡ text "P=7{C=1{S=L/1/1,S=R/1,A=L/8/31},C=-{MF=L/1/1}}")
-    × (runTransaction (read two) start .text ≡ text "P=8{C=2{A=R/9{ER=430{}},S=R/2,S=L/1/3},C=200{MV=ROOT{ER=411{}}},C=2{A=L/1/6{ER=411{}}}}")
+pub replies : (runTransaction (read one) (state start) .text ≡ text "P=7{C=1{S=L/1/1,S=R/1,A=L/8/31},C=-{MF=L/1/1}}")
+    × (runTransaction (read two) (state start) .text ≡ text "P=8{C=2{A=R/9{ER=430{}},S=R/2,S=L/1/3},C=200{MV=ROOT{ER=411{}}},C=2{A=L/1/6{ER=411{}}}}")
 unfolding tests
 replies = (refl, refl)
 
@@ -102,5 +103,5 @@ alternate [] (r ∷ rs) = second r (alternate [] rs)
 alternate (s ∷ ss) [] = first s (alternate ss [])
 alternate (s ∷ ss) (r ∷ rs) = first s (second r (alternate ss rs))
 
-pub turn-by-turn : AsOneAfterOther start (read one) (read two) (mixed (alternate (stepsOf (read one)) (stepsOf (read two))) (outset start))
-turn-by-turn = any-mixture start start-sound (read one) (read two) apart (alternate (stepsOf (read one)) (stepsOf (read two)))
+pub turn-by-turn : AsOneAfterOther (state start) (read one) (read two) (mixed (alternate (stepsOf (read one)) (stepsOf (read two))) (outset (state start)))
+turn-by-turn = any-mixture (state start) start-sound (read one) (read two) apart (alternate (stepsOf (read one)) (stepsOf (read two)))

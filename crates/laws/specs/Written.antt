@@ -8,38 +8,25 @@ use borrow.Author.Tests.{eqb-true, eqb-false, leb-true, not-false}
 use native.Mathlib.Omega.{arith}
 use Rattle.base.specs.Pick.{pick}
 use Rattle.megaco.specs.Table.{lineTerminations, prop, rec, used, ctx, cell, Write, isEphemeral}
-use Rattle.megaco.specs.Running.{Check, check, Result, refused, done, judge, seen, numberOf, isChoose, target, checks, joining, leaving, placed, marking, changes, attempt, settled, Effect, concluded, effect}
+use Rattle.megaco.specs.Running.{seen, numberOf, isChoose, target, checks, joining, leaving, placed, marking, changes, settled, Effect, concluded, effect}
 use Rattle.megaco.specs.Running.{isNull, isModify, barred, lost, anyGiven, startChecks, startWrites, Start, startedBy, started}
 use Rattle.megaco.specs.declared.Context.{Context}
 use Rattle.megaco.specs.declared.Context.the-variants.{Null, Numbered, Choose, All}
 use Rattle.megaco.specs.declared.Property.{Property}
 use Rattle.megaco.specs.declared.Op.{Op}
 use Rattle.megaco.specs.declared.Op.the-variants.{Add, Modify, Subtract, Move}
+use Rattle.megaco.specs.declared.Checked.{Checked}
 use Rattle.megaco.specs.declared.Values.{Values}
 use Rattle.megaco.specs.declared.View.{View}
 use Rattle.base.proofs.TestLaws.{clash, and-false}
 use Rattle.laws.specs.Frame.{Ours, AllOurs, nothing, also, Foot}
+use Rattle.laws.specs.Passed.{Passed, judged}
 use Rattle.laws.specs.Views.{known-above, held-known, Seat}
-
--- every test is passed
-abbrev pub Passed : List Check → Type 0
-Passed [] = Unit {0}
-Passed (check b code ∷ cs) = (b ≡ false) × Passed cs
 
 nonzero : (x : ℕ) → (x ≡ 0 → ⊥) → 0 < x
 nonzero x h = omega arith
 
 module _ (lines : ℕ) (N K : ℕ → Type 0) where
-  pub data Good : Result → Type 0 where
-    fails : {code : ℕ} → Good (refused code)
-    does : {ws : List Write} → AllOurs lines N K ws → Good (done ws)
-
-  judge-good : (cs : List Check) (ws : List Write) → (Passed cs → AllOurs lines N K ws) → Good (judge cs ws)
-  unfolding judge pick
-  judge-good [] ws h = does (h tt)
-  judge-good (check true code ∷ cs) ws h = fails
-  judge-good (check false code ∷ cs) ws h = judge-good cs ws (λ p. h (refl, p))
-
   pick-all : (b : Bool) (vs ws : List Write) → (b ≡ true → AllOurs lines N K vs) → AllOurs lines N K ws → AllOurs lines N K (pick b vs ws)
   unfolding pick
   pick-all true vs ws p q = p refl
@@ -126,17 +113,13 @@ module _ (lines : ℕ) (N K : ℕ → Type 0) where
     seat-settled Choose v s = absurd s
     seat-settled All v s = absurd s
 
-    concluded-lies : (op : Op) (wild : Bool) (name : List ℕ) (i : ℕ) (w : Context) (v : View) (r : Result) → Seat lines N K w → Good r → Lies (concluded op wild name i w v r)
-    unfolding concluded
-    concluded-lies op wild name i w v (refused code) s fails = record { all = nothing; seat = s }
-    concluded-lies op wild name i w v (done ws) s (does g) = record { all = g; seat = seat-settled w v s }
-
     pub effect-lies : (op : Op) (wild : Bool) (name : List ℕ) (given : ℕ) (vs : Values) (i : ℕ) (w : Context) (v : View) → v .lines ≡ lines → Seat lines N K w → N i
         → (0 < v .here → K (v .here)) → (0 < numberOf w → K (numberOf w)) → (isModify op ≡ false → 0 < numberOf w)
         → Lies (effect op wild name given vs i w v)
-    unfolding effect attempt
+    unfolding effect concluded
     effect-lies op wild name given vs i w v f s m h k z =
-        concluded-lies op wild name i w v _ s (judge-good (checks op w v) (changes op w given i vs v) (changes-all op w given i vs v f s m h k z))
+        judged (λ (x : Checked). Lies (concluded op wild name given vs i w v x)) (checks op w v) (λ code. record { all = nothing; seat = s })
+        (λ p. record { all = changes-all op w given i vs v f s m h k z p; seat = seat-settled w v s })
 
     -- ---- an action's start
 
@@ -145,13 +128,8 @@ module _ (lines : ℕ) (N K : ℕ → Type 0) where
       pub all : AllOurs lines N K (x .writes)
       pub seat : Seat lines N K (x .acted .at)
 
-    startedBy-lies : (w : Context) (ps : List Property) (alone : Bool) (held : ℕ) (r : Result) → Seat lines N K w → Good r → StartLies (startedBy w ps alone held r)
-    unfolding startedBy
-    startedBy-lies w ps alone held (refused code) s fails = record { all = nothing; seat = s }
-    startedBy-lies w ps alone held (done ws) s (does g) = record { all = g; seat = s }
-
     writes-all : (w : Context) (ps : List Property) (alone : Bool) (t : List ℕ) → Seat lines N K w
-        → Passed (startChecks w ps alone (seen (numberOf w) t .held)) → AllOurs lines N K (startWrites w ps (seen (numberOf w) t .held))
+        → Passed (startChecks w ps alone (seen (numberOf w) t)) → AllOurs lines N K (startWrites w ps (seen (numberOf w) t .held))
     unfolding startChecks startWrites numberOf
     writes-all Null ps alone t s p = nothing
     writes-all (Numbered c) ps alone t s p =
@@ -159,6 +137,8 @@ module _ (lines : ℕ) (N K : ℕ → Type 0) where
     writes-all Choose ps alone t s p = absurd s
     writes-all All ps alone t s p = absurd s
 
-    pub started-lies : (w : Context) (ps : List Property) (alone : Bool) (t : List ℕ) → Seat lines N K w → StartLies (started w ps alone (seen (numberOf w) t .held))
-    unfolding started
-    started-lies w ps alone t s = startedBy-lies w ps alone _ _ s (judge-good _ _ (writes-all w ps alone t s))
+    pub started-lies : (w : Context) (ps : List Property) (alone : Bool) (t : List ℕ) → Seat lines N K w → StartLies (started w ps alone (seen (numberOf w) t))
+    unfolding started startedBy
+    started-lies w ps alone t s =
+        judged (λ (x : Checked). StartLies (startedBy w ps alone (seen (numberOf w) t) x)) (startChecks w ps alone (seen (numberOf w) t)) (λ code. record { all = nothing; seat = s })
+        (λ p. record { all = writes-all w ps alone t s p; seat = s })

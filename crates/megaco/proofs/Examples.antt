@@ -16,6 +16,7 @@ use Rattle.megaco.specs.Reading.{messageR}
 use Rattle.megaco.specs.Table.{mostLines, words, sound}
 use Rattle.megaco.specs.Names.{within}
 use Rattle.megaco.specs.Reply.{headerText}
+use Rattle.megaco.specs.State.{state}
 use Rattle.megaco.specs.Running.{Ran, ran, runMessage}
 use Rattle.megaco.specs.Call.{written, replied, taken, call}
 use Rattle.base.proofs.TestLaws.{and-both, same-is}
@@ -92,10 +93,10 @@ shelves =
 
 -- the table and the reply of a message that is taken
 computed : List ℕ → List ℕ → List ℕ → Ran
-computed m t own = let x = runMessage (messageR m) t in ran (x .table) (headerText own then x .text)
+computed m t own = let x = runMessage (messageR m) (state t) in ran (x .state) (headerText own then x .text)
 
 fits : Ran → List ℕ → List ℕ → Bool
-fits x a u = same (x .table) u && same (x .text) a
+fits x a u = same (x .state .table) u && same (x .text) a
 
 fitting : ℕ → List ℕ → Bool
 fitting n t = within n mostLines && (eqb (length t) (words n) && sound t)
@@ -112,7 +113,7 @@ all-hold (r ∷ rs) = holds r && all-hold rs
 
 -- a call with a long enough buffer answers, writes and leaves exactly what the row says
 abbrev pub Answers : Row → Type 0
-Answers (row n t m a u) = (o : List ℕ) → 16640 ≤ length o → call n m t own o ≡ written u a o
+Answers (row n t m a u) = (o : List ℕ) → 16640 ≤ length o → call n m (state t) own o ≡ written (state u) a o
 
 abbrev pub Hold : List Row → Type 0
 Hold [] = Unit {0}
@@ -127,11 +128,11 @@ not-true true e = sym e
 not-true false e = refl
 
 -- a call that nothing turns down
-taken-is : (n : ℕ) (m t o : List ℕ) → 16640 ≤ length o → fitting n t ≡ true → (eqb (length m) 0 || ltb 4096 (length m)) ≡ false → call n m t own o ≡ taken m t own o
+taken-is : (n : ℕ) (m t o : List ℕ) → 16640 ≤ length o → fitting n t ≡ true → (eqb (length m) 0 || ltb 4096 (length m)) ≡ false → call n m (state t) own o ≡ taken m (state t) own o
 unfolding call fitting pick
 taken-is n m t o h s e = let p = and-both (within n mostLines) (eqb (length t) (words n) && sound t) s in rw (p .0, le-ltb (length o) 16640 h, p .1, own-is, e)
 
-computed-is : (m t : List ℕ) → computed m t own ≡ record { table = runMessage (messageR m) t .table; text = headerText own then runMessage (messageR m) t .text }
+computed-is : (m t : List ℕ) → computed m t own ≡ record { state = runMessage (messageR m) (state t) .state; text = headerText own then runMessage (messageR m) (state t) .text }
 unfolding computed
 computed-is m t = refl
 
@@ -141,12 +142,12 @@ row-answers (row n t m a u) e =
     λ o h.
     let p = and-both (admitted n t m) (fits (computed m t own) a u) e in
     let q = and-both (fitting n t) (not (eqb (length m) 0 || ltb 4096 (length m))) (p .0) in
-    let r = and-both (same (computed m t own .table) u) (same (computed m t own .text) a) (p .1) in
-    let x : computed m t own .table ≡ u = same-is (computed m t own .table) u (r .0) in
+    let r = and-both (same (computed m t own .state .table) u) (same (computed m t own .text) a) (p .1) in
+    let x : computed m t own .state .table ≡ u = same-is (computed m t own .state .table) u (r .0) in
     let y : computed m t own .text ≡ a = same-is (computed m t own .text) a (r .1) in
     taken-is n m t o h (q .0) (not-true _ (q .1))
-    ∙ ap (λ (z : Ran). written (z .table) (z .text) o) (sym (computed-is m t))
-    ∙ (λ i. written (x i) (y i) o)
+    ∙ ap (λ (z : Ran). written (z .state) (z .text) o) (sym (computed-is m t))
+    ∙ (λ i. written (state (x i)) (y i) o)
 
 rows-answer : (rs : List Row) → all-hold rs ≡ true → Hold rs
 unfolding all-hold

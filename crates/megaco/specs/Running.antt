@@ -10,10 +10,11 @@ use Rattle.base.specs.Bytes.{text, _then_}
 use Rattle.megaco.specs.Keywords.{spells}
 use Rattle.megaco.specs.declared.Token.the-variants.{AddToken, ModifyToken, SubtractToken, MoveToken}
 use Rattle.megaco.specs.Tree.{Items, Command, command, Action, action, Transaction, transaction, Message, wellFormed, fault400, fault403, fault406}
-use Rattle.megaco.specs.Table.{prop, rec, used, ctx, cell, Write, write, get, apply, most, lineTerminations, fitted, contextWords, isEphemeral, exists, known, members, freeContext, freeEphemeral, stateOf, priorityOf, emergencyOf}
+use Rattle.megaco.specs.Table.{prop, rec, used, ctx, cell, Write, write, get, most, lineTerminations, fitted, contextWords, isEphemeral, exists, known, members, freeContext, freeEphemeral, stateOf, priorityOf, emergencyOf}
+use Rattle.megaco.specs.State.{State, wrote}
 use Rattle.megaco.specs.Names.{inRange, nameOf, nameText}
-use Rattle.megaco.specs.Items.{update, judgeItems, given?}
-use Rattle.megaco.specs.Reply.{Report, tried, failed, standing, Acted, errorText, replyText, transactionText}
+use Rattle.megaco.specs.Items.{update, isSubtract, judgeItems, given?}
+use Rattle.megaco.specs.Reply.{nothing, Report, done, refused, failed, standing, Acted, errorText, replyText, transactionText}
 use Rattle.megaco.specs.declared.Context.{Context}
 use Rattle.megaco.specs.declared.Context.the-variants.{Null, Numbered, Choose, All}
 use Rattle.megaco.specs.declared.Property.{Property}
@@ -25,6 +26,8 @@ use Rattle.megaco.specs.declared.Name.{Name}
 use Rattle.megaco.specs.declared.Name.the-variants.{Termination, Root, Chosen, Unchosen, Wildcard, Unmatched, Unknown}
 use Rattle.megaco.specs.declared.Judged.{Judged}
 use Rattle.megaco.specs.declared.Judged.the-variants.{Wrong, Right}
+use Rattle.megaco.specs.declared.Checked.{Checked}
+use Rattle.megaco.specs.declared.Checked.the-variants.{Passes, Fails}
 use Rattle.megaco.specs.declared.Values.{Values}
 use Rattle.megaco.specs.declared.Seen.{Seen}
 use Rattle.megaco.specs.declared.View.{View}
@@ -33,13 +36,9 @@ use Rattle.megaco.specs.declared.View.{View}
 pub data Check : Type 0 where
   check : Bool → ℕ → Check
 
-pub data Result : Type 0 where
-  refused : ℕ → Result
-  done : List Write → Result
-
-unfoldable pub judge : List Check → List Write → Result
-judge [] ws = done ws
-judge (check b code ∷ cs) ws = let r = judge cs ws in pick b (refused code) r
+unfoldable pub judge : List Check → Checked
+judge [] = Passes
+judge (check b code ∷ cs) = let r = judge cs in pick b (Fails code) r
 
 -- ---- what an attempt sees of the table
 abbrev pub unseen : Seen
@@ -111,9 +110,6 @@ changes Modify at given i vs v = write (cell (prop i)) (update vs (v .word)) ∷
 changes Subtract at given i vs v = leaving v (marking (v .lines) i 0 (placed i 0 (subtracted (v .lines) i (v .word))))
 changes Move at given i vs v = leaving v (joining at given v (placed i (target at v) (update vs (v .word))))
 
-unfoldable pub attempt : Op → Context → ℕ → ℕ → Values → View → Result
-attempt op at given i vs v = judge (checks op at v) (changes op at given i vs v)
-
 -- `$` "becomes .. the lowest number absent before that attempt, and stays that number for the rest of the action"
 unfoldable pub settled : Context → View → Context
 settled at v = pick (isChoose at) (Numbered (v .free)) at
@@ -126,39 +122,41 @@ pub record Effect : Type 0 where
   pub good : Bool
 
 -- "A success, and an attempt of a wildcard, bears the full name with capital letters; other failures the bytes received"
-unfoldable pub concluded : Op → Bool → List ℕ → ℕ → Context → View → Result → Effect
-concluded op wild name i at v (refused code) = record { writes = []; report = tried op (pick wild (nameText (v .lines) i) name) code; at = at; good = false }
-concluded op wild name i at v (done ws) = record { writes = ws; report = tried op (nameText (v .lines) i) 0; at = settled at v; good = true }
+unfoldable pub concluded : Op → Bool → List ℕ → ℕ → Values → ℕ → Context → View → Checked → Effect
+concluded op wild name given vs i at v Passes =
+    record { writes = changes op at given i vs v; report = done op (nameText (v .lines) i) nothing; at = settled at v; good = true }
+concluded op wild name given vs i at v (Fails code) =
+    record { writes = []; report = refused op (pick wild (nameText (v .lines) i) name) code; at = at; good = false }
 
 unfoldable pub effect : Op → Bool → List ℕ → ℕ → Values → ℕ → Context → View → Effect
-effect op wild name given vs i at v = concluded op wild name i at v (attempt op at given i vs v)
+effect op wild name given vs i at v = concluded op wild name given vs i at v (judge (checks op at v))
 
 -- ---- one command
--- what a command leaves: the table, its reports, the action's context, and whether the transaction goes on
+-- what a command leaves: the state, its reports, the action's context, and whether the transaction goes on
 pub record Outcome : Type 0 where
-  pub table : List ℕ
+  pub state : State
   pub reports : List Report
   pub at : Context
   pub going : Bool
 
-abbrev pub outcome : List ℕ → List Report → Context → Bool → Outcome
-outcome t rs at g = record { table = t; reports = rs; at = at; going = g }
+abbrev pub outcome : State → List Report → Context → Bool → Outcome
+outcome st rs at g = record { state = st; reports = rs; at = at; going = g }
 
 -- attempts in the order given. "Each is reported; the command failed if one failed"
-unfoldable pub tries : Op → Bool → List ℕ → ℕ → Values → List ℕ → Context → List ℕ → Outcome
-tries op wild name given vs [] at t = outcome t [] at true
-tries op wild name given vs (i ∷ is) at t =
-    let e = effect op wild name given vs i at (look at i t) in
-    let r = tries op wild name given vs is (e .at) (apply (e .writes) t) in
-    outcome (r .table) (e .report ∷ r .reports) (r .at) (e .good && r .going)
+unfoldable pub tries : Op → Bool → List ℕ → ℕ → Values → List ℕ → Context → State → Outcome
+tries op wild name given vs [] at st = outcome st [] at true
+tries op wild name given vs (i ∷ is) at st =
+    let e = effect op wild name given vs i at (look at i (st .table)) in
+    let r = tries op wild name given vs is (e .at) (wrote (e .writes) st) in
+    outcome (r .state) (e .report ∷ r .reports) (r .at) (e .good && r .going)
 
 -- the command failed before any attempt: "other failures the bytes received"
-unfoldable pub missed : Op → List ℕ → ℕ → Context → List ℕ → Outcome
-missed op name code at t = outcome t (tried op name code ∷ []) at false
+unfoldable pub missed : Op → List ℕ → ℕ → Context → State → Outcome
+missed op name code at st = outcome st (refused op name code ∷ []) at false
 
 -- "Action errors end the transaction, `O-` or not"
-unfoldable pub actionError : ℕ → Context → List ℕ → Outcome
-actionError code at t = outcome t (failed code ∷ []) at false
+unfoldable pub actionError : ℕ → Context → State → Outcome
+actionError code at st = outcome st (failed code ∷ []) at false
 
 -- "for Add, those in null; for Modify and Subtract, those in the action's context; for Move, those in a non-null context other than the target"
 unfoldable pub wanted : Op → ℕ → ℕ → Bool
@@ -184,9 +182,6 @@ isAdd = elim [ Add ↦ true | Modify ↦ false | Subtract ↦ false | Move ↦ f
 
 unfoldable pub isModify : Op → Bool
 isModify = elim [ Add ↦ false | Modify ↦ true | Subtract ↦ false | Move ↦ false ]
-
-unfoldable pub isSubtract : Op → Bool
-isSubtract = elim [ Add ↦ false | Modify ↦ false | Subtract ↦ true | Move ↦ false ]
 
 unfoldable pub isNull : Context → Bool
 isNull = elim [ Null ↦ true | Numbered c ↦ false | Choose ↦ false | All ↦ false ]
@@ -215,10 +210,10 @@ aim op at items (Termination i) t = pick (exists (fitted t) i (get t (ctx i))) (
 aim op at items Unknown t = misses 430
 
 -- tests 5 and 6, for each that the name means
-unfoldable pub aimed : Op → List ℕ → ℕ → Values → Aim → Context → List ℕ → Outcome
-aimed op name given vs (misses code) at t = missed op name code at t
-aimed op name given vs gateway at t = outcome t (tried op (text "ROOT") 0 ∷ []) at true
-aimed op name given vs (meets wild is) at t = tries op wild name given vs is at t
+unfoldable pub aimed : Op → List ℕ → ℕ → Values → Aim → Context → State → Outcome
+aimed op name given vs (misses code) at st = missed op name code at st
+aimed op name given vs gateway at st = outcome st (done op (text "ROOT") nothing ∷ []) at true
+aimed op name given vs (meets wild is) at st = tries op wild name given vs is at st
 
 -- "443 unknown command or `W-`"
 unfoldable pub opOf : Bool → List ℕ → Option Op
@@ -238,30 +233,30 @@ unfoldable pub lost : Op → Context → ℕ → Bool
 lost op at held = elim at [ Null ↦ false | Numbered c ↦ eqb held 0 | Choose ↦ isModify op || isSubtract op | All ↦ true ]
 
 -- test 4 after test 3
-unfoldable pub named : Op → List ℕ → ℕ → Bool → Judged → Context → List ℕ → Outcome
-named op name given items (Wrong code) at t = missed op name code at t
-named op name given items (Right vs) at t = aimed op name given vs (aim op at items (nameOf (fitted t) name) t) at t
+unfoldable pub named : Op → List ℕ → ℕ → Bool → Judged → Context → State → Outcome
+named op name given items (Wrong code) at st = missed op name code at st
+named op name given items (Right vs) at st = aimed op name given vs (aim op at items (nameOf (fitted (st .table)) name) (st .table)) at st
 
 -- tests 2 to 6
-unfoldable pub tested : Op → List ℕ → Items → ℕ → Context → List ℕ → Outcome
-tested op name items given at t =
-    let r = named op name given (given? items) (judgeItems (isSubtract op) items) at t in
-    pick (lost op at (seen (numberOf at) t .held)) (missed op name 411 at t) r
+unfoldable pub tested : Op → List ℕ → Items → ℕ → Context → State → Outcome
+tested op name items given at st =
+    let r = named op name given (given? items) (judgeItems op items) at st in
+    pick (lost op at (seen (numberOf at) (st .table) .held)) (missed op name 411 at st) r
 
 -- "After a failed command without `O-` the rest of its transaction does not run; after an optional one it does"
 unfoldable pub unlessOptional : Bool → Outcome → Outcome
-unlessOptional o x = outcome (x .table) (x .reports) (x .at) (x .going || o)
+unlessOptional o x = outcome (x .state) (x .reports) (x .at) (x .going || o)
 
 -- test 1, then the others
-unfoldable pub ordered : Bool → Option Op → List ℕ → Items → ℕ → Context → List ℕ → Outcome
-ordered o none name items given at t = actionError 443 at t
-ordered o (some op) name items given at t =
-    let r = unlessOptional o (tested op name items given at t) in pick (barred op at) (actionError 421 at t) r
+unfoldable pub ordered : Bool → Option Op → List ℕ → Items → ℕ → Context → State → Outcome
+ordered o none name items given at st = actionError 443 at st
+ordered o (some op) name items given at st =
+    let r = unlessOptional o (tested op name items given at st) in pick (barred op at) (actionError 421 at st) r
 
-unfoldable pub runCommand : Command → ℕ → Context → List ℕ → Outcome
-runCommand (command o w word name items) given at t = ordered o (opOf w word) name items given at t
+unfoldable pub runCommand : Command → ℕ → Context → State → Outcome
+runCommand (command o w word name items) given at st = ordered o (opOf w word) name items given at st
 
--- ---- an action's start; `held` is the record of its context, 0 where there is none
+-- ---- an action's start; `there` is what it sees of its context
 unfoldable pub over15 : List Property → Bool
 over15 [] = false
 over15 (Priority n ∷ ps) = ltb 15 n || over15 ps
@@ -273,11 +268,11 @@ anyGiven (p ∷ ps) = true
 
 -- "421 for context `*`; 421 for properties in `-`, or in `$` without commands; 449 for any priority over 15; 411 for properties in a
 -- numbered context that does not exist"
-unfoldable pub startChecks : Context → List Property → Bool → ℕ → List Check
-startChecks Null ps alone held = check (anyGiven ps) 421 ∷ []
-startChecks (Numbered c) ps alone held = check (over15 ps) 449 ∷ check (anyGiven ps && eqb held 0) 411 ∷ []
-startChecks Choose ps alone held = check (anyGiven ps && alone) 421 ∷ check (over15 ps) 449 ∷ []
-startChecks All ps alone held = check true 421 ∷ []
+unfoldable pub startChecks : Context → List Property → Bool → Seen → List Check
+startChecks Null ps alone there = check (anyGiven ps) 421 ∷ []
+startChecks (Numbered c) ps alone there = check (over15 ps) 449 ∷ check (anyGiven ps && eqb (there .held) 0) 411 ∷ []
+startChecks Choose ps alone there = check (anyGiven ps && alone) 421 ∷ check (over15 ps) 449 ∷ []
+startChecks All ps alone there = check true 421 ∷ []
 
 -- "A new context has priority 0, no emergency"
 abbrev pub newRecord : ℕ
@@ -306,14 +301,14 @@ unfoldable pub startReports : List Property → Bool → ℕ → List Report
 startReports ps alone r = pick alone (standing (setProperties ps r) ∷ []) []
 
 -- those of `$` "are given to the context when it comes to be": the record that it will have is kept with the action
-unfoldable pub startedBy : Context → List Property → Bool → ℕ → Result → Start
-startedBy c ps alone held (refused code) =
+unfoldable pub startedBy : Context → List Property → Bool → Seen → Checked → Start
+startedBy c ps alone there Passes =
+    record { writes = startWrites c ps (there .held); acted = record { at = c; given = setProperties ps newRecord; said = startReports ps alone (there .held) }; going = true }
+startedBy c ps alone there (Fails code) =
     record { writes = []; acted = record { at = c; given = newRecord; said = failed code ∷ [] }; going = false }
-startedBy c ps alone held (done ws) =
-    record { writes = ws; acted = record { at = c; given = setProperties ps newRecord; said = startReports ps alone held }; going = true }
 
-unfoldable pub started : Context → List Property → Bool → ℕ → Start
-started c ps alone held = startedBy c ps alone held (judge (startChecks c ps alone held) (startWrites c ps held))
+unfoldable pub started : Context → List Property → Bool → Seen → Start
+started c ps alone there = startedBy c ps alone there (judge (startChecks c ps alone there))
 
 -- ---- a transaction: its steps are action starts, with the properties and whether they stand alone, and commands
 pub data Step : Type 0 where
@@ -340,58 +335,59 @@ pub record Progress : Type 0 where
 abbrev pub progress : Bool → List Acted → Progress
 progress g acts = record { going = g; acts = acts }
 
-pub record State : Type 0 where
-  pub table : List ℕ
+-- a transaction that is being run
+pub record Course : Type 0 where
+  pub state : State
   pub progress : Progress
 
-abbrev pub state : List ℕ → Progress → State
-state t p = record { table = t; progress = p }
+abbrev pub course : State → Progress → Course
+course st p = record { state = st; progress = p }
 
-unfoldable pub begin : Start → List ℕ → List Acted → State
-begin x t acts = state (apply (x .writes) t) (progress (x .going) (x .acted ∷ acts))
+unfoldable pub begin : Start → State → List Acted → Course
+begin x st acts = course (wrote (x .writes) st) (progress (x .going) (x .acted ∷ acts))
 
 -- the running action after a command of it
-unfoldable pub advance : Outcome → Acted → List Acted → State
-advance x a acts = state (x .table) (progress (x .going) (record { at = x .at; given = a .given; said = a .said ++ x .reports } ∷ acts))
+unfoldable pub advance : Outcome → Acted → List Acted → Course
+advance x a acts = course (x .state) (progress (x .going) (record { at = x .at; given = a .given; said = a .said ++ x .reports } ∷ acts))
 
 -- one step of a transaction that goes on; no command comes before the first action's start
-unfoldable pub proceed : Step → List ℕ → List Acted → State
-proceed (start c ps alone) t acts = begin (started c ps alone (seen (numberOf c) t .held)) t acts
-proceed (order c) t [] = state t (progress true [])
-proceed (order c) t (a ∷ acts) = advance (runCommand c (a .given) (a .at) t) a acts
+unfoldable pub proceed : Step → State → List Acted → Course
+proceed (start c ps alone) st acts = begin (started c ps alone (seen (numberOf c) (st .table))) st acts
+proceed (order c) st [] = course st (progress true [])
+proceed (order c) st (a ∷ acts) = advance (runCommand c (a .given) (a .at) st) a acts
 
 -- a transaction that has stopped takes no more steps
-unfoldable pub step : Step → State → State
-step s x = let r = proceed s (x .table) (x .progress .acts) in pick (x .progress .going) r x
+unfoldable pub step : Step → Course → Course
+step s x = let r = proceed s (x .state) (x .progress .acts) in pick (x .progress .going) r x
 
-unfoldable pub run : List Step → State → State
+unfoldable pub run : List Step → Course → Course
 run [] x = x
 run (s ∷ ss) x = run ss (step s x)
 
 abbrev pub fresh : Progress
 fresh = progress true []
 
--- the table and the text that a part of a message leaves
+-- the state and the text that a part of a message leaves
 pub record Ran : Type 0 where
-  pub table : List ℕ
+  pub state : State
   pub text : List ℕ
 
-abbrev pub ran : List ℕ → List ℕ → Ran
-ran t x = record { table = t; text = x }
+abbrev pub ran : State → List ℕ → Ran
+ran st x = record { state = st; text = x }
 
--- a transaction's table and its `P=id{..}`
-unfoldable pub runTransaction : Transaction → List ℕ → Ran
-runTransaction (transaction id acts) t = let x = run (steps acts) (state t fresh) in ran (x .table) (transactionText id (x .progress .acts))
+-- a transaction's state and its `P=id{..}`
+unfoldable pub runTransaction : Transaction → State → Ran
+runTransaction (transaction id acts) st = let x = run (steps acts) (course st fresh) in ran (x .state) (transactionText id (x .progress .acts))
 
-unfoldable pub runTransactions : List Transaction → List ℕ → Ran
-runTransactions [] t = ran t []
-runTransactions (x ∷ xs) t =
-    let y = runTransaction x t in
-    let z = runTransactions xs (y .table) in ran (z .table) (y .text then z .text)
+unfoldable pub runTransactions : List Transaction → State → Ran
+runTransactions [] st = ran st []
+runTransactions (x ∷ xs) st =
+    let y = runTransaction x st in
+    let z = runTransactions xs (y .state) in ran (z .state) (y .text then z .text)
 
 -- "The whole message is read before anything runs. On a fault nothing runs"
-unfoldable pub runMessage : Message → List ℕ → Ran
-runMessage (wellFormed xs) t = runTransactions xs t
-runMessage fault400 t = ran t (errorText 400)
-runMessage (fault403 id) t = ran t (replyText id (errorText 403))
-runMessage fault406 t = ran t (errorText 406)
+unfoldable pub runMessage : Message → State → Ran
+runMessage (wellFormed xs) st = runTransactions xs st
+runMessage fault400 st = ran st (errorText 400)
+runMessage (fault403 id) st = ran st (replyText id (errorText 403))
+runMessage fault406 st = ran st (errorText 406)

@@ -107,6 +107,12 @@ pub enum Judged {
     Right(Values),
 }
 
+// What tests come to: every one is passed, or the code of the first that fails.
+pub enum Checked {
+    Passes,
+    Fails(u32),
+}
+
 // Which property a descriptor holds: Mode in LocalControl, ServiceStates in TerminationState.
 pub enum Kind {
     InControl,

@@ -15,7 +15,8 @@ use Rattle.syntax.specs.declared.Braces.{Braces}
 use Rattle.syntax.specs.declared.Braces.the-variants.{Past, Outside, Within}
 use Rattle.syntax.specs.declared.Verdict.{Verdict}
 use Rattle.syntax.specs.declared.Verdict.the-variants.{WellFormed, Fault400, Fault403}
-use Rattle.syntax.specs.Messages.{orOutside, orWithin, afterBraces, orFault400, ifNumber, transactionAt, identifierAt, transactionsAt}
+use Rattle.syntax.specs.Messages.{orOutside, orWithin, afterBraces, orFault400, ifNumber, transactionAt, identifierAt, transactionsAt, messageAt, verdictOf, verdict-is}
+use Rattle.megaco.specs.Reading.{messageR}
 use Rattle.actions.proofs.ActionLaws.{parts}
 
 -- ---- the arms of a match on what a reader found
@@ -99,3 +100,9 @@ module _ (s : List ℕ) (k i : ℕ) (w : Verdict) (inv : w ≡ transactionsAt k 
           pub one-more : q < length s → w ≡ transactionsAt (k - 1) s q .verdict
           unfolding ifNumber pick afterBraces
           one-more l = turn ∙ rw (g, ne-eqb id 0 z, ← d, f, lt-ltb q (length s) l)
+
+-- ---- a message
+
+-- who answers the verdict told by position answers that on what is read
+pub by-place : (s : List ℕ) {r : Verdict} → r ≡ messageAt s .verdict → r ≡ verdictOf (messageR s)
+by-place s e = e ∙ verdict-is s

@@ -1,8 +1,8 @@
 // Reading a whole message: the verdict. Nothing but the message is touched.
 ghost use mathlib.Core.Path.{_≡_};
-ghost use Rattle.megaco.specs.Reading.{startAt, senderAt};
+ghost use Rattle.megaco.specs.Reading.{startAt, senderAt, messageR};
 ghost use Rattle.syntax.specs.Places.{bracedAt};
-ghost use Rattle.syntax.specs.Messages.{braceAt, transactionAt, identifierAt, transactionsAt, protocolAt, versionAt, verdict};
+ghost use Rattle.syntax.specs.Messages.{braceAt, transactionAt, identifierAt, transactionsAt, protocolAt, versionAt, verdictOf};
 use megaco::Number;
 use megaco::Parsed;
 use megaco::Token;
@@ -154,9 +154,9 @@ pub fn sender(s: &[u8], at: usize) -> Parsed
     text::sep(s, q)
 }
 
-// The verdict on a message.
+// The verdict on the message that is read from these bytes.
 pub fn verdict(message: &[u8]) -> Verdict
-    ensures { λ r. ⌜ r ≡ verdict (now (message .entry)) ⌝ }
+    ensures { λ r. ⌜ r ≡ verdictOf (messageR (now (message .entry))) ⌝ }
 {
     let n = version(message);
     let Number::Got { value, next } = n else {

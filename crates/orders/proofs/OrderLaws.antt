@@ -7,6 +7,7 @@ use mathlib.Core.Bool.{Bool, true, false, _&&_}
 use lib.Dec.{ltb, leb}
 use Rattle.base.specs.Pick.{pick}
 use Rattle.megaco.specs.Table.{fitted, known, rec, cell, get, contexts}
+use Rattle.megaco.specs.State.{State, state}
 use Rattle.megaco.specs.Names.{nameOf}
 use Rattle.megaco.specs.Running.{seen, numberOf, opOf, missed, aim, aimed, named}
 use Rattle.megaco.specs.Keywords.{spells}
@@ -62,22 +63,22 @@ module _ (at : Context) (t : List ℕ) (n : ℕ) (e : n ≡ numberOf at) where
 
 -- ---- a command's tests
 
-module _ (op : Op) (name : List ℕ) (items : Bool) (given : ℕ) (at : Context) (first : Bool) (t o : List ℕ) (p : ℕ) (t′ o′ : List ℕ) where
+module _ (op : Op) (name : List ℕ) (items : Bool) (given : ℕ) (at : Context) (first : Bool) (t o : List ℕ) (p : ℕ) (t′ : State) (o′ : List ℕ) where
   pub named-aims : (vs : Values) (k : ℕ) (n : Name) (x : Target) (w : Went) → k ≡ fitted t → n ≡ nameOf k name → x ≡ targetOf op at items n t
-      → Did (aimed op name given vs (aimOf x op at t) at t) first o p t′ o′ w → Did (named op name given items (Right vs) at t) first o p t′ o′ w
+      → Did (aimed op name given vs (aimOf x op at t) at (state t)) first o p t′ o′ w → Did (named op name given items (Right vs) at (state t)) first o p t′ o′ w
   unfolding named
   named-aims vs k n x w l e f d =
-      subst (λ (a : Rattle.megaco.specs.Running.Aim). Did (aimed op name given vs a at t) first o p t′ o′ w)
+      subst (λ (a : Rattle.megaco.specs.Running.Aim). Did (aimed op name given vs a at (state t)) first o p t′ o′ w)
       (ap (λ (y : Target). aimOf y op at t) f ∙ target-is op at t items n ∙ ap (λ (m : Name). aim op at items m t) (e ∙ ap (λ (j : ℕ). nameOf j name) l)) d
 
-  pub judged-right : (j : Judged) (vs : Values) (w : Went) → j ≡ Right vs → Did (named op name given items (Right vs) at t) first o p t′ o′ w
-      → Did (named op name given items j at t) first o p t′ o′ w
+  pub judged-right : (j : Judged) (vs : Values) (w : Went) → j ≡ Right vs → Did (named op name given items (Right vs) at (state t)) first o p t′ o′ w
+      → Did (named op name given items j at (state t)) first o p t′ o′ w
   judged-right j vs w e d = rw e d
 
-pub judged-wrong : (op : Op) (name : List ℕ) (items : Bool) (turn : Turn) (t o o′ : List ℕ) (j : Judged) (code : ℕ) (w : Went) → j ≡ Wrong code → Missed op name code turn o o′ w
+pub judged-wrong : (op : Op) (name : List ℕ) (items : Bool) (turn : Turn) (t : State) (o o′ : List ℕ) (j : Judged) (code : ℕ) (w : Went) → j ≡ Wrong code → Missed op name code turn o o′ w
     → Did (named op name (turn .given) items j (turn .at) t) (turn .first) o (turn .next) t o′ w
 unfolding named missed
-judged-wrong op name items turn t o o′ j code w e m = rw e (record { table = refl; text = m .text; place = m .place; going = m .going })
+judged-wrong op name items turn t o o′ j code w e m = rw e (record { state = refl; text = m .text; place = m .place; going = m .going })
 
 pub fair-right : (j : Judged) (vs : Values) → j ≡ Right vs → FairJudged j → Fair vs
 fair-right j vs e f = rw e at f

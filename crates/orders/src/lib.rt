@@ -1,6 +1,7 @@
 // What a command's word, its context, its items and its name come to.
 ghost use mathlib.Core.Path.{_≡_};
 ghost use Rattle.megaco.specs.Table.{Sized};
+ghost use Rattle.megaco.specs.State.{state};
 ghost use Rattle.megaco.specs.Running.{opOf, lost, barred, named};
 ghost use Rattle.megaco.specs.declared.Judged.the-variants.{Right};
 ghost use Rattle.attempt.specs.Judging.{Fair};
@@ -83,7 +84,7 @@ fn run_named(
     out: &mut [u8],
 ) -> Went
     requires { ⌜ (Sized (now table)) × Fair values ⌝ }
-    ensures { λ r. ⌜ Did (named op (now (name .entry)) (turn .given) items (Right values) (turn .at) (now (table .entry))) (turn .first) (now (out .entry)) (turn .next) (now (table .exit)) (now (out .exit)) r ⌝ }
+    ensures { λ r. ⌜ Did (named op (now (name .entry)) (turn .given) items (Right values) (turn .at) (state (now (table .entry)))) (turn .first) (now (out .entry)) (turn .next) (state (now (table .exit))) (now (out .exit)) r ⌝ }
 {
     let n = names::name_of(table::lines(table), name);
     let at = turn.at;
@@ -102,7 +103,7 @@ pub fn run_judged(
     out: &mut [u8],
 ) -> Went
     requires { ⌜ (Sized (now table)) × FairJudged judged ⌝ }
-    ensures { λ r. ⌜ Did (named op (now (name .entry)) (turn .given) items judged (turn .at) (now (table .entry))) (turn .first) (now (out .entry)) (turn .next) (now (table .exit)) (now (out .exit)) r ⌝ }
+    ensures { λ r. ⌜ Did (named op (now (name .entry)) (turn .given) items judged (turn .at) (state (now (table .entry)))) (turn .first) (now (out .entry)) (turn .next) (state (now (table .exit))) (now (out .exit)) r ⌝ }
 {
     match judged {
         Judged::Wrong(code) => tries::miss(op, name, code, turn, out),

@@ -1,6 +1,6 @@
 -- A context's properties as a text, and reports one after another.
 use Prim.Native.Nat.{ℕ, _<_, _≤_}
-use mathlib.Core.Path.{_≡_, refl, sym}
+use mathlib.Core.Path.{_≡_, refl, sym, ap, _∙_, subst}
 use mathlib.Core.List.{List, [], _∷_, _++_}
 use mathlib.Core.Bool.{Bool, true, false}
 use native.Mathlib.Omega.{arith}
@@ -11,7 +11,8 @@ use Rattle.base.specs.Out.{Appended}
 use Rattle.base.proofs.TextLaws.{then-assoc, none-then, then-none}
 use Rattle.base.proofs.OutLaws.{_▸_}
 use Rattle.megaco.specs.Table.{priorityOf, emergencyOf}
-use Rattle.megaco.specs.Reply.{Report, standing, reportText, separator, reportsText}
+use Rattle.megaco.specs.declared.Op.{Op}
+use Rattle.megaco.specs.Reply.{nothing, Report, done, refused, standing, triedText, detailText, codeText, reportText, separator, reportsText}
 use Rattle.report.specs.Rows.{emergencyText, firstAfter}
 
 -- a record of at most 16 has no emergency
@@ -45,3 +46,17 @@ reports-one first x = rw then-none
 module _ (o : List ℕ) (at : ℕ) (o₁ o₂ : List ℕ) (p r : ℕ) where
   pub report-is : (first : Bool) (x : Report) → Appended o at (separator first) o₁ p → Appended o₁ p (reportText x) o₂ r → Appended o at (reportsText first (x ∷ [])) o₂ r
   report-is first x f g = rw reports-one (f ▸ g)
+
+  module _ (first : Bool) (op : Op) (name : List ℕ) where
+    pub refused-is : (code : ℕ) → Appended o at (separator first then triedText op name) o₁ p → Appended o₁ p (codeText code) o₂ r
+        → Appended o at (reportsText first (refused op name code ∷ [])) o₂ r
+    unfolding reportText
+    refused-is code f g =
+        subst (λ (b : List ℕ). Appended o at b o₂ r)
+        (then-assoc (separator first) (triedText op name) (codeText code) ∙ sym (reports-one first (refused op name code))) (f ▸ g)
+
+    pub done-is : Appended o at (separator first then triedText op name) o₂ r → Appended o at (reportsText first (done op name nothing ∷ [])) o₂ r
+    unfolding reportText detailText
+    done-is f =
+        subst (λ (b : List ℕ). Appended o at b o₂ r)
+        (ap (λ (b : List ℕ). separator first then b) (sym (then-none (triedText op name))) ∙ sym (reports-one first (done op name nothing))) f

@@ -4,7 +4,7 @@ ghost use Prim.Native.Nat.{_<_};
 ghost use Rattle.base.specs.Out.{Appended};
 ghost use Rattle.megaco.specs.Table.{priorityOf};
 ghost use Rattle.megaco.specs.Names.{nameText};
-ghost use Rattle.megaco.specs.Reply.{tried, failed, standing, opText, errorText, codeText, reportText, separator};
+ghost use Rattle.megaco.specs.Reply.{failed, standing, opText, errorText, triedText, codeText, reportText, separator};
 ghost use Rattle.report.specs.Rows.{emergencyText};
 use megaco::Op;
 
@@ -20,13 +20,10 @@ pub fn put_error(out: &mut [u8], at: usize, code: u32) -> usize
     writer::put_bytes(out, q, b"{}")
 }
 
-// `{ER=code{}}` after a failed attempt, nothing after a success.
-fn put_code(out: &mut [u8], at: usize, code: u32) -> usize
+// `{ER=code{}}` after a failed attempt.
+pub fn put_code(out: &mut [u8], at: usize, code: u32) -> usize
     ensures { λ r. ⌜ Appended (now (out .entry)) at (codeText code) (now (out .exit)) r ⌝ }
 {
-    if code == 0 {
-        return at;
-    }
     let p = writer::put_byte(out, at, b'{');
     let q = put_error(out, p, code);
     writer::put_byte(out, q, b'}')
@@ -60,25 +57,23 @@ pub fn put_name(out: &mut [u8], at: usize, lines: u32, i: usize) -> usize
     writer::put_count(out, u, i % CHANNELS + 1)
 }
 
-// An attempt under the bytes received.
-pub fn put_tried(out: &mut [u8], at: usize, op: Op, name: &[u8], code: u32) -> usize
-    ensures { λ r. ⌜ Appended (now (out .entry)) at (reportText (tried op (now (name .entry)) code)) (now (out .exit)) r ⌝ }
+// The short keyword and the bytes received.
+pub fn put_tried(out: &mut [u8], at: usize, op: Op, name: &[u8]) -> usize
+    ensures { λ r. ⌜ Appended (now (out .entry)) at (triedText op (now (name .entry))) (now (out .exit)) r ⌝ }
 {
     let p = put_op(out, at, op);
     let q = writer::put_byte(out, p, b'=');
-    let u = writer::put_bytes(out, q, name);
-    put_code(out, u, code)
+    writer::put_bytes(out, q, name)
 }
 
-// An attempt under the termination's full name.
-pub fn put_named(out: &mut [u8], at: usize, op: Op, lines: u32, i: usize, code: u32) -> usize
+// The short keyword and the termination's full name.
+pub fn put_named(out: &mut [u8], at: usize, op: Op, lines: u32, i: usize) -> usize
     requires { ⌜ 0 < lines ⌝ }
-    ensures { λ r. ⌜ Appended (now (out .entry)) at (reportText (tried op (nameText lines i) code)) (now (out .exit)) r ⌝ }
+    ensures { λ r. ⌜ Appended (now (out .entry)) at (triedText op (nameText lines i)) (now (out .exit)) r ⌝ }
 {
     let p = put_op(out, at, op);
     let q = writer::put_byte(out, p, b'=');
-    let u = put_name(out, q, lines, i);
-    put_code(out, u, code)
+    put_name(out, q, lines, i)
 }
 
 // An action error.

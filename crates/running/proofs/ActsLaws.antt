@@ -17,6 +17,7 @@ use Rattle.megaco.specs.Table.{sound}
 use Rattle.megaco.specs.Reading.{unlimited}
 use Rattle.megaco.specs.Tree.{Action, action, Transaction, transaction}
 use Rattle.megaco.specs.Reply.{reportsText, separator, actionText, replyText}
+use Rattle.megaco.specs.State.{State, state}
 use Rattle.megaco.specs.Running.{Outcome, Ran, ran, runTransaction, runTransactions}
 use Rattle.megaco.specs.declared.Context.{Context}
 use Rattle.syntax.specs.Production.{pastSign, listOf, listP}
@@ -81,13 +82,13 @@ unfolding actionAt actionPlaces propertiesIn restIn
 action-at s i a rest e f = rw (f, e)
 
 -- an action whose reports were put into a buffer of their own
-pub acts-by : (x : Outcome) (first : Bool) (t′ inner : List ℕ) (w : Went) (o : List ℕ) (at : ℕ) (o′ : List ℕ) (r : ℕ)
+pub acts-by : (x : Outcome) (first : Bool) (t′ : State) (inner : List ℕ) (w : Went) (o : List ℕ) (at : ℕ) (o′ : List ℕ) (r : ℕ)
     → Did x true (replicate 2049 0) 0 t′ inner w → Appended o at (around first (w .at) (take (w .next) inner)) o′ r → length o ≤ 2049
     → (y : ℕ) → Acts x first o at t′ o′ (record { next = r; going = w .going; end = y })
 unfolding outcomeText around
 acts-by x first t′ inner w o at o′ r d k h y =
     record {
-      table = d .table;
+      state = d .state;
       text =
           subst (λ (b : List ℕ). Appended o at (separator first then b) o′ r)
           (sym (action-is (w .at) (x .reports)) ∙ ap (λ (c : Context). actionText c (x .reports)) (d .place))
@@ -96,7 +97,7 @@ acts-by x first t′ inner w o at o′ r d k h y =
     }
 
 -- the action at a place, its parts found
-pub action-acts : (s : List ℕ) (i : ℕ) (a : ActionPlaces) (rest : Rest) (first : Bool) (t t′ z inner : List ℕ) (w : Went) (o : List ℕ) (at : ℕ) (o′ : List ℕ) (r y : ℕ)
+pub action-acts : (s : List ℕ) (i : ℕ) (a : ActionPlaces) (rest : Rest) (first : Bool) (t t′ : State) (z inner : List ℕ) (w : Went) (o : List ℕ) (at : ℕ) (o′ : List ℕ) (r y : ℕ)
     → a ≡ actionPlaces s i → rest ≡ restOf (unlimited s) s (a .body) → z ≡ replicate 2049 0
     → Did (runAction (action (a .context) (propertiesIn s (a .body)) (commandsIn s rest)) t) true z 0 t′ inner w → Appended o at (around first (w .at) (take (w .next) inner)) o′ r → length o ≤ 2049
     → Acts (runAction (actionAt s i .tree) t) first o at t′ o′ (record { next = r; going = w .going; end = y })
@@ -110,45 +111,45 @@ action-acts s i a rest first t t′ z inner w o at o′ r y e f g d k h =
 -- ---- actions in order
 
 pub record Leads (x : Ran) (o : List ℕ) (at : ℕ) (y : Ran) (o₁ : List ℕ) (p : ℕ) : Type 0 where
-  pub to : (t′ o′ : List ℕ) (r : ℕ) → Wrote y o₁ p t′ o′ r → Wrote x o at t′ o′ r
+  pub to : (t′ : State) (o′ : List ℕ) (r : ℕ) → Wrote y o₁ p t′ o′ r → Wrote x o at t′ o′ r
 
 pub begins : (x : Ran) (o : List ℕ) (at : ℕ) → Leads x o at x o at
 begins x o at = record { to = λ t′ o′ r w. w }
 
-module _ (a : Action) (acts : List Action) (first : Bool) (t : List ℕ) where
+module _ (a : Action) (acts : List Action) (first : Bool) (t : State) where
   abbrev x : Outcome
   x = runAction a t
 
-  acts-on : x .going ≡ true → runActions (a ∷ acts) first t ≡ (let y = runActions acts false (x .table) in ran (y .table) (outcomeText first x then y .text))
+  acts-on : x .going ≡ true → runActions (a ∷ acts) first t ≡ (let y = runActions acts false (x .state) in ran (y .state) (outcomeText first x then y .text))
   unfolding runActions pick
   acts-on e = rw e
 
-  acts-end : x .going ≡ false → runActions (a ∷ acts) first t ≡ ran (x .table) (outcomeText first x)
+  acts-end : x .going ≡ false → runActions (a ∷ acts) first t ≡ ran (x .state) (outcomeText first x)
   unfolding runActions pick
   acts-end e = rw e
 
-no-actions : (first : Bool) (t : List ℕ) → runActions [] first t ≡ ran t []
+no-actions : (first : Bool) (t : State) → runActions [] first t ≡ ran t []
 unfolding runActions
 no-actions first t = refl
 
-no-list : (s : List ℕ) (i : ℕ) (first : Bool) (t : List ℕ) → runActions (listP (actionAt s) s 0 i .tree) first t ≡ ran t []
+no-list : (s : List ℕ) (i : ℕ) (first : Bool) (t : State) → runActions (listP (actionAt s) s 0 i .tree) first t ≡ ran t []
 unfolding listOf runActions
 no-list s i first t = refl
 
 -- an action keeps a sound table sound
-pub action-sound : (a : Action) (t : List ℕ) → sound t ≡ true → sound (runAction a t .table) ≡ true
+pub action-sound : (a : Action) (t : State) → sound (t .table) ≡ true → sound (runAction a t .state .table) ≡ true
 action-sound a t h =
-    let e : runTransaction (transaction 0 (a ∷ [])) t .table ≡ runAction a t .table = ap (λ (r : Ran). r .table) (transaction-is 0 (a ∷ []) t) ∙ one (runAction a t .going) refl in
-    subst (λ (u : List ℕ). sound u ≡ true) e (transaction-sound (transaction 0 (a ∷ [])) t h)
+    let e : runTransaction (transaction 0 (a ∷ [])) t .state ≡ runAction a t .state = ap (λ (r : Ran). r .state) (transaction-is 0 (a ∷ []) t) ∙ one (runAction a t .going) refl in
+    subst (λ (u : State). sound (u .table) ≡ true) e (transaction-sound (transaction 0 (a ∷ [])) t h)
   where
-    one : (b : Bool) → runAction a t .going ≡ b → runActions (a ∷ []) true t .table ≡ runAction a t .table
-    one true g = ap (λ (r : Ran). r .table) (acts-on a [] true t g) ∙ ap (λ (r : Ran). r .table) (no-actions false (runAction a t .table))
-    one false g = ap (λ (r : Ran). r .table) (acts-end a [] true t g)
+    one : (b : Bool) → runAction a t .going ≡ b → runActions (a ∷ []) true t .state ≡ runAction a t .state
+    one true g = ap (λ (r : Ran). r .state) (acts-on a [] true t g) ∙ ap (λ (r : Ran). r .state) (no-actions false (runAction a t .state))
+    one false g = ap (λ (r : Ran). r .state) (acts-end a [] true t g)
 
-pub acts-sound : (a : Action) (f : Bool) (t o₁ : List ℕ) (p : ℕ) (t₂ o₂ : List ℕ) (m : Moved) → Acts (runAction a t) f o₁ p t₂ o₂ m → sound t ≡ true → sound t₂ ≡ true
-acts-sound a f t o₁ p t₂ o₂ m d h = rw (d .table) (action-sound a t h)
+pub acts-sound : (a : Action) (f : Bool) (t o₁ : List ℕ) (p : ℕ) (t₂ o₂ : List ℕ) (m : Moved) → Acts (runAction a (state t)) f o₁ p (state t₂) o₂ m → sound t ≡ true → sound t₂ ≡ true
+acts-sound a f t o₁ p t₂ o₂ m d h = subst (λ (u : State). sound (u .table) ≡ true) (sym (d .state)) (action-sound a (state t) h)
 
-module _ (x : Ran) (o : List ℕ) (p₀ : ℕ) (s : List ℕ) (k i : ℕ) (f : Bool) (t o₁ : List ℕ) (p : ℕ)
+module _ (x : Ran) (o : List ℕ) (p₀ : ℕ) (s : List ℕ) (k i : ℕ) (f : Bool) (t : State) (o₁ : List ℕ) (p : ℕ)
     (l : Leads x o p₀ (runActions (listP (actionAt s) s k i .tree) f t) o₁ p) where
   -- none is left
   pub actions-none : k ≤ 0 → Wrote x o p₀ t o₁ p
@@ -156,9 +157,9 @@ module _ (x : Ran) (o : List ℕ) (p₀ : ℕ) (s : List ℕ) (k i : ℕ) (f : B
       let e : k ≡ 0 = omega arith in
       let m : Leads x o p₀ (ran t []) o₁ p =
       subst (λ (z : Ran). Leads x o p₀ z o₁ p) (ap (λ (j : ℕ). runActions (listP (actionAt s) s j i .tree) f t) e ∙ no-list s i f t) l in
-      m .to t o₁ p (record { table = refl; text = none o₁ p })
+      m .to t o₁ p (record { state = refl; text = none o₁ p })
 
-  module _ (t₂ o₂ : List ℕ) (m : Moved) (h : 0 < k) (d : Acts (runAction (actionAt s i .tree) t) f o₁ p t₂ o₂ m) where
+  module _ (t₂ : State) (o₂ : List ℕ) (m : Moved) (h : 0 < k) (d : Acts (runAction (actionAt s i .tree) t) f o₁ p t₂ o₂ m) where
     abbrev rest : List Action
     rest = pick (isAt s (actionAt s i .end) comma) (listP (actionAt s) s (k - 1) (pastSign comma s (actionAt s i .end)) .tree) []
 
@@ -168,18 +169,18 @@ module _ (x : Ran) (o : List ℕ) (p₀ : ℕ) (s : List ℕ) (k i : ℕ) (f : B
     -- the action stops the transaction
     pub actions-stop : m .going ≡ false → Wrote x o p₀ t₂ o₂ (m .next)
     actions-stop g =
-        let z : Leads x o p₀ (ran (runAction (actionAt s i .tree) t .table) (outcomeText f (runAction (actionAt s i .tree) t))) o₁ p =
+        let z : Leads x o p₀ (ran (runAction (actionAt s i .tree) t .state) (outcomeText f (runAction (actionAt s i .tree) t))) o₁ p =
         subst (λ (z : Ran). Leads x o p₀ z o₁ p) (acts-end (actionAt s i .tree) rest f t (sym (d .going) ∙ g)) opened in
-        z .to t₂ o₂ (m .next) (record { table = d .table; text = d .text })
+        z .to t₂ o₂ (m .next) (record { state = d .state; text = d .text })
 
     going-on : m .going ≡ true → Leads x o p₀ (runActions rest false t₂) o₂ (m .next)
     going-on g =
         let y : Outcome = runAction (actionAt s i .tree) t in
-        let z : Leads x o p₀ (let r = runActions rest false (y .table) in ran (r .table) (outcomeText f y then r .text)) o₁ p =
+        let z : Leads x o p₀ (let r = runActions rest false (y .state) in ran (r .state) (outcomeText f y then r .text)) o₁ p =
         subst (λ (z : Ran). Leads x o p₀ z o₁ p) (acts-on (actionAt s i .tree) rest f t (sym (d .going) ∙ g)) opened in
-        let v : Leads x o p₀ (let r = runActions rest false t₂ in ran (r .table) (outcomeText f y then r .text)) o₁ p =
-        subst (λ (u : List ℕ). Leads x o p₀ (let r = runActions rest false u in ran (r .table) (outcomeText f y then r .text)) o₁ p) (sym (d .table)) z in
-        record { to = λ t′ o′ r w. v .to t′ o′ r (record { table = w .table; text = d .text ▸ w .text }) }
+        let v : Leads x o p₀ (let r = runActions rest false t₂ in ran (r .state) (outcomeText f y then r .text)) o₁ p =
+        subst (λ (u : State). Leads x o p₀ (let r = runActions rest false u in ran (r .state) (outcomeText f y then r .text)) o₁ p) (sym (d .state)) z in
+        record { to = λ t′ o′ r w. v .to t′ o′ r (record { state = w .state; text = d .text ▸ w .text }) }
 
     -- it is the last
     pub actions-last : (e : ℕ) (b : Bool) → m .going ≡ true → e ≡ actionAt s i .end → b ≡ isAt s e comma → b ≡ false → Wrote x o p₀ t₂ o₂ (m .next)
@@ -188,7 +189,7 @@ module _ (x : Ran) (o : List ℕ) (p₀ : ℕ) (s : List ℕ) (k i : ℕ) (f : B
         let w : Leads x o p₀ (ran t₂ []) o₂ (m .next) =
         subst (λ (y : Ran). Leads x o p₀ y o₂ (m .next))
         (ap (λ (y : List Action). runActions y false t₂) (left-out (isAt s (actionAt s i .end) comma) (listP (actionAt s) s (k - 1) (pastSign comma s (actionAt s i .end)) .tree) [] z) ∙ no-actions false t₂) (going-on g) in
-        w .to t₂ o₂ (m .next) (record { table = refl; text = none o₂ (m .next) })
+        w .to t₂ o₂ (m .next) (record { state = refl; text = none o₂ (m .next) })
 
     -- another follows
     pub actions-more : (e n : ℕ) (b : Bool) → m .going ≡ true → e ≡ actionAt s i .end → b ≡ isAt s e comma → b ≡ true → n ≡ pastSign comma s e
@@ -201,22 +202,22 @@ module _ (x : Ran) (o : List ℕ) (p₀ : ℕ) (s : List ℕ) (k i : ℕ) (f : B
 
 -- ---- a transaction
 
-pub transaction-wrote : (id : ℕ) (acts : List Action) (t z z₁ z₂ z₃ : List ℕ) (n m e : ℕ) (t′ o : List ℕ) (p : ℕ) (o′ : List ℕ) (r : ℕ) → z ≡ replicate 2049 0
+pub transaction-wrote : (id : ℕ) (acts : List Action) (t : State) (z z₁ z₂ z₃ : List ℕ) (n m e : ℕ) (t′ : State) (o : List ℕ) (p : ℕ) (o′ : List ℕ) (r : ℕ) → z ≡ replicate 2049 0
     → Appended z 0 (replyOpen id) z₁ n → Wrote (runActions acts true t) z₁ n t′ z₂ m → Appended z₂ m (text "}") z₃ e → Appended o p (limitedFrom id z₃ e) o′ r
     → Wrote (runTransaction (transaction id acts) t) o p t′ o′ r
 transaction-wrote id acts t z z₁ z₂ z₃ n m e t′ o p o′ r q f w g l =
     let y : Ran = runActions acts true t in
     let a : Appended (replicate 2049 0) 0 (replyText id (y .text)) z₃ e = rw (reply-is id (y .text), ← q) (f ▸ w .text ▸ g) in
-    rw (transaction-is id acts t) (record { table = w .table; text = limited-is id z₃ e o p o′ r (replyText id (y .text)) a l })
+    rw (transaction-is id acts t) (record { state = w .state; text = limited-is id z₃ e o p o′ r (replyText id (y .text)) a l })
 
 -- ---- transactions in order
 
-module _ (x : Transaction) (xs : List Transaction) (t : List ℕ) where
-  message-on : runTransactions (x ∷ xs) t ≡ (let y = runTransaction x t in let z = runTransactions xs (y .table) in ran (z .table) (y .text then z .text))
+module _ (x : Transaction) (xs : List Transaction) (t : State) where
+  message-on : runTransactions (x ∷ xs) t ≡ (let y = runTransaction x t in let z = runTransactions xs (y .state) in ran (z .state) (y .text then z .text))
   unfolding runTransactions
   message-on = refl
 
-no-transactions : (t : List ℕ) → runTransactions [] t ≡ ran t []
+no-transactions : (t : State) → runTransactions [] t ≡ ran t []
 unfolding runTransactions
 no-transactions t = refl
 
@@ -228,29 +229,29 @@ transactions-open s (suc m) i h =
     let e : suc m - 1 ≡ m = omega arith in
     ap (λ (j : ℕ). transactionOf s i ∷ pick (ltb (transactionEnd s i) (length s)) (transactionsAt j s (transactionEnd s i) .tree) []) (sym e)
 
-none-of : (s : List ℕ) (i : ℕ) (t : List ℕ) → runTransactions (transactionsAt 0 s i .tree) t ≡ ran t []
+none-of : (s : List ℕ) (i : ℕ) (t : State) → runTransactions (transactionsAt 0 s i .tree) t ≡ ran t []
 unfolding transactionsAt runTransactions
 none-of s i t = refl
 
-module _ (x : Ran) (o : List ℕ) (p₀ : ℕ) (s : List ℕ) (k i : ℕ) (t o₁ : List ℕ) (p : ℕ) (l : Leads x o p₀ (runTransactions (transactionsAt k s i .tree) t) o₁ p) where
+module _ (x : Ran) (o : List ℕ) (p₀ : ℕ) (s : List ℕ) (k i : ℕ) (t : State) (o₁ : List ℕ) (p : ℕ) (l : Leads x o p₀ (runTransactions (transactionsAt k s i .tree) t) o₁ p) where
   pub message-none : k ≤ 0 → Wrote x o p₀ t o₁ p
   message-none h =
       let e : k ≡ 0 = omega arith in
       let m : Leads x o p₀ (ran t []) o₁ p = subst (λ (z : Ran). Leads x o p₀ z o₁ p) (ap (λ (j : ℕ). runTransactions (transactionsAt j s i .tree) t) e ∙ none-of s i t) l in
-      m .to t o₁ p (record { table = refl; text = none o₁ p })
+      m .to t o₁ p (record { state = refl; text = none o₁ p })
 
-  module _ (t₂ o₂ : List ℕ) (q : ℕ) (h : 0 < k) (d : Wrote (runTransaction (transactionOf s i) t) o₁ p t₂ o₂ q) where
+  module _ (t₂ : State) (o₂ : List ℕ) (q : ℕ) (h : 0 < k) (d : Wrote (runTransaction (transactionOf s i) t) o₁ p t₂ o₂ q) where
     abbrev others : List Transaction
     others = pick (ltb (transactionEnd s i) (length s)) (transactionsAt (k - 1) s (transactionEnd s i) .tree) []
 
     going-past : Leads x o p₀ (runTransactions others t₂) o₂ q
     going-past =
         let y : Ran = runTransaction (transactionOf s i) t in
-        let z : Leads x o p₀ (let r = runTransactions others (y .table) in ran (r .table) (y .text then r .text)) o₁ p =
+        let z : Leads x o p₀ (let r = runTransactions others (y .state) in ran (r .state) (y .text then r .text)) o₁ p =
         subst (λ (z : Ran). Leads x o p₀ z o₁ p) (ap (λ (a : List Transaction). runTransactions a t) (transactions-open s k i h) ∙ message-on (transactionOf s i) others t) l in
-        let v : Leads x o p₀ (let r = runTransactions others t₂ in ran (r .table) (y .text then r .text)) o₁ p =
-        subst (λ (u : List ℕ). Leads x o p₀ (let r = runTransactions others u in ran (r .table) (y .text then r .text)) o₁ p) (sym (d .table)) z in
-        record { to = λ t′ o′ r w. v .to t′ o′ r (record { table = w .table; text = d .text ▸ w .text }) }
+        let v : Leads x o p₀ (let r = runTransactions others t₂ in ran (r .state) (y .text then r .text)) o₁ p =
+        subst (λ (u : State). Leads x o p₀ (let r = runTransactions others u in ran (r .state) (y .text then r .text)) o₁ p) (sym (d .state)) z in
+        record { to = λ t′ o′ r w. v .to t′ o′ r (record { state = w .state; text = d .text ▸ w .text }) }
 
     pub message-last : (e : ℕ) → e ≡ transactionEnd s i → length s ≤ e → Wrote x o p₀ t₂ o₂ q
     message-last e f g =
@@ -258,7 +259,7 @@ module _ (x : Ran) (o : List ℕ) (p₀ : ℕ) (s : List ℕ) (k i : ℕ) (t o�
         let w : Leads x o p₀ (ran t₂ []) o₂ q =
         subst (λ (y : Ran). Leads x o p₀ y o₂ q)
         (ap (λ (y : List Transaction). runTransactions y t₂) (left-out (ltb (transactionEnd s i) (length s)) (transactionsAt (k - 1) s (transactionEnd s i) .tree) [] z) ∙ no-transactions t₂) going-past in
-        w .to t₂ o₂ q (record { table = refl; text = none o₂ q })
+        w .to t₂ o₂ q (record { state = refl; text = none o₂ q })
 
     pub message-more : (e : ℕ) → e ≡ transactionEnd s i → e < length s → Leads x o p₀ (runTransactions (transactionsAt (k - 1) s e .tree) t₂) o₂ q
     message-more e f g =

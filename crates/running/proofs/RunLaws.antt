@@ -13,7 +13,8 @@ use Rattle.megaco.specs.Items.{judgeItems, given?}
 use Rattle.megaco.specs.Table.{fitted}
 use Rattle.megaco.specs.Names.{nameOf}
 use Rattle.megaco.specs.Tree.{Items, Command, command}
-use Rattle.megaco.specs.Running.{Outcome, outcome, Aim, misses, gateway, meets, tries, missed, actionError, aimRoot, aimFree, aimMatches, matches, aim, aimed, named, tested, unlessOptional, ordered, opOf, isSubtract, runCommand}
+use Rattle.megaco.specs.State.{State}
+use Rattle.megaco.specs.Running.{Outcome, outcome, Aim, misses, gateway, meets, tries, missed, actionError, aimRoot, aimFree, aimMatches, matches, aim, aimed, named, tested, unlessOptional, ordered, opOf, runCommand}
 use Rattle.megaco.specs.declared.Context.{Context}
 use Rattle.megaco.specs.declared.Op.{Op}
 use Rattle.megaco.specs.declared.Values.{Values}
@@ -56,37 +57,37 @@ peopled op at items Unknown t = nobody
 abbrev Tells : Outcome → Type 0
 Tells x = Some (x .reports)
 
-aimed-tells : (op : Op) (name : List ℕ) (given : ℕ) (vs : Values) (a : Aim) (at : Context) (t : List ℕ) → Peopled a → Tells (aimed op name given vs a at t)
+aimed-tells : (op : Op) (name : List ℕ) (given : ℕ) (vs : Values) (a : Aim) (at : Context) (t : State) → Peopled a → Tells (aimed op name given vs a at t)
 unfolding aimed missed tries
 aimed-tells op name given vs _ at t nobody = there
 aimed-tells op name given vs _ at t itself = there
 aimed-tells op name given vs _ at t somebody = there
 
-named-tells : (op : Op) (name : List ℕ) (given : ℕ) (items : Bool) (j : Judged) (at : Context) (t : List ℕ) → Tells (named op name given items j at t)
+named-tells : (op : Op) (name : List ℕ) (given : ℕ) (items : Bool) (j : Judged) (at : Context) (t : State) → Tells (named op name given items j at t)
 unfolding named missed
 named-tells op name given items (Wrong code) at t = there
-named-tells op name given items (Right vs) at t = aimed-tells op name given vs (aim op at items (nameOf (fitted t) name) t) at t (peopled op at items (nameOf (fitted t) name) t)
+named-tells op name given items (Right vs) at t = aimed-tells op name given vs (aim op at items (nameOf (fitted (t .table)) name) (t .table)) at t (peopled op at items (nameOf (fitted (t .table)) name) (t .table))
 
-tested-tells : (op : Op) (name : List ℕ) (items : Items) (given : ℕ) (at : Context) (t : List ℕ) → Tells (tested op name items given at t)
+tested-tells : (op : Op) (name : List ℕ) (items : Items) (given : ℕ) (at : Context) (t : State) → Tells (tested op name items given at t)
 unfolding tested missed
-tested-tells op name items given at t = pick-ind Tells _ _ _ (λ e. there) (λ e. named-tells op name given (given? items) (judgeItems (isSubtract op) items) at t)
+tested-tells op name items given at t = pick-ind Tells _ _ _ (λ e. there) (λ e. named-tells op name given (given? items) (judgeItems op items) at t)
 
-ordered-tells : (o : Bool) (op : Option Op) (name : List ℕ) (items : Items) (given : ℕ) (at : Context) (t : List ℕ) → Tells (ordered o op name items given at t)
+ordered-tells : (o : Bool) (op : Option Op) (name : List ℕ) (items : Items) (given : ℕ) (at : Context) (t : State) → Tells (ordered o op name items given at t)
 unfolding ordered actionError unlessOptional
 ordered-tells o none name items given at t = there
 ordered-tells o (some op) name items given at t = pick-ind Tells _ _ _ (λ e. there) (λ e. tested-tells op name items given at t)
 
-pub command-tells : (c : Command) (given : ℕ) (at : Context) (t : List ℕ) → Tells (runCommand c given at t)
+pub command-tells : (c : Command) (given : ℕ) (at : Context) (t : State) → Tells (runCommand c given at t)
 unfolding runCommand
 command-tells (command o w word name items) given at t = ordered-tells o (opOf w word) name items given at t
 
 -- ---- commands in order
 
-module _ (c : Command) (cs : List Command) (given : ℕ) (at : Context) (t : List ℕ) where
+module _ (c : Command) (cs : List Command) (given : ℕ) (at : Context) (t : State) where
   abbrev one : Outcome
   one = runCommand c given at t
 
-  commands-join : one .going ≡ true → runCommands (c ∷ cs) given at t ≡ joined one (runCommands cs given (one .at) (one .table))
+  commands-join : one .going ≡ true → runCommands (c ∷ cs) given at t ≡ joined one (runCommands cs given (one .at) (one .state))
   unfolding runCommands joined pick
   commands-join e = rw e
 
@@ -94,7 +95,7 @@ module _ (c : Command) (cs : List Command) (given : ℕ) (at : Context) (t : Lis
   unfolding runCommands pick
   commands-stop e = by (one .going) e
     where
-      by : (b : Bool) → b ≡ false → pick b (let y = runCommands cs given (one .at) (one .table) in outcome (y .table) (one .reports ++ y .reports) (y .at) (y .going)) one ≡ one
+      by : (b : Bool) → b ≡ false → pick b (let y = runCommands cs given (one .at) (one .state) in outcome (y .state) (one .reports ++ y .reports) (y .at) (y .going)) one ≡ one
       by b f = rw f
 
 -- the commands from a place, at most k
@@ -102,15 +103,15 @@ commands-open : (s : List ℕ) (k i : ℕ) → 0 < k
     → listP (commandAt s) s k i .tree ≡ commandAt s i .tree ∷ pick (isAt s (commandAt s i .end) comma) (listP (commandAt s) s (k - 1) (pastSign comma s (commandAt s i .end)) .tree) []
 commands-open s k i h = list-open (λ j. commandAt s j .tree) (λ j. commandAt s j .end) s k i h
 
-nothing-left : (s : List ℕ) (i given : ℕ) (at : Context) (t : List ℕ) → runCommands (listP (commandAt s) s 0 i .tree) given at t ≡ outcome t [] at true
+nothing-left : (s : List ℕ) (i given : ℕ) (at : Context) (t : State) → runCommands (listP (commandAt s) s 0 i .tree) given at t ≡ outcome t [] at true
 unfolding listOf runCommands
 nothing-left s i given at t = refl
 
-none-left : (given : ℕ) (at : Context) (t : List ℕ) → runCommands [] given at t ≡ outcome t [] at true
+none-left : (given : ℕ) (at : Context) (t : State) → runCommands [] given at t ≡ outcome t [] at true
 unfolding runCommands
 none-left given at t = refl
 
-module _ (x : Outcome) (first : Bool) (o : List ℕ) (p₀ : ℕ) (s : List ℕ) (given k i : ℕ) (at : Context) (t : List ℕ) (f : Bool) (o₁ : List ℕ) (p : ℕ)
+module _ (x : Outcome) (first : Bool) (o : List ℕ) (p₀ : ℕ) (s : List ℕ) (given k i : ℕ) (at : Context) (t : State) (f : Bool) (o₁ : List ℕ) (p : ℕ)
     (l : Leads x first o p₀ true (runCommands (listP (commandAt s) s k i .tree) given at t) f o₁ p) where
   -- none is left
   pub loop-none : k ≤ 0 → Did x first o p₀ t o₁ (went p at true)
@@ -120,7 +121,7 @@ module _ (x : Outcome) (first : Bool) (o : List ℕ) (p₀ : ℕ) (s : List ℕ)
       subst (λ (z : Outcome). Leads x first o p₀ true z f o₁ p) (ap (λ (j : ℕ). runCommands (listP (commandAt s) s j i .tree) given at t) e ∙ nothing-left s i given at t) l in
       m .to t o₁ p at true (done-none t o₁ f p at)
 
-  module _ (t₂ o₂ : List ℕ) (w : Went) (h : 0 < k) (d : Did (runCommand (commandAt s i .tree) given at t) f o₁ p t₂ o₂ w) where
+  module _ (t₂ : State) (o₂ : List ℕ) (w : Went) (h : 0 < k) (d : Did (runCommand (commandAt s i .tree) given at t) f o₁ p t₂ o₂ w) where
     abbrev rest : List Command
     rest = pick (isAt s (commandAt s i .end) comma) (listP (commandAt s) s (k - 1) (pastSign comma s (commandAt s i .end)) .tree) []
 
@@ -138,10 +139,10 @@ module _ (x : Outcome) (first : Bool) (o : List ℕ) (p₀ : ℕ) (s : List ℕ)
     going-on g =
         let c : Command = commandAt s i .tree in
         let y : Outcome = runCommand c given at t in
-        let m : Leads x first o p₀ true (joined y (runCommands rest given (y .at) (y .table))) f o₁ p =
+        let m : Leads x first o p₀ true (joined y (runCommands rest given (y .at) (y .state))) f o₁ p =
         subst (λ (z : Outcome). Leads x first o p₀ true z f o₁ p) (commands-join c rest given at t (sym (d .going) ∙ g)) opened in
         let n : Leads x first o p₀ true (joined y (runCommands rest given (w .at) t₂)) f o₁ p =
-        subst (λ (z : Outcome). Leads x first o p₀ true (joined y z) f o₁ p) (sym (λ j. runCommands rest given (d .place j) (d .table j))) m in
+        subst (λ (z : Outcome). Leads x first o p₀ true (joined y z) f o₁ p) (sym (λ j. runCommands rest given (d .place j) (d .state j))) m in
         subst (λ (b : Bool). Leads x first o p₀ b (runCommands rest given (w .at) t₂) false o₂ (w .next)) (rw g)
         (leads-on x first o p₀ true y (runCommands rest given (w .at) t₂) f o₁ o₂ t₂ p w (command-tells c given at t) n d)
 

@@ -4,6 +4,7 @@ use mathlib.Core.Path.{_≡_}
 use mathlib.Core.Bool.{Bool}
 use mathlib.Core.List.{List}
 use Rattle.base.specs.Bytes.{text, _then_}
+use Rattle.megaco.specs.State.{State}
 use Rattle.megaco.specs.Reply.{separator}
 use Rattle.reply.specs.Texts.{actionOpen}
 use Rattle.megaco.specs.declared.Context.{Context}
@@ -12,15 +13,15 @@ use Rattle.megaco.specs.Running.{Outcome, Ran}
 use Rattle.running.specs.Fold.{outcomeText}
 use Rattle.running.specs.declared.Moved.{Moved}
 
--- from the buffer o at `at`, an action leaves the table t′ and the buffer o′
-pub record Acts (x : Outcome) (first : Bool) (o : List ℕ) (at : ℕ) (t′ o′ : List ℕ) (r : Moved) : Type 0 where
-  pub table : t′ ≡ x .table
+-- from the buffer o at `at`, an action leaves the state t′, made of the lent slices, and the buffer o′
+pub record Acts (x : Outcome) (first : Bool) (o : List ℕ) (at : ℕ) (t′ : State) (o′ : List ℕ) (r : Moved) : Type 0 where
+  pub state : t′ ≡ x .state
   pub text : Appended o at (outcomeText first x) o′ (r .next)
   pub going : r .going ≡ x .going
 
 -- the same of a part of a message
-pub record Wrote (x : Ran) (o : List ℕ) (at : ℕ) (t′ o′ : List ℕ) (r : ℕ) : Type 0 where
-  pub table : t′ ≡ x .table
+pub record Wrote (x : Ran) (o : List ℕ) (at : ℕ) (t′ : State) (o′ : List ℕ) (r : ℕ) : Type 0 where
+  pub state : t′ ≡ x .state
   pub text : Appended o at (x .text) o′ r
 
 -- an action's text around that of its reports

@@ -4,6 +4,7 @@ ghost use mathlib.Core.Bool.{true, false};
 ghost use Prim.Native.Nat.{_≤_};
 ghost use lib.ListN.{length, take};
 ghost use Rattle.megaco.specs.Table.{Sized, sound};
+ghost use Rattle.megaco.specs.State.{state};
 ghost use mathlib.Core.List.{[], _∷_};
 ghost use Rattle.base.specs.Out.{Appended};
 ghost use Rattle.megaco.specs.Reply.{standing, reportsText};
@@ -15,6 +16,7 @@ ghost use Rattle.tries.specs.Contract.{Did};
 ghost use Rattle.running.specs.Fold.{runCommands, runAction, runActions};
 ghost use Rattle.running.specs.Promises.{around, Acts, Wrote};
 use commands::Passed;
+use megaco::Checked;
 use megaco::Context;
 use syntax::Rest;
 use tries::Turn;
@@ -36,7 +38,7 @@ pub struct Written {
 // The commands of an action, in order, until one stops the transaction.
 fn run_commands(s: &[u8], from: usize, turn: Turn, table: &mut [u32], out: &mut [u8]) -> Passed
     requires { ⌜ Sized (now table) ⌝ }
-    ensures { λ r. ⌜ Did (runCommands (commandsAt (now (s .entry)) from .tree) (turn .given) (turn .at) (now (table .entry))) (turn .first) (now (out .entry)) (turn .next) (now (table .exit)) (now (out .exit)) (r .went) × (r .end ≡ commandsAt (now (s .entry)) from .end) ⌝ }
+    ensures { λ r. ⌜ Did (runCommands (commandsAt (now (s .entry)) from .tree) (turn .given) (turn .at) (state (now (table .entry)))) (turn .first) (now (out .entry)) (turn .next) (state (now (table .exit))) (now (out .exit)) (r .went) × (r .end ≡ commandsAt (now (s .entry)) from .end) ⌝ }
 {
     let mut i = from;
     let mut left: usize = 64;
@@ -87,40 +89,44 @@ fn run_inner(
     out: &mut [u8],
 ) -> Passed
     requires { ⌜ (Sized (now table)) × (heldAt c (now table) ≤ 32) ⌝ }
-    ensures { λ r. ⌜ Did (runAction (action c (propertiesIn (now (s .entry)) body) (commandsIn (now (s .entry)) rest)) (now (table .entry))) true (now (out .entry)) 0 (now (table .exit)) (now (out .exit)) (r .went) × (r .end ≡ bodyEnd (now (s .entry)) rest) ⌝ }
+    ensures { λ r. ⌜ Did (runAction (action c (propertiesIn (now (s .entry)) body) (commandsIn (now (s .entry)) rest)) (state (now (table .entry)))) true (now (out .entry)) 0 (state (now (table .exit))) (now (out .exit)) (r .went) × (r .end ≡ bodyEnd (now (s .entry)) rest) ⌝ }
 {
     let held = orders::held_at(table, c);
     let any = actions::property_here(s, body);
     let g = starts::read_properties(s, body, held);
     let follow = rest.commands;
-    let code = starts::start_code(c, any, g.over, !follow, held);
+    let checked = starts::judge_start(c, any, g.over, !follow, held);
     let turn = Turn {
         given: g.fresh,
         at: c,
         first: true,
         next: 0,
     };
-    if code == 0 {
-        starts::start_write(table, c, any, g.held);
-        if follow {
-            let from = rest.at;
-            return run_commands(s, from, turn, table, out);
+    match checked {
+        Checked::Passes => {
+            starts::start_write(table, c, any, g.held);
+            if follow {
+                let from = rest.at;
+                return run_commands(s, from, turn, table, out);
+            }
+            let n = put_alone(out, g.held);
+            let w = Went {
+                next: n,
+                at: c,
+                going: true,
+            };
+            Passed {
+                went: w,
+                end: rest.at,
+            }
         }
-        let n = put_alone(out, g.held);
-        let w = Went {
-            next: n,
-            at: c,
-            going: true,
-        };
-        return Passed {
-            went: w,
-            end: rest.at,
-        };
-    }
-    let w = commands::fail(code, turn, out);
-    Passed {
-        went: w,
-        end: outline::body_end(s, rest),
+        Checked::Fails(code) => {
+            let w = commands::fail(code, turn, out);
+            Passed {
+                went: w,
+                end: outline::body_end(s, rest),
+            }
+        }
     }
 }
 
@@ -153,7 +159,7 @@ fn put_action(out: &mut [u8], p: usize, first: bool, c: Context, inner: &[u8], n
 // The action that stands at a place of the message.
 fn run_action(s: &[u8], i: usize, first: bool, table: &mut [u32], out: &mut [u8], p: usize) -> Moved
     requires { ⌜ (sound (now table) ≡ true) × (length (now out) ≤ 2049) ⌝ }
-    ensures { λ r. ⌜ Acts (runAction (actionAt (now (s .entry)) i .tree) (now (table .entry))) first (now (out .entry)) p (now (table .exit)) (now (out .exit)) r × (r .end ≡ actionAt (now (s .entry)) i .end) ⌝ }
+    ensures { λ r. ⌜ Acts (runAction (actionAt (now (s .entry)) i .tree) (state (now (table .entry)))) first (now (out .entry)) p (state (now (table .exit))) (now (out .exit)) r × (r .end ≡ actionAt (now (s .entry)) i .end) ⌝ }
 {
     let a = outline::action_places(s, i);
     let c = a.context;
@@ -176,7 +182,7 @@ fn run_action(s: &[u8], i: usize, first: bool, table: &mut [u32], out: &mut [u8]
 // The actions of a transaction, in order, until one stops it.
 pub fn run_actions(s: &[u8], from: usize, table: &mut [u32], out: &mut [u8], p: usize) -> Written
     requires { ⌜ (sound (now table) ≡ true) × (length (now out) ≤ 2049) ⌝ }
-    ensures { λ r. ⌜ Wrote (runActions (actionsAt (now (s .entry)) from .tree) true (now (table .entry))) (now (out .entry)) p (now (table .exit)) (now (out .exit)) (r .next) × (r .end ≡ actionsAt (now (s .entry)) from .end) ⌝ }
+    ensures { λ r. ⌜ Wrote (runActions (actionsAt (now (s .entry)) from .tree) true (state (now (table .entry)))) (now (out .entry)) p (state (now (table .exit))) (now (out .exit)) (r .next) × (r .end ≡ actionsAt (now (s .entry)) from .end) ⌝ }
 {
     let mut i = from;
     let mut left: usize = 16;

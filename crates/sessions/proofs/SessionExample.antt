@@ -10,6 +10,7 @@ use borrow.Author.Tests.{leb-true}
 use Rattle.base.specs.Pick.{pick}
 use Rattle.base.specs.Bytes.{text, put, _then_}
 use Rattle.base.proofs.OutLaws.{take-put}
+use Rattle.megaco.specs.State.{state}
 use Rattle.megaco.specs.Call.{Called, written, call}
 use Rattle.megaco.proofs.Opened.{opened}
 use Rattle.megaco.proofs.Examples.{Row, row, own, fresh, ended, examples, Hold, examples-hold}
@@ -38,18 +39,18 @@ first-rows (suc k) [] h = tt
 first-rows (suc k) (r ∷ rs) h = (h .0, first-rows k rs (h .1))
 
 -- the answer to a line whose call is known
-said : (m t a u : List ℕ) (ms : List (List ℕ)) → call 8 m t own (replicate 16640 0) ≡ written u a (replicate 16640 0) → leb (length a) 16640 ≡ true
+said : (m t a u : List ℕ) (ms : List (List ℕ)) → call 8 m (state t) own (replicate 16640 0) ≡ written (state u) a (replicate 16640 0) → leb (length a) 16640 ≡ true
     → sessionText (m ∷ ms) t ≡ ((a then (lineEnd ∷ [])) then sessionText ms u)
 unfolding sessionText answered answerText ownMid written pick
 said m t a u ms e h =
     let p : take (length a) (put (replicate 16640 0) 0 a) ≡ a = take-put (replicate 16640 0) a (omega (arith, leb-true (length a) 16640 h, length-replicate {A = ℕ} 16640 0)) in
-    ap (λ (c : Called). answerText c then sessionText ms (c .table)) e ∙ ap (λ (x : List ℕ). (x then (lineEnd ∷ [])) then sessionText ms u) p
+    ap (λ (c : Called). answerText c then sessionText ms (c .state .table)) e ∙ ap (λ (x : List ℕ). (x then (lineEnd ∷ [])) then sessionText ms u) p
 
 said-rows : (rs : List Row) (t u : List ℕ) → Hold rs → Follow t rs u → sessionText (messages rs) t ≡ answers rs (reportText u)
 said-rows [] t u h e = (unfold sessionText in ap reportText e)
 said-rows (row n b m a v ∷ rs) t u h f =
-    let e : call 8 m t own (replicate 16640 0) ≡ written v a (replicate 16640 0) =
-    (λ i. call (sym (f .0) i) m (sym (f .1) i) own (replicate 16640 0)) ∙ h .0 (replicate 16640 0) (omega (arith, length-replicate {A = ℕ} 16640 0)) in
+    let e : call 8 m (state t) own (replicate 16640 0) ≡ written (state v) a (replicate 16640 0) =
+    (λ i. call (sym (f .0) i) m (state (sym (f .1) i)) own (replicate 16640 0)) ∙ h .0 (replicate 16640 0) (omega (arith, length-replicate {A = ℕ} 16640 0)) in
     said m t a v (messages rs) e (f .2) ∙ ap (λ (x : List ℕ). (a then (lineEnd ∷ [])) then x) (said-rows rs v u (h .1) (f .3))
 
 -- ---- the session

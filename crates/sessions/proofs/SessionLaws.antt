@@ -83,7 +83,7 @@ module _ (line : List ℕ) (held : ℕ) (hold : Holds line held) (g : List ℕ) 
   unfolding restText
   rest-part u t s = rw (← append-assoc, held-is) (rest-cut (length line) (take held line ++ g) t s (omega (arith, hold .room)) (unended-append (hold .unended) u))
 
-rest-ended : (m t s : List ℕ) → Unended m → restText m t (lineEnd ∷ s) ≡ answerText (answered m t) then restText [] (answered m t .table) s
+rest-ended : (m t s : List ℕ) → Unended m → restText m t (lineEnd ∷ s) ≡ answerText (answered m t) then restText [] (answered m t .state .table) s
 unfolding restText sessionText
 rest-ended m t s u = rw (lines-ended u s)
 
@@ -133,7 +133,7 @@ module _ (s : List ℕ) (from e : ℕ) (is : e ≡ lineEndAt s from) (line : Lis
 
 -- ---- the end of the input
 
-rest-last : (m t : List ℕ) → Unended m → 0 < length m → restText m t [] ≡ answerText (answered m t) then reportText (answered m t .table)
+rest-last : (m t : List ℕ) → Unended m → 0 < length m → restText m t [] ≡ answerText (answered m t) then reportText (answered m t .state .table)
 unfolding restText sessionText linesOf
 rest-last [] t u l = absurd (omega arith)
 rest-last (b ∷ h) t u l = rw (lines-fronted u [], fronted-is b h [], append-nil)

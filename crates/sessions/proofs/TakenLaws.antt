@@ -30,7 +30,7 @@ taken-part (byte {b} {s} e u) h t r l =
     rw e (taken-part u x t r m ∙ ap (λ (z : List ℕ). takenIn z t r) y)
 
 -- a line's end
-pub taken-end : (h t s : List ℕ) → takenIn h t (lineEnd ∷ s) ≡ takenIn [] (answered h t .table) s
+pub taken-end : (h t s : List ℕ) → takenIn h t (lineEnd ∷ s) ≡ takenIn [] (answered h t .state .table) s
 unfolding takenIn pick
 taken-end h t s = refl
 
@@ -46,7 +46,7 @@ either false p q p′ q′ r e f = f
 pub taken-more : (h t s r : List ℕ) → takenIn h t (s ++ r) ≡ onward r (takenIn h t s)
 unfolding takenIn
 taken-more h t [] r = refl
-taken-more h t (b ∷ s) r = either (eqb b lineEnd) _ _ _ _ r (taken-more [] (answered h t .table) s r) (taken-more (take lineRoom (h ++ (b ∷ []))) t s r)
+taken-more h t (b ∷ s) r = either (eqb b lineEnd) _ _ _ _ r (taken-more [] (answered h t .state .table) s r) (taken-more (take lineRoom (h ++ (b ∷ []))) t s r)
 
 -- ---- a chunk, turn by turn
 

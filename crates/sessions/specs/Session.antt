@@ -10,6 +10,7 @@ use Rattle.base.specs.Pick.{pick}
 use Rattle.base.specs.Bytes.{text, _then_}
 use Rattle.base.specs.Out.{Appended}
 use Rattle.megaco.specs.Table.{words, sound}
+use Rattle.megaco.specs.State.{state}
 use Rattle.megaco.specs.Call.{Called, call}
 use Rattle.sessions.specs.Lines.{lineEnd, linesOf, Unended}
 use Rattle.sessions.specs.Listing.{lines, reportText, refusedText}
@@ -28,7 +29,7 @@ ready t = eqb (length t) (words lines) && sound t
 
 -- the call for a line
 unfoldable pub answered : List ℕ → List ℕ → Called
-answered m t = call lines m t ownMid (replicate 16640 0)
+answered m t = call lines m (state t) ownMid (replicate 16640 0)
 
 -- "Per line it prints the reply or `refused 1`"
 unfoldable pub answerText : Called → List ℕ
@@ -37,7 +38,7 @@ answerText c = pick (eqb (c .refusal) 0) (take (c .size) (c .reply) then (lineEn
 -- the answers to lines one after another, and then the contexts
 unfoldable pub sessionText : List (List ℕ) → List ℕ → List ℕ
 sessionText [] t = reportText t
-sessionText (m ∷ ms) t = let c = answered m t in answerText c then sessionText ms (c .table)
+sessionText (m ∷ ms) t = let c = answered m t in answerText c then sessionText ms (c .state .table)
 
 -- what is printed for the rest s of an input, where the bytes h of a line are held and the table is t
 unfoldable pub restText : List ℕ → List ℕ → List ℕ → List ℕ
@@ -64,7 +65,7 @@ between h t = record { held = h; table = t }
 -- once more input is taken: each line that ends in it has been answered, and of one that has not the first 4,097 bytes are held
 unfoldable pub takenIn : List ℕ → List ℕ → List ℕ → Between
 takenIn h t [] = between h t
-takenIn h t (b ∷ s) = pick (eqb b lineEnd) (takenIn [] (answered h t .table) s) (takenIn (take lineRoom (h ++ (b ∷ []))) t s)
+takenIn h t (b ∷ s) = pick (eqb b lineEnd) (takenIn [] (answered h t .state .table) s) (takenIn (take lineRoom (h ++ (b ∷ []))) t s)
 
 -- reads one after another, the last one first
 unfoldable pub readSoFar : List (List ℕ) → List ℕ
@@ -84,7 +85,7 @@ mostReads = 18446744073709551615
 -- the answer to a line stands at the start of a buffer, r bytes long, and the table is that of its call
 pub record Answers (m t o t′ o′ : List ℕ) (r : ℕ) : Type 0 where
   pub put : Appended o 0 (answerText (answered m t)) o′ r
-  pub table : t′ ≡ answered m t .table
+  pub table : t′ ≡ answered m t .state .table
 
 -- a buffer for the answer to a line: a reply and a line end
 abbrev pub answerRoom : ℕ

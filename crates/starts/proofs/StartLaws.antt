@@ -1,4 +1,4 @@
--- An action's start: the properties one by one, the code of its tests, and what it writes.
+-- An action's start: the properties one by one, its tests, and what it writes.
 use Prim.Native.Nat.{ℕ, suc, _+_, _*_, _-_, _<_, _≤_}
 use mathlib.Core.Path.{_≡_, refl, sym, ap, _∙_}
 use mathlib.Core.Bool.{Bool, true, false, _&&_, _||_, true≢false}
@@ -13,19 +13,21 @@ use Rattle.base.specs.Lists.{isAt}
 use Rattle.megaco.specs.Bytes.{comma}
 use Rattle.megaco.specs.Table.{Write, write, cell, rec, store, apply, priorityOf, emergencyOf}
 use Rattle.megaco.specs.Reading.{unlimited, isProperty, wordHere}
-use Rattle.megaco.specs.Running.{refused, done, judge, newRecord, anyGiven, over15, setProperties, startChecks, startWrites}
+use Rattle.megaco.specs.Running.{check, judge, newRecord, anyGiven, over15, setProperties, startChecks, startWrites}
 use Rattle.megaco.specs.declared.Context.{Context}
 use Rattle.megaco.specs.declared.Context.the-variants.{Null, Numbered, Choose, All}
+use Rattle.megaco.specs.declared.Checked.{Checked}
+use Rattle.megaco.specs.declared.Checked.the-variants.{Passes, Fails}
+use Rattle.megaco.specs.declared.Seen.{Seen}
 use Rattle.megaco.specs.declared.Property.{Property}
 use Rattle.megaco.specs.declared.Property.the-variants.{Priority, Emergency}
 use Rattle.syntax.specs.Production.{pastSign}
 use Rattle.syntax.specs.Places.{propertyAt, propertiesOf}
 use Rattle.outline.specs.declared.PropertyPlaces.{PropertyPlaces}
 use Rattle.outline.specs.Outline.{propertyPlaces}
-use Rattle.attempt.specs.Judging.{codeOf, coded, byCode}
-use Rattle.attempt.proofs.JudgeLaws.{judge-code, by-refused}
+use Rattle.attempt.proofs.JudgeLaws.{passed-first}
 use Rattle.starts.specs.declared.Given.{Given}
-use Rattle.starts.specs.Starting.{overOne, setOne, propertiesIn, givenBy, startCode, wroteStart}
+use Rattle.starts.specs.Starting.{overOne, setOne, propertiesIn, givenBy, startTests, wroteStart}
 
 -- ---- one property
 
@@ -160,24 +162,24 @@ module _ (ps : List Property) (was : ℕ) (g : Given) (e : g ≡ givenBy ps was)
   unfolding givenBy pick
   given-held f = ap (λ (x : Given). x .held) e ∙ rw (sym given-over ∙ f)
 
--- ---- the code of the tests
+-- ---- the tests
 
-module _ (c : Context) (any over alone : Bool) (held r : ℕ) where
-  pub code-null : c ≡ Null → r ≡ pick any 421 0 → r ≡ startCode c any over alone held
-  unfolding startCode
-  code-null e p = rw e p
+module _ (c : Context) (any over alone : Bool) (held : ℕ) (r : Checked) where
+  pub test-null : c ≡ Null → r ≡ judge (check any 421 ∷ []) → r ≡ judge (startTests c any over alone held)
+  unfolding startTests
+  test-null e p = rw e p
 
-  pub code-numbered : (n : ℕ) → c ≡ Numbered n → r ≡ pick over 449 (pick (any && eqb held 0) 411 0) → r ≡ startCode c any over alone held
-  unfolding startCode
-  code-numbered n e p = rw e p
+  pub test-numbered : (n : ℕ) → c ≡ Numbered n → r ≡ judge (check over 449 ∷ check (any && eqb held 0) 411 ∷ []) → r ≡ judge (startTests c any over alone held)
+  unfolding startTests
+  test-numbered n e p = rw e p
 
-  pub code-choose : c ≡ Choose → r ≡ pick (any && alone) 421 (pick over 449 0) → r ≡ startCode c any over alone held
-  unfolding startCode
-  code-choose e p = rw e p
+  pub test-choose : c ≡ Choose → r ≡ judge (check (any && alone) 421 ∷ check over 449 ∷ []) → r ≡ judge (startTests c any over alone held)
+  unfolding startTests
+  test-choose e p = rw e p
 
-  pub code-all : c ≡ All → r ≡ 421 → r ≡ startCode c any over alone held
-  unfolding startCode
-  code-all e p = rw e p
+pub test-all : (c : Context) (any over alone : Bool) (held : ℕ) → c ≡ All → Fails 421 ≡ judge (startTests c any over alone held)
+unfolding startTests judge pick
+test-all c any over alone held e = rw e
 
 -- ---- what it writes
 
@@ -210,53 +212,28 @@ start-writes-is (Numbered n) ps held = refl
 start-writes-is Choose ps held = refl
 start-writes-is All ps held = refl
 
--- ---- the code tells how the tests are judged
+-- ---- the tests are the definition's
 
-pub start-code-is : (c : Context) (ps : List Property) (alone : Bool) (held : ℕ)
-    → startCode c (anyGiven ps) (over15 ps) alone held ≡ codeOf (startChecks c ps alone held)
-unfolding startCode startChecks codeOf pick
-start-code-is Null ps alone held = refl
-start-code-is (Numbered n) ps alone held = refl
-start-code-is Choose ps alone held = refl
-start-code-is All ps alone held = refl
+pub start-tests-are : (c : Context) (ps : List Property) (alone : Bool) (there : Seen)
+    → startTests c (anyGiven ps) (over15 ps) alone (there .held) ≡ startChecks c ps alone there
+unfolding startTests startChecks
+start-tests-are Null ps alone there = refl
+start-tests-are (Numbered n) ps alone there = refl
+start-tests-are Choose ps alone there = refl
+start-tests-are All ps alone there = refl
 
-checks-coded : (c : Context) (ps : List Property) (alone : Bool) (held : ℕ) → coded (startChecks c ps alone held) ≡ true
-unfolding startChecks coded
-checks-coded Null ps alone held = refl
-checks-coded (Numbered n) ps alone held = refl
-checks-coded Choose ps alone held = refl
-checks-coded All ps alone held = refl
-
-module _ (c : Context) (ps : List Property) (alone : Bool) (held : ℕ) where
-  start-judged : (ws : List Write) → judge (startChecks c ps alone held) ws ≡ byCode (startCode c (anyGiven ps) (over15 ps) alone held) ws
-  start-judged ws = judge-code (startChecks c ps alone held) ws (checks-coded c ps alone held) ∙ rw (start-code-is c ps alone held)
-
-  pub start-done : (ws : List Write) → startCode c (anyGiven ps) (over15 ps) alone held ≡ 0 → judge (startChecks c ps alone held) ws ≡ done ws
-  unfolding byCode
-  start-done ws e = start-judged ws ∙ rw e
-
-  pub start-refused : (ws : List Write) → (startCode c (anyGiven ps) (over15 ps) alone held ≡ 0 → ⊥)
-      → judge (startChecks c ps alone held) ws ≡ refused (startCode c (anyGiven ps) (over15 ps) alone held)
-  start-refused ws n = start-judged ws ∙ by-refused (startCode c (anyGiven ps) (over15 ps) alone held) ws n
-
--- nothing is over 15 where no test fails: in `-` none is given then
+-- nothing is over 15 where every test is passed: in `-` none is given then
 over-given : (ps : List Property) → anyGiven ps ≡ false → over15 ps ≡ false
 unfolding anyGiven over15
 over-given [] e = refl
 over-given (x ∷ ps) e = absurd (true≢false e)
 
-passed : (b : Bool) (k r : ℕ) → pick b (suc k) r ≡ 0 → (b ≡ false) × (r ≡ 0)
-unfolding pick
-passed true k r e = absurd (let z : suc k ≡ 0 = e in omega arith)
-passed false k r e = (refl, e)
-
-pub start-over : (c : Context) (ps : List Property) (alone : Bool) (held : ℕ)
-    → startCode c (anyGiven ps) (over15 ps) alone held ≡ 0 → over15 ps ≡ false
-unfolding startCode
-start-over Null ps alone held e = over-given ps (passed (anyGiven ps) 420 0 e .0)
-start-over (Numbered n) ps alone held e = passed (over15 ps) 448 (pick (anyGiven ps && eqb held 0) 411 0) e .0
-start-over Choose ps alone held e = passed (over15 ps) 448 0 (passed (anyGiven ps && alone) 420 (pick (over15 ps) 449 0) e .1) .0
-start-over All ps alone held e = absurd (let z : _≡_ {A = ℕ} 421 0 = e in omega arith)
+pub start-over : (c : Context) (ps : List Property) (alone : Bool) (there : Seen) → judge (startChecks c ps alone there) ≡ Passes → over15 ps ≡ false
+unfolding startChecks
+start-over Null ps alone there e = over-given ps (passed-first (anyGiven ps) 421 [] e .0)
+start-over (Numbered n) ps alone there e = passed-first (over15 ps) 449 _ e .0
+start-over Choose ps alone there e = passed-first (over15 ps) 449 [] (passed-first (anyGiven ps && alone) 421 _ e .1) .0
+start-over All ps alone there e = absurd (true≢false (passed-first true 421 [] e .0))
 
 -- ---- properties are given where a property stands
 

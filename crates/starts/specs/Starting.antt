@@ -1,12 +1,12 @@
 -- What the functions of an action's start promise.
 use Prim.Native.Nat.{ℕ, _+_, _*_}
-use mathlib.Core.Bool.{Bool, false, _&&_}
+use mathlib.Core.Bool.{Bool, true, false, _&&_}
 use mathlib.Core.List.{List, [], _∷_}
 use lib.Dec.{ltb, eqb}
 use Rattle.base.specs.Pick.{pick}
 use Rattle.megaco.specs.Table.{Write, write, cell, rec, priorityOf, emergencyOf}
 use Rattle.megaco.specs.Reading.{unlimited}
-use Rattle.megaco.specs.Running.{newRecord, over15, setProperties}
+use Rattle.megaco.specs.Running.{Check, check, newRecord, over15, setProperties}
 use Rattle.megaco.specs.declared.Context.{Context}
 use Rattle.megaco.specs.declared.Context.the-variants.{Null, Numbered, Choose, All}
 use Rattle.megaco.specs.declared.Property.{Property}
@@ -32,12 +32,12 @@ propertiesIn s at = propertiesOf (unlimited s) s at
 unfoldable pub givenBy : List Property → ℕ → Given
 givenBy ps was = record { over = over15 ps; fresh = pick (over15 ps) 0 (setProperties ps newRecord); held = pick (over15 ps) 0 (setProperties ps was) }
 
--- the code of the first test that fails at the start, 0 if there is none
-unfoldable pub startCode : Context → Bool → Bool → Bool → ℕ → ℕ
-startCode Null any over alone held = pick any 421 0
-startCode (Numbered c) any over alone held = pick over 449 (pick (any && eqb held 0) 411 0)
-startCode Choose any over alone held = pick (any && alone) 421 (pick over 449 0)
-startCode All any over alone held = 421
+-- the tests at the start, by what is known of the properties: whether any is given, and one over 15
+unfoldable pub startTests : Context → Bool → Bool → Bool → ℕ → List Check
+startTests Null any over alone held = check any 421 ∷ []
+startTests (Numbered c) any over alone held = check over 449 ∷ check (any && eqb held 0) 411 ∷ []
+startTests Choose any over alone held = check (any && alone) 421 ∷ check over 449 ∷ []
+startTests All any over alone held = check true 421 ∷ []
 
 -- the record with its properties set
 unfoldable pub wroteStart : Context → Bool → ℕ → List Write

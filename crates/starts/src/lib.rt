@@ -3,7 +3,9 @@ ghost use mathlib.Core.Path.{_≡_};
 ghost use mathlib.Core.Bool.{true, false};
 ghost use Prim.Native.Nat.{_≤_};
 ghost use Rattle.megaco.specs.Table.{apply, priorityOf, emergencyOf};
-ghost use Rattle.starts.specs.Starting.{overOne, setOne, startCode, wroteStart, propertiesIn, givenBy};
+ghost use Rattle.megaco.specs.Running.{judge};
+ghost use Rattle.starts.specs.Starting.{overOne, setOne, startTests, wroteStart, propertiesIn, givenBy};
+use megaco::Checked;
 use megaco::Context;
 use megaco::Property;
 
@@ -102,36 +104,36 @@ pub fn read_properties(s: &[u8], at: usize, held: u32) -> Given
     }
 }
 
-// The code of an action error at the start, or 0.
-pub fn start_code(c: Context, any: bool, over: bool, alone: bool, held: u32) -> u32
-    ensures { λ r. ⌜ r ≡ startCode c any over alone held ⌝ }
+// The tests at the start: the code of an action error.
+pub fn judge_start(c: Context, any: bool, over: bool, alone: bool, held: u32) -> Checked
+    ensures { λ r. ⌜ r ≡ judge (startTests c any over alone held) ⌝ }
 {
     match c {
         Context::Null => {
             if any {
-                return 421;
+                return Checked::Fails(421);
             }
-            0
+            Checked::Passes
         }
         Context::Numbered(_) => {
             if over {
-                return 449;
+                return Checked::Fails(449);
             }
             if any & (held == 0) {
-                return 411;
+                return Checked::Fails(411);
             }
-            0
+            Checked::Passes
         }
         Context::Choose => {
             if any & alone {
-                return 421;
+                return Checked::Fails(421);
             }
             if over {
-                return 449;
+                return Checked::Fails(449);
             }
-            0
+            Checked::Passes
         }
-        Context::All => 421,
+        Context::All => Checked::Fails(421),
     }
 }
 

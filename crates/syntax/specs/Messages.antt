@@ -1,7 +1,7 @@
 -- Transactions and the message by position. `Told m` stands beside a message that Reading (crate `megaco`) reads: the verdict, where a fault is
 -- told (first pass), the transactions, told without failing (second pass), and the law that both together are m.
 use Prim.Native.Nat.{ℕ, zero, suc, _+_}
-use mathlib.Core.Path.{_≡_, refl, _∙_}
+use mathlib.Core.Path.{_≡_, refl, sym, ap, _∙_}
 use mathlib.Core.Bool.{Bool, true, false}
 use mathlib.Core.List.{List, [], _∷_}
 use lib.ListN.{length}
@@ -263,6 +263,24 @@ coded WellFormed xs e = refl
 coded Fault400 xs e = absurd (omega (arith, e))
 coded (Fault403 id) xs e = absurd (omega (arith, e))
 coded WrongVersion406 xs e = absurd (omega (arith, e))
+
+-- the verdict on what is read
+unfoldable pub verdictOf : Message → Verdict
+verdictOf (wellFormed xs) = WellFormed
+verdictOf fault400 = Fault400
+verdictOf (fault403 id) = Fault403 id
+verdictOf fault406 = WrongVersion406
+
+told-verdict : (v : Verdict) (xs : List Transaction) → v ≡ verdictOf (told v xs)
+unfolding verdictOf told
+told-verdict WellFormed xs = refl
+told-verdict Fault400 xs = refl
+told-verdict (Fault403 id) xs = refl
+told-verdict WrongVersion406 xs = refl
+
+-- the verdict told by position is that on the message that Reading reads
+pub verdict-is : (s : List ℕ) → verdict s ≡ verdictOf (messageR s)
+verdict-is s = told-verdict (verdict s) (messageOf s) ∙ ap verdictOf (sym (message-told s))
 
 -- where the code is 0, the message is the tree that is run
 pub run-at-0 : (s : List ℕ) → codeOf (verdict s) ≡ 0 → messageR s ≡ wellFormed (messageOf s)

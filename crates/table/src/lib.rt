@@ -213,10 +213,10 @@ fn ephemeral_number(table: &[u32], i: usize) -> usize
 
 // Where the map's place of an ephemeral stands, k being its number.
 fn map_place(table: &[u32], k: usize) -> usize
-    ensures { λ r. ⌜ r ≡ terminations (fitted (now (table .entry))) + (terminations (fitted (now (table .entry))) + 128 + k / 32) ⌝ }
+    ensures { λ r. ⌜ r ≡ terminations (fitted (now (table .entry))) + (terminations (fitted (now (table .entry))) + (128 + k / 32)) ⌝ }
 {
     let n = terminations(table);
-    n + (n + CONTEXTS as usize + k / 32)
+    n + (n + (CONTEXTS as usize + k / 32))
 }
 
 // Marks an ephemeral in the map as existing or absent.

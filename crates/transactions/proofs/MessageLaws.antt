@@ -9,11 +9,12 @@ use Rattle.base.specs.Bytes.{text}
 use Rattle.base.specs.Out.{Appended}
 use Rattle.base.proofs.OutLaws.{same-length-by}
 use Rattle.megaco.specs.Table.{sound}
+use Rattle.megaco.specs.State.{State, state}
 use Rattle.megaco.specs.Tree.{Transaction, transaction}
 use Rattle.megaco.specs.Reading.{messageR}
 use Rattle.megaco.specs.Reply.{errorText, replyText}
 use Rattle.megaco.specs.Running.{runTransaction, runTransactions, runMessage}
-use Rattle.syntax.specs.Messages.{verdict, transactionOf, transactionsAt, headerEnd, messageAt, messageOf, told, message-told}
+use Rattle.syntax.specs.Messages.{verdictOf, verdict-is, transactionOf, transactionsAt, headerEnd, messageAt, messageOf, told, message-told}
 use Rattle.syntax.specs.Places.{actionsAt}
 use Rattle.syntax.specs.declared.Verdict.{Verdict}
 use Rattle.syntax.specs.declared.Verdict.the-variants.{WellFormed, Fault400, Fault403, WrongVersion406}
@@ -31,7 +32,7 @@ transaction-at : (s : List ℕ) (i : ℕ) (a : TransactionPlaces) → a ≡ tran
 unfolding transactionOf transactionPlaces
 transaction-at s i a e = rw e
 
-pub transaction-runs : (s : List ℕ) (i : ℕ) (a : TransactionPlaces) (t z z₁ z₂ z₃ : List ℕ) (n m e : ℕ) (t′ o : List ℕ) (p : ℕ) (o′ : List ℕ) (r : ℕ) → a ≡ transactionPlaces s i
+pub transaction-runs : (s : List ℕ) (i : ℕ) (a : TransactionPlaces) (t : State) (z z₁ z₂ z₃ : List ℕ) (n m e : ℕ) (t′ : State) (o : List ℕ) (p : ℕ) (o′ : List ℕ) (r : ℕ) → a ≡ transactionPlaces s i
     → z ≡ replicate 2049 0 → Appended z 0 (replyOpen (a .id)) z₁ n → Wrote (runActions (actionsAt s (a .body) .tree) true t) z₁ n t′ z₂ m → Appended z₂ m (text "}") z₃ e
     → Appended o p (limitedFrom (a .id) z₃ e) o′ r → Wrote (runTransaction (transactionOf s i) t) o p t′ o′ r
 transaction-runs s i a t z z₁ z₂ z₃ n m e t′ o p o′ r q g f w h l =
@@ -45,18 +46,18 @@ scratch-fits z o p bs r e a =
     let q : length o ≡ length z = same-length-by z p bs o r a in
     omega arith
 
-pub wrote-sound : (x : Transaction) (t o : List ℕ) (p : ℕ) (t₂ o₂ : List ℕ) (q : ℕ) → Wrote (runTransaction x t) o p t₂ o₂ q → sound t ≡ true → sound t₂ ≡ true
-wrote-sound x t o p t₂ o₂ q w h = rw (w .table) (transaction-sound x t h)
+pub wrote-sound : (x : Transaction) (t o : List ℕ) (p : ℕ) (t₂ o₂ : List ℕ) (q : ℕ) → Wrote (runTransaction x (state t)) o p (state t₂) o₂ q → sound t ≡ true → sound t₂ ≡ true
+wrote-sound x t o p t₂ o₂ q w h = subst (λ (u : State). sound (u .table) ≡ true) (sym (w .state)) (transaction-sound x (state t) h)
 
-pub message-begins : (s : List ℕ) (i : ℕ) (t o : List ℕ) (p : ℕ) → i ≡ headerEnd s → Leads (runTransactions (messageOf s) t) o p (runTransactions (transactionsAt 8 s i .tree) t) o p
+pub message-begins : (s : List ℕ) (i : ℕ) (t : State) (o : List ℕ) (p : ℕ) → i ≡ headerEnd s → Leads (runTransactions (messageOf s) t) o p (runTransactions (transactionsAt 8 s i .tree) t) o p
 unfolding messageAt
 message-begins s i t o p e = rw e (begins (runTransactions (transactionsAt 8 s (headerEnd s) .tree) t) o p)
 
 -- ---- a message by its verdict
 
-module _ (s : List ℕ) (t o : List ℕ) (p : ℕ) (t′ o′ : List ℕ) (r : ℕ) (v : Verdict) (e : v ≡ verdict s) where
+module _ (s : List ℕ) (t : State) (o : List ℕ) (p : ℕ) (t′ : State) (o′ : List ℕ) (r : ℕ) (v : Verdict) (e : v ≡ verdictOf (messageR s)) where
   as-told : (w : Verdict) → v ≡ w → messageR s ≡ told w (messageOf s)
-  as-told w f = message-told s ∙ ap (λ (y : Verdict). told y (messageOf s)) (sym e ∙ f)
+  as-told w f = message-told s ∙ ap (λ (y : Verdict). told y (messageOf s)) (verdict-is s ∙ sym e ∙ f)
 
   pub reads-well : v ≡ WellFormed → Wrote (runTransactions (messageOf s) t) o p t′ o′ r → Wrote (runMessage (messageR s) t) o p t′ o′ r
   unfolding told runMessage
@@ -64,12 +65,12 @@ module _ (s : List ℕ) (t o : List ℕ) (p : ℕ) (t′ o′ : List ℕ) (r : �
 
   pub reads-400 : v ≡ Fault400 → Appended o p (errorText 400) o′ r → Wrote (runMessage (messageR s) t) o p t o′ r
   unfolding told runMessage
-  reads-400 f a = rw (as-told Fault400 f) (record { table = refl; text = a })
+  reads-400 f a = rw (as-told Fault400 f) (record { state = refl; text = a })
 
   pub reads-403 : (id : ℕ) → v ≡ Fault403 id → Appended o p (replyText id (errorText 403)) o′ r → Wrote (runMessage (messageR s) t) o p t o′ r
   unfolding told runMessage
-  reads-403 id f a = rw (as-told (Fault403 id) f) (record { table = refl; text = a })
+  reads-403 id f a = rw (as-told (Fault403 id) f) (record { state = refl; text = a })
 
   pub reads-406 : v ≡ WrongVersion406 → Appended o p (errorText 406) o′ r → Wrote (runMessage (messageR s) t) o p t o′ r
   unfolding told runMessage
-  reads-406 f a = rw (as-told WrongVersion406 f) (record { table = refl; text = a })
+  reads-406 f a = rw (as-told WrongVersion406 f) (record { state = refl; text = a })

@@ -2,6 +2,7 @@
 ghost use mathlib.Core.Path.{_≡_};
 ghost use mathlib.Core.Bool.{true};
 ghost use Rattle.megaco.specs.Table.{sound};
+ghost use Rattle.megaco.specs.State.{state};
 ghost use Rattle.megaco.specs.Reading.{messageR};
 ghost use Rattle.megaco.specs.Running.{runTransaction, runTransactions, runMessage};
 ghost use Rattle.syntax.specs.Messages.{transactionOf, transactionEnd, messageOf};
@@ -12,7 +13,7 @@ use syntax::Verdict;
 // The transaction that stands at a place of the message: its table, and its `P=id{..}` of at most 2,048 bytes.
 fn run_transaction(s: &[u8], i: usize, table: &mut [u32], out: &mut [u8], p: usize) -> Written
     requires { ⌜ sound (now table) ≡ true ⌝ }
-    ensures { λ r. ⌜ Wrote (runTransaction (transactionOf (now (s .entry)) i) (now (table .entry))) (now (out .entry)) p (now (table .exit)) (now (out .exit)) (r .next) × (r .end ≡ transactionEnd (now (s .entry)) i) ⌝ }
+    ensures { λ r. ⌜ Wrote (runTransaction (transactionOf (now (s .entry)) i) (state (now (table .entry)))) (now (out .entry)) p (state (now (table .exit))) (now (out .exit)) (r .next) × (r .end ≡ transactionEnd (now (s .entry)) i) ⌝ }
 {
     let a = outline::transaction_places(s, i);
     let id = a.id;
@@ -32,7 +33,7 @@ fn run_transaction(s: &[u8], i: usize, table: &mut [u32], out: &mut [u8], p: usi
 // The transactions of a message that reads, in order.
 fn run_all(s: &[u8], table: &mut [u32], out: &mut [u8], p: usize) -> usize
     requires { ⌜ sound (now table) ≡ true ⌝ }
-    ensures { λ r. ⌜ Wrote (runTransactions (messageOf (now (s .entry))) (now (table .entry))) (now (out .entry)) p (now (table .exit)) (now (out .exit)) r ⌝ }
+    ensures { λ r. ⌜ Wrote (runTransactions (messageOf (now (s .entry))) (state (now (table .entry)))) (now (out .entry)) p (state (now (table .exit))) (now (out .exit)) r ⌝ }
 {
     let mut i = outline::header_end(s);
     let mut left: usize = 8;
@@ -54,7 +55,7 @@ fn run_all(s: &[u8], table: &mut [u32], out: &mut [u8], p: usize) -> usize
 // A message, read whole before anything runs.
 pub fn run_message(s: &[u8], table: &mut [u32], out: &mut [u8], p: usize) -> usize
     requires { ⌜ sound (now table) ≡ true ⌝ }
-    ensures { λ r. ⌜ Wrote (runMessage (messageR (now (s .entry))) (now (table .entry))) (now (out .entry)) p (now (table .exit)) (now (out .exit)) r ⌝ }
+    ensures { λ r. ⌜ Wrote (runMessage (messageR (now (s .entry))) (state (now (table .entry)))) (now (out .entry)) p (state (now (table .exit))) (now (out .exit)) r ⌝ }
 {
     let v = message::verdict(s);
     match v {

@@ -14,20 +14,21 @@ use Rattle.base.specs.Bytes.{text, _then_}
 use Rattle.base.specs.Out.{Appended}
 use Rattle.base.proofs.OutLaws.{_▸_, none, take-put}
 use Rattle.base.proofs.PickLaws.{pick-ind}
-use Rattle.megaco.specs.Reply.{Report, tried, reportsText}
+use Rattle.megaco.specs.Reply.{nothing, Report, done, refused, triedText, separator, codeText, reportsText}
 use Rattle.report.specs.Rows.{firstAfter}
-use Rattle.report.proofs.ReportLaws.{reports-split}
-use Rattle.megaco.specs.Running.{Outcome, outcome, effect, concluded, Result, refused, checks, changes, attempt, settled, numberOf, look, tries, wanted, matchesFrom, matches, aimMatches, missed, aimed}
+use Rattle.report.proofs.ReportLaws.{reports-split, refused-is, done-is}
+use Rattle.megaco.specs.Running.{Outcome, outcome, effect, concluded, judge, checks, changes, settled, numberOf, look, tries, wanted, matchesFrom, matches, aimMatches, missed, aimed}
 use Rattle.megaco.specs.Table.{mostLines, terminations, fitted, Sized, contextWords, exists, apply}
+use Rattle.megaco.specs.State.{State, state, wrote}
 use Rattle.megaco.specs.Names.{inRange, nameText}
-use Rattle.attempt.specs.Judging.{codeOf}
-use Rattle.attempt.proofs.JudgeLaws.{attempt-done, attempt-refused}
 use Rattle.view.specs.Noted.{Matched}
 use Rattle.aims.specs.Targets.{aimOf}
 use Rattle.aims.specs.declared.Target.{Target}
 use Rattle.aims.specs.declared.Target.the-variants.{Misses, Gateway, One, Many}
 use Rattle.megaco.specs.declared.Range.{Range}
 use Rattle.megaco.specs.declared.View.{View}
+use Rattle.megaco.specs.declared.Checked.{Checked}
+use Rattle.megaco.specs.declared.Checked.the-variants.{Passes, Fails}
 use Rattle.megaco.specs.declared.Context.{Context}
 use Rattle.megaco.specs.declared.Op.{Op}
 use Rattle.megaco.specs.declared.Values.{Values}
@@ -46,12 +47,12 @@ pub join-text : (first : Bool) (rs ys : List Report) → Some rs → reportsText
 unfolding firstAfter
 join-text first _ ys (some {r = r} {rs = rs}) = reports-split first (r ∷ rs) ys
 
-pub did-join : (x y : Outcome) (first : Bool) (o : List ℕ) (at : ℕ) (t₁ o₁ t′ o′ : List ℕ) (w r : Went) → Some (x .reports)
+pub did-join : (x y : Outcome) (first : Bool) (o : List ℕ) (at : ℕ) (t₁ : State) (o₁ : List ℕ) (t′ : State) (o′ : List ℕ) (w r : Went) → Some (x .reports)
     → Did x first o at t₁ o₁ w → Did y false o₁ (w .next) t′ o′ r → Did (joined x y) first o at t′ o′ (went (r .next) (r .at) (w .going && r .going))
 unfolding joined
 did-join x y first o at t₁ o₁ t′ o′ w r s p q =
     record {
-      table = q .table;
+      state = q .state;
       text = rw (join-text first (x .reports) (y .reports) s) (p .text ▸ q .text);
       place = q .place;
       going = λ i. p .going i && q .going i;
@@ -59,7 +60,7 @@ did-join x y first o at t₁ o₁ t′ o′ w r s p q =
 
 -- a run that has come to y, having been good so far, leads to x
 pub record Leads (x : Outcome) (first : Bool) (o : List ℕ) (at : ℕ) (good : Bool) (y : Outcome) (f : Bool) (o₁ : List ℕ) (p : ℕ) : Type 0 where
-  pub to : (t′ o′ : List ℕ) (n : ℕ) (c : Context) (g : Bool) → Did y f o₁ p t′ o′ (went n c g) → Did x first o at t′ o′ (went n c (good && g))
+  pub to : (t′ : State) (o′ : List ℕ) (n : ℕ) (c : Context) (g : Bool) → Did y f o₁ p t′ o′ (went n c g) → Did x first o at t′ o′ (went n c (good && g))
 
 pub begins : (x : Outcome) (first : Bool) (o : List ℕ) (at : ℕ) → Leads x first o at true x first o at
 begins x first o at = record { to = λ t′ o′ n c g d. d }
@@ -69,7 +70,7 @@ and-assoc true b c = refl
 and-assoc false b c = refl
 
 -- the next outcome is written
-pub leads-on : (x : Outcome) (first : Bool) (o : List ℕ) (at : ℕ) (good : Bool) (a b : Outcome) (f : Bool) (o₁ o₂ t₂ : List ℕ) (p : ℕ) (w : Went)
+pub leads-on : (x : Outcome) (first : Bool) (o : List ℕ) (at : ℕ) (good : Bool) (a b : Outcome) (f : Bool) (o₁ o₂ : List ℕ) (t₂ : State) (p : ℕ) (w : Went)
     → Some (a .reports) → Leads x first o at good (joined a b) f o₁ p → Did a f o₁ p t₂ o₂ w → Leads x first o at (good && w .going) b false o₂ (w .next)
 leads-on x first o at good a b f o₁ o₂ t₂ p w s l d =
     record {
@@ -79,14 +80,14 @@ leads-on x first o at good a b f o₁ o₂ t₂ p w s l d =
     }
 
 -- nothing more is done
-pub done-none : (t o : List ℕ) (first : Bool) (at : ℕ) (c : Context) → Did (outcome t [] c true) first o at t o (went at c true)
+pub done-none : (t : State) (o : List ℕ) (first : Bool) (at : ℕ) (c : Context) → Did (outcome t [] c true) first o at t o (went at c true)
 unfolding reportsText
-done-none t o first at c = record { table = refl; text = none o at; place = refl; going = refl }
+done-none t o first at c = record { state = refl; text = none o at; place = refl; going = refl }
 
 -- ---- tries
 
 module _ (op : Op) (wild : Bool) (name : List ℕ) (given : ℕ) (vs : Values) where
-  abbrev one : ℕ → Context → List ℕ → Outcome
+  abbrev one : ℕ → Context → State → Outcome
   one i at t = tries op wild name given vs (i ∷ []) at t
 
   and-true : (a : Bool) → a && true ≡ a
@@ -94,30 +95,30 @@ module _ (op : Op) (wild : Bool) (name : List ℕ) (given : ℕ) (vs : Values) w
   and-true false = refl
 
   -- an attempt and the others after it
-  pub tries-join : (i : ℕ) (is : List ℕ) (at : Context) (t : List ℕ)
-      → tries op wild name given vs (i ∷ is) at t ≡ joined (one i at t) (tries op wild name given vs is (one i at t .at) (one i at t .table))
+  pub tries-join : (i : ℕ) (is : List ℕ) (at : Context) (t : State)
+      → tries op wild name given vs (i ∷ is) at t ≡ joined (one i at t) (tries op wild name given vs is (one i at t .at) (one i at t .state))
   unfolding tries joined
   tries-join i is at t =
-      let e = effect op wild name given vs i at (look at i t) in
-      let r = tries op wild name given vs is (e .at) (apply (e .writes) t) in
-      ap (λ (g : Bool). outcome (r .table) (e .report ∷ r .reports) (r .at) (g && r .going)) (sym (and-true (e .good)))
+      let e = effect op wild name given vs i at (look at i (t .table)) in
+      let r = tries op wild name given vs is (e .at) (wrote (e .writes) t) in
+      ap (λ (g : Bool). outcome (r .state) (e .report ∷ r .reports) (r .at) (g && r .going)) (sym (and-true (e .good)))
 
-  pub one-some : (i : ℕ) (at : Context) (t : List ℕ) → Some (one i at t .reports)
+  pub one-some : (i : ℕ) (at : Context) (t : State) → Some (one i at t .reports)
   unfolding tries
   one-some i at t = some
 
-  module _ (x : Outcome) (first : Bool) (o : List ℕ) (p₀ : ℕ) (good : Bool) (ms : List ℕ) (k : ℕ) (at : Context) (t : List ℕ) (f : Bool) (o₁ : List ℕ) (p : ℕ)
+  module _ (x : Outcome) (first : Bool) (o : List ℕ) (p₀ : ℕ) (good : Bool) (ms : List ℕ) (k : ℕ) (at : Context) (t : State) (f : Bool) (o₁ : List ℕ) (p : ℕ)
       (l : Leads x first o p₀ good (tries op wild name given vs (drop k ms) at t) f o₁ p) where
     -- one more attempt is written
-    pub tries-on : (i : ℕ) (t₂ o₂ : List ℕ) (w : Went) → k < length ms → i ≡ getD ms k 0 → Did (one i at t) f o₁ p t₂ o₂ w
+    pub tries-on : (i : ℕ) (t₂ : State) (o₂ : List ℕ) (w : Went) → k < length ms → i ≡ getD ms k 0 → Did (one i at t) f o₁ p t₂ o₂ w
         → Leads x first o p₀ (good && w .going) (tries op wild name given vs (drop (k + 1) ms) (w .at) t₂) false o₂ (w .next)
     tries-on i t₂ o₂ w h e d =
-        let rest : Context → List ℕ → Outcome = λ c u. tries op wild name given vs (drop (k + 1) ms) c u in
+        let rest : Context → State → Outcome = λ c u. tries op wild name given vs (drop (k + 1) ms) c u in
         let q : drop k ms ≡ i ∷ drop (k + 1) ms = rw (drop-cons ms k 0 h, add-one, e) in
-        let m : Leads x first o p₀ good (joined (one i at t) (rest (one i at t .at) (one i at t .table))) f o₁ p =
+        let m : Leads x first o p₀ good (joined (one i at t) (rest (one i at t .at) (one i at t .state))) f o₁ p =
         subst (λ (z : Outcome). Leads x first o p₀ good z f o₁ p) (ap (λ (z : List ℕ). tries op wild name given vs z at t) q ∙ tries-join i (drop (k + 1) ms) at t) l in
         leads-on x first o p₀ good (one i at t) (rest (w .at) t₂) f o₁ o₂ t₂ p w (one-some i at t)
-        (subst (λ (z : Outcome). Leads x first o p₀ good (joined (one i at t) z) f o₁ p) (sym (λ j. rest (d .place j) (d .table j))) m) d
+        (subst (λ (z : Outcome). Leads x first o p₀ good (joined (one i at t) z) f o₁ p) (sym (λ j. rest (d .place j) (d .state j))) m) d
 
     -- none is left
     pub tries-end : length ms ≤ k → Did x first o p₀ t o₁ (went p at good)
@@ -134,39 +135,38 @@ unfolding look
 look-lines at i t v e s = rw e (s .some)
 
 -- the name that a failed attempt bears
-module _ (op : Op) (wild : Bool) (lines i : ℕ) (name : List ℕ) (code : ℕ) (first : Bool) (o : List ℕ) (p : ℕ) (o′ : List ℕ) (r : ℕ) where
-  pub shown-full : wild ≡ true → Appended o p (reportsText first (tried op (nameText lines i) code ∷ [])) o′ r
-      → Appended o p (reportsText first (tried op (shown lines wild i name) code ∷ [])) o′ r
+module _ (op : Op) (wild : Bool) (lines i : ℕ) (name : List ℕ) (code : ℕ) (first : Bool) (o : List ℕ) (p : ℕ) (o₁ o′ : List ℕ) (q r : ℕ) where
+  pub shown-full : wild ≡ true → Appended o p (separator first then triedText op (nameText lines i)) o₁ q → Appended o₁ q (codeText code) o′ r
+      → Appended o p (reportsText first (refused op (shown lines wild i name) code ∷ [])) o′ r
   unfolding shown pick
-  shown-full e a = rw e a
+  shown-full e f g = rw e (refused-is o p o₁ o′ q r first op (nameText lines i) code f g)
 
-  pub shown-received : wild ≡ false → Appended o p (reportsText first (tried op name code ∷ [])) o′ r
-      → Appended o p (reportsText first (tried op (shown lines wild i name) code ∷ [])) o′ r
+  pub shown-received : wild ≡ false → Appended o p (separator first then triedText op name) o₁ q → Appended o₁ q (codeText code) o′ r
+      → Appended o p (reportsText first (refused op (shown lines wild i name) code ∷ [])) o′ r
   unfolding shown pick
-  shown-received e a = rw e a
+  shown-received e f g = rw e (refused-is o p o₁ o′ q r first op name code f g)
 
-module _ (op : Op) (wild : Bool) (name : List ℕ) (given : ℕ) (vs : Values) (i : ℕ) (at : Context) (first : Bool) (t : List ℕ) (o : List ℕ) (p : ℕ) (v : View) (code : ℕ) where
-  -- what an attempt comes to, by its result
-  abbrev comes : Result → Outcome
-  comes r = let e = concluded op wild name i at v r in outcome (apply (e .writes) t) (e .report ∷ []) (e .at) (e .good && true)
+module _ (op : Op) (wild : Bool) (name : List ℕ) (given : ℕ) (vs : Values) (i : ℕ) (at : Context) (first : Bool) (t : List ℕ) (o : List ℕ) (p : ℕ) (v : View) (x : Checked) where
+  -- what an attempt comes to, by its tests
+  abbrev comes : Checked → Outcome
+  comes y = let e = concluded op wild name given vs i at v y in outcome (state (apply (e .writes) t)) (e .report ∷ []) (e .at) (e .good && true)
 
-  tries-one : v ≡ look at i t → tries op wild name given vs (i ∷ []) at t ≡ comes (attempt op at given i vs v)
+  tries-one : v ≡ look at i t → x ≡ judge (checks op at v) → tries op wild name given vs (i ∷ []) at (state t) ≡ comes x
   unfolding tries effect
-  tries-one e = rw e
+  tries-one e f = rw (← e, ← f)
 
-  pub attempt-does : (t′ o′ : List ℕ) (n : ℕ) (c : Context) → v ≡ look at i t → code ≡ codeOf (checks op at v) → code ≡ 0
-      → t′ ≡ apply (changes op at given i vs v) t → Appended o p (reportsText first (tried op (nameText (v .lines) i) 0 ∷ [])) o′ n → c ≡ settled at v
-      → Did (tries op wild name given vs (i ∷ []) at t) first o p t′ o′ (went n c true)
+  pub attempt-does : (t′ o′ : List ℕ) (n : ℕ) (c : Context) → v ≡ look at i t → x ≡ judge (checks op at v) → x ≡ Passes
+      → t′ ≡ apply (changes op at given i vs v) t → Appended o p (separator first then triedText op (nameText (v .lines) i)) o′ n → c ≡ settled at v
+      → Did (tries op wild name given vs (i ∷ []) at (state t)) first o p (state t′) o′ (went n c true)
   unfolding concluded
   attempt-does t′ o′ n c e f z g a s =
-      rw (tries-one e ∙ ap comes (attempt-done op at given i vs v (sym f ∙ z))) (record { table = g; text = a; place = s; going = refl })
+      rw (tries-one e f ∙ ap comes z) (record { state = ap state g; text = done-is o p o o′ p n first op (nameText (v .lines) i) a; place = s; going = refl })
 
-  pub attempt-fails : (o′ : List ℕ) (n : ℕ) → v ≡ look at i t → code ≡ codeOf (checks op at v) → (code ≡ 0 → ⊥)
-      → Appended o p (reportsText first (tried op (shown (v .lines) wild i name) code ∷ [])) o′ n
-      → Did (tries op wild name given vs (i ∷ []) at t) first o p t o′ (went n at false)
+  pub attempt-fails : (code : ℕ) (o′ : List ℕ) (n : ℕ) → v ≡ look at i t → x ≡ judge (checks op at v) → x ≡ Fails code
+      → Appended o p (reportsText first (refused op (shown (v .lines) wild i name) code ∷ [])) o′ n
+      → Did (tries op wild name given vs (i ∷ []) at (state t)) first o p (state t) o′ (went n at false)
   unfolding concluded shown apply
-  attempt-fails o′ n e f z a =
-      rw (tries-one e ∙ ap comes (attempt-refused op at given i vs v (λ q. z (f ∙ q)) ∙ ap refused (sym f))) (record { table = refl; text = a; place = refl; going = refl })
+  attempt-fails code o′ n e f z a = rw (tries-one e f ∙ ap comes z) (record { state = refl; text = a; place = refl; going = refl })
 
 -- ---- a target
 
@@ -205,24 +205,24 @@ lent-first l n e q = by (ltb (length l) n) refl
         rw f (take-all (length l) l (omega arith) ∙ sym (take-all n l g))
     by false h = let f : e - 0 ≡ n = omega (arith, ltb-false (length l) n h) in rw f
 
-pub noted-tries : (op : Op) (name : List ℕ) (given : ℕ) (vs : Values) (at : Context) (first : Bool) (t o : List ℕ) (p : ℕ) (t′ o′ l ms : List ℕ) (n e : ℕ) (w : Went)
+pub noted-tries : (op : Op) (name : List ℕ) (given : ℕ) (vs : Values) (at : Context) (first : Bool) (t : State) (o : List ℕ) (p : ℕ) (t′ : State) (o′ l ms : List ℕ) (n e : ℕ) (w : Went)
     → e ≡ min n (length l) → ms ≡ take (e - 0) (drop 0 l) → Did (tries op true name given vs ms at t) first o p t′ o′ w → Did (tries op true name given vs (take n l) at t) first o p t′ o′ w
 noted-tries op name given vs at first t o p t′ o′ l ms n e w q f d = subst (λ (x : List ℕ). Did (tries op true name given vs x at t) first o p t′ o′ w) (f ∙ lent-first l n e q) d
 
-module _ (op : Op) (name : List ℕ) (vs : Values) (turn : Turn) (t o t′ o′ : List ℕ) where
+module _ (op : Op) (name : List ℕ) (vs : Values) (turn : Turn) (t o : List ℕ) (t′ : State) (o′ : List ℕ) where
   abbrev comes-to : Target → Outcome
-  comes-to x = aimed op name (turn .given) vs (aimOf x op (turn .at) t) (turn .at) t
+  comes-to x = aimed op name (turn .given) vs (aimOf x op (turn .at) t) (turn .at) (state t)
 
-  pub target-misses : (x : Target) (code : ℕ) (w : Went) → x ≡ Misses code → Missed op name code turn o o′ w → Did (comes-to x) (turn .first) o (turn .next) t o′ w
+  pub target-misses : (x : Target) (code : ℕ) (w : Went) → x ≡ Misses code → Missed op name code turn o o′ w → Did (comes-to x) (turn .first) o (turn .next) (state t) o′ w
   unfolding aimOf aimed missed
-  target-misses x code w e m = rw e (record { table = refl; text = m .text; place = m .place; going = m .going })
+  target-misses x code w e m = rw e (record { state = refl; text = m .text; place = m .place; going = m .going })
 
-  pub target-gateway : (x : Target) (n : ℕ) → x ≡ Gateway → Appended o (turn .next) (reportsText (turn .first) (tried op (text "ROOT") 0 ∷ [])) o′ n
-      → Did (comes-to x) (turn .first) o (turn .next) t o′ (went n (turn .at) true)
+  pub target-gateway : (x : Target) (n : ℕ) → x ≡ Gateway → Appended o (turn .next) (separator (turn .first) then triedText op (text "ROOT")) o′ n
+      → Did (comes-to x) (turn .first) o (turn .next) (state t) o′ (went n (turn .at) true)
   unfolding aimOf aimed
-  target-gateway x n e a = rw e (record { table = refl; text = a; place = refl; going = refl })
+  target-gateway x n e a = rw e (record { state = refl; text = done-is o (turn .next) o o′ (turn .next) n (turn .first) op (text "ROOT") a; place = refl; going = refl })
 
-  pub target-one : (x : Target) (i : ℕ) (w : Went) → x ≡ One i → Did (tries op false name (turn .given) vs (i ∷ []) (turn .at) t) (turn .first) o (turn .next) t′ o′ w
+  pub target-one : (x : Target) (i : ℕ) (w : Went) → x ≡ One i → Did (tries op false name (turn .given) vs (i ∷ []) (turn .at) (state t)) (turn .first) o (turn .next) t′ o′ w
       → Did (comes-to x) (turn .first) o (turn .next) t′ o′ w
   unfolding aimOf aimed
   target-one x i w e d = rw e d
@@ -232,22 +232,22 @@ module _ (op : Op) (name : List ℕ) (vs : Values) (turn : Turn) (t o t′ o′ 
 
   -- nobody is matched
   pub many-none : (r : Range) (z u : List ℕ) (k : ℕ) (w : Went) → Matched (matches op (turn .at) r t) z u k → k ≡ 0 → Missed op name 431 turn o o′ w
-      → Did (comes-to (Many r)) (turn .first) o (turn .next) t o′ w
+      → Did (comes-to (Many r)) (turn .first) o (turn .next) (state t) o′ w
   unfolding aimOf aimed missed aimMatches
   many-none r z u k w m e a =
-      rw (no-elements (matches op (turn .at) r t) (sym (m .many) ∙ e)) (record { table = refl; text = a .text; place = a .place; going = a .going })
+      rw (no-elements (matches op (turn .at) r t) (sym (m .many) ∙ e)) (record { state = refl; text = a .text; place = a .place; going = a .going })
 
   -- those that were noted are tried
   pub many-some : (r : Range) (z u : List ℕ) (k : ℕ) (w : Went) → Matched (matches op (turn .at) r t) z u k → (k ≡ 0 → ⊥) → length z ≡ 560 → fitted t ≤ mostLines
-      → Did (tries op true name (turn .given) vs (take k u) (turn .at) t) (turn .first) o (turn .next) t′ o′ w → Did (comes-to (Many r)) (turn .first) o (turn .next) t′ o′ w
+      → Did (tries op true name (turn .given) vs (take k u) (turn .at) (state t)) (turn .first) o (turn .next) t′ o′ w → Did (comes-to (Many r)) (turn .first) o (turn .next) t′ o′ w
   unfolding aimOf
   many-some r z u k w m n h b d =
       let ms : List ℕ = matches op (turn .at) r t in
       let f : k ≤ 560 = omega (arith, matches-few op (turn .at) r t z u k m) in
       let q : take k u ≡ ms = noted z u ms k m (rw h f) in
-      by ms (λ z. n (m .many ∙ ap length z)) (subst (λ (l : List ℕ). Did (tries op true name (turn .given) vs l (turn .at) t) (turn .first) o (turn .next) t′ o′ w) q d)
+      by ms (λ z. n (m .many ∙ ap length z)) (subst (λ (l : List ℕ). Did (tries op true name (turn .given) vs l (turn .at) (state t)) (turn .first) o (turn .next) t′ o′ w) q d)
     where
-      by : (l : List ℕ) → (l ≡ [] → ⊥) → Did (tries op true name (turn .given) vs l (turn .at) t) (turn .first) o (turn .next) t′ o′ w
-          → Did (aimed op name (turn .given) vs (aimMatches l) (turn .at) t) (turn .first) o (turn .next) t′ o′ w
+      by : (l : List ℕ) → (l ≡ [] → ⊥) → Did (tries op true name (turn .given) vs l (turn .at) (state t)) (turn .first) o (turn .next) t′ o′ w
+          → Did (aimed op name (turn .given) vs (aimMatches l) (turn .at) (state t)) (turn .first) o (turn .next) t′ o′ w
       by [] f d = absurd (f refl)
       by (i ∷ is) f d = unfold aimMatches aimed in d

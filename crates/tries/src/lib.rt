@@ -6,14 +6,17 @@ ghost use Prim.Native.Nat.{_<_, min};
 ghost use lib.ListN.{take};
 ghost use Rattle.base.specs.Out.{Appended};
 ghost use Rattle.megaco.specs.Table.{Sized};
+ghost use Rattle.megaco.specs.State.{state};
 ghost use Rattle.megaco.specs.Names.{nameText};
-ghost use Rattle.megaco.specs.Reply.{tried, reportsText};
+ghost use Rattle.base.specs.Bytes.{_then_};
+ghost use Rattle.megaco.specs.Reply.{refused, triedText, separator, reportsText};
 ghost use Rattle.megaco.specs.Running.{tries, aimed};
 ghost use Rattle.attempt.specs.Judging.{Fair};
 ghost use Rattle.aims.specs.Targets.{aimOf};
 ghost use Rattle.aims.specs.declared.Target.the-variants.{Many};
 ghost use Rattle.tries.specs.Contract.{Did, shown, Missed};
 use aims::Target;
+use megaco::Checked;
 use megaco::Context;
 use megaco::Op;
 use megaco::Range;
@@ -38,21 +41,21 @@ pub struct Went {
 
 // ---- reports
 
-// A report under the bytes received.
-fn put_received(out: &mut [u8], turn: Turn, op: Op, name: &[u8], code: u32) -> usize
-    ensures { λ r. ⌜ Appended (now (out .entry)) (turn .next) (reportsText (turn .first) (tried op (now (name .entry)) code ∷ [])) (now (out .exit)) r ⌝ }
+// The command and the bytes received.
+fn put_received(out: &mut [u8], turn: Turn, op: Op, name: &[u8]) -> usize
+    ensures { λ r. ⌜ Appended (now (out .entry)) (turn .next) (separator (turn .first) then triedText op (now (name .entry))) (now (out .exit)) r ⌝ }
 {
     let q = report::put_separator(out, turn.next, turn.first);
-    report::put_tried(out, q, op, name, code)
+    report::put_tried(out, q, op, name)
 }
 
-// A report under a termination's full name.
-fn put_full(out: &mut [u8], turn: Turn, op: Op, lines: u32, i: usize, code: u32) -> usize
+// The command and a termination's full name.
+fn put_full(out: &mut [u8], turn: Turn, op: Op, lines: u32, i: usize) -> usize
     requires { ⌜ 0 < lines ⌝ }
-    ensures { λ r. ⌜ Appended (now (out .entry)) (turn .next) (reportsText (turn .first) (tried op (nameText lines i) code ∷ [])) (now (out .exit)) r ⌝ }
+    ensures { λ r. ⌜ Appended (now (out .entry)) (turn .next) (separator (turn .first) then triedText op (nameText lines i)) (now (out .exit)) r ⌝ }
 {
     let q = report::put_separator(out, turn.next, turn.first);
-    report::put_named(out, q, op, lines, i, code)
+    report::put_named(out, q, op, lines, i)
 }
 
 // The report of an attempt that failed: a wildcard's bears the full name, another the bytes received.
@@ -67,19 +70,22 @@ fn put_refused(
     code: u32,
 ) -> usize
     requires { ⌜ 0 < lines ⌝ }
-    ensures { λ r. ⌜ Appended (now (out .entry)) (turn .next) (reportsText (turn .first) (tried op (shown lines wild i (now (name .entry))) code ∷ [])) (now (out .exit)) r ⌝ }
+    ensures { λ r. ⌜ Appended (now (out .entry)) (turn .next) (reportsText (turn .first) (refused op (shown lines wild i (now (name .entry))) code ∷ [])) (now (out .exit)) r ⌝ }
 {
     if wild {
-        return put_full(out, turn, op, lines, i, code);
+        let p = put_full(out, turn, op, lines, i);
+        return report::put_code(out, p, code);
     }
-    put_received(out, turn, op, name, code)
+    let p = put_received(out, turn, op, name);
+    report::put_code(out, p, code)
 }
 
 // A command that fails before any attempt.
 pub fn miss(op: Op, name: &[u8], code: u32, turn: Turn, out: &mut [u8]) -> Went
     ensures { λ r. ⌜ Missed op (now (name .entry)) code turn (now (out .entry)) (now (out .exit)) r ⌝ }
 {
-    let n = put_received(out, turn, op, name, code);
+    let p = put_received(out, turn, op, name);
+    let n = report::put_code(out, p, code);
     let c = turn.at;
     Went {
         next: n,
@@ -102,26 +108,30 @@ fn try_one(
     out: &mut [u8],
 ) -> Went
     requires { ⌜ (Sized (now table)) × Fair values ⌝ }
-    ensures { λ r. ⌜ Did (tries op wild (now (name .entry)) (turn .given) values (i ∷ []) (turn .at) (now (table .entry))) (turn .first) (now (out .entry)) (turn .next) (now (table .exit)) (now (out .exit)) r ⌝ }
+    ensures { λ r. ⌜ Did (tries op wild (now (name .entry)) (turn .given) values (i ∷ []) (turn .at) (state (now (table .entry)))) (turn .first) (now (out .entry)) (turn .next) (state (now (table .exit))) (now (out .exit)) r ⌝ }
 {
     let at = turn.at;
     let view = view::look(table, at, i);
-    let code = attempt::judge_attempt(op, at, view);
-    if code == 0 {
-        attempt::change(table, op, at, turn.given, i, values, view);
-        let n = put_full(out, turn, op, view.lines, i, 0);
-        let c = attempt::settled(at, view);
-        return Went {
-            next: n,
-            at: c,
-            going: true,
-        };
-    }
-    let n = put_refused(out, turn, op, wild, name, view.lines, i, code);
-    Went {
-        next: n,
-        at: at,
-        going: false,
+    let checked = attempt::judge_attempt(op, at, view);
+    match checked {
+        Checked::Passes => {
+            attempt::change(table, op, at, turn.given, i, values, view);
+            let n = put_full(out, turn, op, view.lines, i);
+            let c = attempt::settled(at, view);
+            Went {
+                next: n,
+                at: c,
+                going: true,
+            }
+        }
+        Checked::Fails(code) => {
+            let n = put_refused(out, turn, op, wild, name, view.lines, i, code);
+            Went {
+                next: n,
+                at: at,
+                going: false,
+            }
+        }
     }
 }
 
@@ -142,7 +152,7 @@ fn try_each(
     out: &mut [u8],
 ) -> Went
     requires { ⌜ (Sized (now table)) × Fair values ⌝ }
-    ensures { λ r. ⌜ Did (tries op true (now (name .entry)) (turn .given) values (now (matched .entry)) (turn .at) (now (table .entry))) (turn .first) (now (out .entry)) (turn .next) (now (table .exit)) (now (out .exit)) r ⌝ }
+    ensures { λ r. ⌜ Did (tries op true (now (name .entry)) (turn .given) values (now (matched .entry)) (turn .at) (state (now (table .entry)))) (turn .first) (now (out .entry)) (turn .next) (state (now (table .exit))) (now (out .exit)) r ⌝ }
 {
     let mut k: usize = 0;
     let mut here = turn;
@@ -186,7 +196,7 @@ fn try_noted(
     out: &mut [u8],
 ) -> Went
     requires { ⌜ (Sized (now table)) × Fair values ⌝ }
-    ensures { λ r. ⌜ Did (tries op true (now (name .entry)) (turn .given) values (take n (now (row .entry))) (turn .at) (now (table .entry))) (turn .first) (now (out .entry)) (turn .next) (now (table .exit)) (now (out .exit)) r ⌝ }
+    ensures { λ r. ⌜ Did (tries op true (now (name .entry)) (turn .given) values (take n (now (row .entry))) (turn .at) (state (now (table .entry)))) (turn .first) (now (out .entry)) (turn .next) (state (now (table .exit))) (now (out .exit)) r ⌝ }
 {
     let e = low(n, row.len());
     try_each(op, name, values, &row[0..e], turn, table, out)
@@ -203,7 +213,7 @@ fn try_many(
     out: &mut [u8],
 ) -> Went
     requires { ⌜ (Sized (now table)) × Fair values ⌝ }
-    ensures { λ w. ⌜ Did (aimed op (now (name .entry)) (turn .given) values (aimOf (Many r) op (turn .at) (now (table .entry))) (turn .at) (now (table .entry))) (turn .first) (now (out .entry)) (turn .next) (now (table .exit)) (now (out .exit)) w ⌝ }
+    ensures { λ w. ⌜ Did (aimed op (now (name .entry)) (turn .given) values (aimOf (Many r) op (turn .at) (now (table .entry))) (turn .at) (state (now (table .entry)))) (turn .first) (now (out .entry)) (turn .next) (state (now (table .exit))) (now (out .exit)) w ⌝ }
 {
     let mut matched = [0u32; MOST_TERMINATIONS];
     let at = turn.at;
@@ -225,12 +235,12 @@ pub fn run_target(
     out: &mut [u8],
 ) -> Went
     requires { ⌜ (Sized (now table)) × Fair values ⌝ }
-    ensures { λ w. ⌜ Did (aimed op (now (name .entry)) (turn .given) values (aimOf target op (turn .at) (now (table .entry))) (turn .at) (now (table .entry))) (turn .first) (now (out .entry)) (turn .next) (now (table .exit)) (now (out .exit)) w ⌝ }
+    ensures { λ w. ⌜ Did (aimed op (now (name .entry)) (turn .given) values (aimOf target op (turn .at) (now (table .entry))) (turn .at) (state (now (table .entry)))) (turn .first) (now (out .entry)) (turn .next) (state (now (table .exit))) (now (out .exit)) w ⌝ }
 {
     match target {
         Target::Misses(code) => miss(op, name, code, turn, out),
         Target::Gateway => {
-            let q = put_received(out, turn, op, b"ROOT", 0);
+            let q = put_received(out, turn, op, b"ROOT");
             let c = turn.at;
             Went {
                 next: q,

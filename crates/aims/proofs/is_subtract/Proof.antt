@@ -1,5 +1,5 @@
 use borrow.Author.Needs.{needs}
-use Rattle.megaco.specs.Running.{isSubtract}
+use Rattle.megaco.specs.Items.{isSubtract}
 use Rattle.aims.proofs.is_subtract.Statement.{statement}
 use Rattle.aims.proofs.is_subtract.Tie as tie
 

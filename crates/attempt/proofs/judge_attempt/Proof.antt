@@ -1,5 +1,5 @@
 use borrow.Author.Needs.{needs}
-use Rattle.attempt.proofs.JudgeLaws.{code-add, code-modify, code-subtract, code-move, codes}
+use Rattle.attempt.proofs.JudgeLaws.{test-add, test-modify, test-subtract, test-move, tests}
 use Rattle.attempt.proofs.judge_attempt.Statement.{statement}
 use Rattle.attempt.proofs.judge_attempt.Tie as tie
 
@@ -9,18 +9,18 @@ judge-attempt-spec =
     (tie.spec
     (λ c κs. search needs)
     (λ c. search needs)
-    (λ c. search (code-add, codes))
+    (λ c. search (test-add, tests))
     (λ c κs. search needs)
     (λ c. search needs)
-    (λ c. search (code-modify, codes))
+    (λ c. search (test-modify, tests))
     (λ c. search needs)
-    (λ c. search (code-subtract, codes))
+    (λ c. search (test-subtract, tests))
     (λ c. search needs)
-    (λ c. search (code-move, codes))
-    (λ c. search (code-move, codes))
-    (λ c. search (code-move, codes))
+    (λ c. search (test-move, tests))
+    (λ c. search (test-move, tests))
+    (λ c. search (test-move, tests))
     (λ c κs. search needs)
-    (λ c. search (code-add, codes))
-    (λ c. search (code-modify, codes))
-    (λ c. search (code-subtract, codes))
-    (λ c. search (code-move, codes)))
+    (λ c. search (test-add, tests))
+    (λ c. search (test-modify, tests))
+    (λ c. search (test-subtract, tests))
+    (λ c. search (test-move, tests)))

@@ -15,7 +15,6 @@ run-tested-spec =
     (λ c. search needs)
     (λ c. (search tested-lost, search needs))
     (λ c κs. search needs)
-    (λ c κs. search needs)
     (λ c κs. (search needs, search items-judged))
     (λ c. search needs)
     (λ c. search needs)

@@ -8,6 +8,7 @@ pub judge-inside-spec : {M : Type 1} → statement M
 judge-inside-spec =
     tie.close
     (tie.spec
+    (λ c κs. search needs)
     (λ c. (search judge-subtract, known-wrong _ _ 447 refl))
     (λ c κs. search needs)
     (λ c κs. search needs)

@@ -10,8 +10,10 @@ media-item-spec =
     tie.close
     (tie.spec
     (λ c κs. search needs)
+    (λ c. search needs)
     (λ c κs. search needs)
     (λ c κs. search needs)
     (λ c κs. search needs)
+    (λ c. search needs)
     (λ c. (unfold mediaBy in search (judged-right, inside-kind, closed-judged), search closed-known))
     (λ c. (unfold mediaBy in search judged-wrong, known-wrong _ _ _ refl)))

@@ -11,7 +11,9 @@ top-item-spec =
     (tie.spec
     (λ c κs. search needs)
     (λ c κs. search needs)
+    (λ c. search needs)
     (λ c κs. search needs)
     (λ c κs. search needs)
+    (λ c. search needs)
     (λ c. (unfold topBy in search (judged-right, code-by, closed-judged), search closed-known))
     (λ c. (unfold topBy in search (judged-wrong, code-by), known-wrong _ _ _ refl)))

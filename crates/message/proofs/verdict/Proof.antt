@@ -1,5 +1,5 @@
 use Rattle.syntax.specs.Messages.{messageAt}
-use Rattle.message.proofs.VerdictLaws.{verdicts}
+use Rattle.message.proofs.VerdictLaws.{verdicts, by-place}
 use borrow.Author.Needs.{needs}
 use Rattle.message.proofs.verdict.Statement.{statement}
 use Rattle.message.proofs.verdict.Tie as tie
@@ -11,11 +11,11 @@ verdict-spec =
     (λ c κs. search needs)
     (λ c. search needs)
     (λ c. search needs)
-    (λ c. unfold messageAt in search verdicts depth 9)
+    (λ c. by-place _ (unfold messageAt in search verdicts depth 9))
     (λ c κs. search needs)
     (λ c. search needs)
     (λ c. search needs)
-    (λ c. unfold messageAt in search verdicts depth 9)
+    (λ c. by-place _ (unfold messageAt in search verdicts depth 9))
     (λ c κs. search needs)
-    (λ c. unfold messageAt in search verdicts depth 9)
-    (λ c. unfold messageAt in search verdicts depth 9))
+    (λ c. by-place _ (unfold messageAt in search verdicts depth 9))
+    (λ c. by-place _ (unfold messageAt in search verdicts depth 9)))

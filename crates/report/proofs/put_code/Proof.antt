@@ -1,7 +1,6 @@
 use borrow.Author.Needs.{needs}
-use borrow.Author.Tests.{eq-eqb, ne-eqb}
 use Rattle.megaco.specs.Reply.{codeText}
-use Rattle.base.proofs.OutLaws.{chosen-yes, chosen-no, none, three}
+use Rattle.base.proofs.OutLaws.{three}
 use Rattle.report.proofs.put_code.Statement.{statement}
 use Rattle.report.proofs.put_code.Tie as tie
 
@@ -9,9 +8,8 @@ pub put-code-spec : {M : Type 1} → statement M
 put-code-spec =
     tie.close
     (tie.spec
-    (λ c. unfold codeText in search (chosen-yes, none, eq-eqb))
     (λ c κs. search needs)
     (λ c κs. search needs)
     (λ c κs. search needs)
     (λ c. search needs)
-    (λ c. unfold codeText in search (chosen-no, three, ne-eqb)))
+    (λ c. unfold codeText in search three))

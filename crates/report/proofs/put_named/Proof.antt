@@ -1,5 +1,5 @@
-use Rattle.base.proofs.OutLaws.{four}
-use Rattle.megaco.specs.Reply.{reportText}
+use Rattle.base.proofs.OutLaws.{three}
+use Rattle.megaco.specs.Reply.{triedText}
 use borrow.Author.Needs.{needs}
 use Rattle.report.proofs.put_named.Statement.{statement}
 use Rattle.report.proofs.put_named.Tie as tie
@@ -11,6 +11,5 @@ put-named-spec =
     (λ c κs. search needs)
     (λ c κs. search needs)
     (λ c κs. search needs)
-    (λ c κs. search needs)
     (λ c. search needs)
-    (λ c. unfold reportText in search four))
+    (λ c. unfold triedText in search three))

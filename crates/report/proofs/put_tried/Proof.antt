@@ -1,6 +1,6 @@
 use borrow.Author.Needs.{needs}
-use Rattle.megaco.specs.Reply.{reportText}
-use Rattle.base.proofs.OutLaws.{four}
+use Rattle.megaco.specs.Reply.{triedText}
+use Rattle.base.proofs.OutLaws.{three}
 use Rattle.report.proofs.put_tried.Statement.{statement}
 use Rattle.report.proofs.put_tried.Tie as tie
 
@@ -11,6 +11,5 @@ put-tried-spec =
     (λ c κs. search needs)
     (λ c κs. search needs)
     (λ c κs. search needs)
-    (λ c κs. search needs)
     (λ c. search needs)
-    (λ c. unfold reportText in search four))
+    (λ c. unfold triedText in search three))

@@ -2,6 +2,7 @@ use borrow.Author.Needs.{needs}
 use mathlib.Core.Path.{_≡_, refl}
 use mathlib.Core.Bool.{true}
 use lib.ListN.{length}
+use Rattle.megaco.specs.State.{state}
 use Rattle.megaco.specs.Table.{sound}
 use Rattle.syntax.specs.Production.{listP}
 use Rattle.syntax.specs.Places.{actionAt, actionsAt}
@@ -14,7 +15,7 @@ use Rattle.running.proofs.run_actions.Tie as tie
 abbrev Inv-loop : tie.InvT-loop
 Inv-loop s from table₀ out₀ p i₀ left₀ q₀ f₀ table out i left q f =
     (length table ≡ length table₀) × (length out ≡ length out₀) × (sound table ≡ true) × (actionsAt s from .end ≡ listP (actionAt s) s left i .end)
-    × Leads (runActions (actionsAt s from .tree) true table₀) out₀ p (runActions (listP (actionAt s) s left i .tree) f table) out q
+    × Leads (runActions (actionsAt s from .tree) true (state table₀)) out₀ p (runActions (listP (actionAt s) s left i .tree) f (state table)) out q
 
 abbrev μ-loop : tie.MeasureT-loop
 μ-loop s from table₀ out₀ p i₀ left₀ q₀ f₀ table out i left q f = left

@@ -2,6 +2,7 @@ use borrow.Author.Needs.{needs}
 use mathlib.Core.Path.{_≡_, refl}
 use mathlib.Core.Bool.{true}
 use lib.ListN.{length}
+use Rattle.megaco.specs.State.{state}
 use Rattle.megaco.proofs.Sizes.{sized-same}
 use Rattle.syntax.specs.Production.{listP}
 use Rattle.syntax.specs.Places.{commandAt, commandsAt}
@@ -15,8 +16,8 @@ use Rattle.running.proofs.run_commands.Tie as tie
 abbrev Inv-loop : tie.InvT-loop
 Inv-loop s from table₀ out₀ i₀ left₀ here₀ table out i left here =
     (length table ≡ length table₀) × (length out ≡ length out₀) × (commandsAt s from .end ≡ listP (commandAt s) s left i .end)
-    × Leads (runCommands (commandsAt s from .tree) (here₀ .given) (here₀ .at) table₀) (here₀ .first) out₀ (here₀ .next) true
-    (runCommands (listP (commandAt s) s left i .tree) (here .given) (here .at) table) (here .first) out (here .next)
+    × Leads (runCommands (commandsAt s from .tree) (here₀ .given) (here₀ .at) (state table₀)) (here₀ .first) out₀ (here₀ .next) true
+    (runCommands (listP (commandAt s) s left i .tree) (here .given) (here .at) (state table)) (here .first) out (here .next)
 
 abbrev μ-loop : tie.MeasureT-loop
 μ-loop s from table₀ out₀ i₀ left₀ here₀ table out i left here = left

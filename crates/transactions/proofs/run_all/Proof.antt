@@ -3,6 +3,7 @@ use mathlib.Core.Path.{_≡_, refl}
 use mathlib.Core.Bool.{true}
 use lib.ListN.{length}
 use Rattle.megaco.specs.Table.{sound}
+use Rattle.megaco.specs.State.{state}
 use Rattle.megaco.specs.Running.{runTransactions}
 use Rattle.syntax.specs.Messages.{transactionsAt, messageOf}
 use Rattle.running.proofs.ActsLaws.{Leads, message-none, message-last, message-more}
@@ -13,7 +14,7 @@ use Rattle.transactions.proofs.run_all.Tie as tie
 abbrev Inv-loop : tie.InvT-loop
 Inv-loop s table₀ out₀ p i₀ left₀ q₀ table out i left q =
     (length table ≡ length table₀) × (length out ≡ length out₀) × (sound table ≡ true)
-    × Leads (runTransactions (messageOf s) table₀) out₀ p (runTransactions (transactionsAt left s i .tree) table) out q
+    × Leads (runTransactions (messageOf s) (state table₀)) out₀ p (runTransactions (transactionsAt left s i .tree) (state table)) out q
 
 abbrev μ-loop : tie.MeasureT-loop
 μ-loop s table₀ out₀ p i₀ left₀ q₀ table out i left q = left

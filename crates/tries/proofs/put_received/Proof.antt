@@ -1,5 +1,5 @@
 use borrow.Author.Needs.{needs}
-use Rattle.report.proofs.ReportLaws.{report-is}
+use Rattle.base.proofs.OutLaws.{after}
 use Rattle.tries.proofs.put_received.Statement.{statement}
 use Rattle.tries.proofs.put_received.Tie as tie
 
@@ -10,4 +10,4 @@ put-received-spec =
     (λ c κs. search needs)
     (λ c κs. search needs)
     (λ c. search needs)
-    (λ c. search report-is))
+    (λ c. search after))

@@ -4,6 +4,7 @@ use mathlib.Core.Path.{_≡_, refl}
 use mathlib.Core.Bool.{true}
 use lib.ListN.{length, drop}
 use Rattle.megaco.proofs.Sizes.{sized-same}
+use Rattle.megaco.specs.State.{state}
 use Rattle.megaco.specs.Running.{tries}
 use Rattle.tries.proofs.DidLaws.{Leads, begins, tries-on, tries-end}
 use Rattle.tries.proofs.try_each.Statement.{statement}
@@ -12,8 +13,8 @@ use Rattle.tries.proofs.try_each.Tie as tie
 abbrev Inv-loop : tie.InvT-loop
 Inv-loop op name values matched table₀ out₀ k₀ here₀ good₀ table out k here good =
     (length table ≡ length table₀) × (length out ≡ length out₀)
-    × Leads (tries op true name (here₀ .given) values matched (here₀ .at) table₀) (here₀ .first) out₀ (here₀ .next) good
-    (tries op true name (here .given) values (drop k matched) (here .at) table) (here .first) out (here .next)
+    × Leads (tries op true name (here₀ .given) values matched (here₀ .at) (state table₀)) (here₀ .first) out₀ (here₀ .next) good
+    (tries op true name (here .given) values (drop k matched) (here .at) (state table)) (here .first) out (here .next)
 
 abbrev μ-loop : tie.MeasureT-loop
 μ-loop op name values matched table₀ out₀ k₀ here₀ good₀ table out k here good = length matched - k
