@@ -45,6 +45,10 @@ pub here : (k : Token) (s : List ℕ) (at e : ℕ) (w : Piece) (r : Bool) → e 
 unfolding wordHere
 here k s at e w r h g f = rw (← h, ← g .bytes) f
 
+pub here-property : (s : List ℕ) (at e : ℕ) (w : Piece) (r : Bool) → e ≡ rowAt WordByte s at → Holds s at e w → r ≡ isProperty (part s (w .from) (w .to)) → r ≡ isProperty (wordHere s at)
+unfolding wordHere
+here-property s at e w r h g f = rw (← h, ← g .bytes) f
+
 -- ---- an action's body, from the place that was reached: enough of the counter is left for the bytes that are left
 
 pub record Goes (q : Parsed) (s : List ℕ) (i : ℕ) : Type 0 where

@@ -67,7 +67,10 @@ pub fn here_spells(s: &[u8], at: usize, k: Token) -> bool
 pub fn property_here(s: &[u8], at: usize) -> bool
     ensures { λ r. ⌜ r ≡ isProperty (wordHere (now (s .entry)) at) ⌝ }
 {
-    here_spells(s, at, Token::PriorityToken) | here_spells(s, at, Token::EmergencyToken)
+    let w = syntax::piece_of(s, at, text::row(s, at, Class::WordByte));
+    let a = w.from;
+    let e = w.to;
+    syntax::is_property(&s[a..e])
 }
 
 // The number of a priority.

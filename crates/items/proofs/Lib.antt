@@ -2,3 +2,4 @@ pub mod CallLaws
 pub mod OneLaws
 pub mod ListLaws
 pub mod FairLaws
+pub mod ValueLaws

@@ -8,15 +8,15 @@ use lib.ListN.{length}
 use Rattle.base.specs.Pick.{pick}
 use Rattle.base.specs.Lists.{isAt}
 use Rattle.megaco.specs.Bytes.{comma, rightBrace}
-use Rattle.megaco.specs.Keywords.{spells}
+use Rattle.megaco.specs.Keywords.{isToken, spells}
 use Rattle.megaco.specs.Tree.{plain}
 use Rattle.megaco.specs.Items.{propertyToken, valueGiven, setValue, propertyItems, mediaItems}
 use Rattle.megaco.specs.declared.Parsed.{Parsed}
 use Rattle.megaco.specs.declared.Parsed.the-variants.{Next, Fault}
 use Rattle.megaco.specs.declared.Token.{Token}
-use Rattle.megaco.specs.declared.Token.the-variants.{MediaToken, LocalControlToken, TerminationStateToken}
+use Rattle.megaco.specs.declared.Token.the-variants.{MediaToken, LocalControlToken, TerminationStateToken, InactiveToken, SendonlyToken, RecvonlyToken, SendrecvToken, LoopbackToken, InSvcToken, OutOfSvcToken, TestToken}
 use Rattle.megaco.specs.declared.Given.{Given}
-use Rattle.megaco.specs.declared.Given.the-variants.{Keep}
+use Rattle.megaco.specs.declared.Given.the-variants.{Keep, To}
 use Rattle.megaco.specs.declared.Judged.{Judged}
 use Rattle.megaco.specs.declared.Judged.the-variants.{Wrong, Right}
 use Rattle.megaco.specs.declared.Checked.{Checked}
@@ -41,6 +41,18 @@ pub record Lies (s : List ℕ) (p : ItemPlaces) : Type 0 where
 -- a name with `/` is called by none
 unfoldable pub calledBy : Token → List ℕ → ItemPlaces → Bool
 calledBy k s p = not (p .second) && spells k (bytesOf s (p .word))
+
+-- what a keyword gives
+unfoldable pub modeBy : Token → Given
+modeBy k =
+    pick (isToken InactiveToken k) (To 0)
+    (pick (isToken SendonlyToken k) (To 1)
+    (pick (isToken RecvonlyToken k) (To 2)
+    (pick (isToken SendrecvToken k) (To 3)
+    (pick (isToken LoopbackToken k) (To 4) Keep))))
+
+unfoldable pub stateBy : Token → Given
+stateBy k = pick (isToken InSvcToken k) (To 0) (pick (isToken OutOfSvcToken k) (To 1) (pick (isToken TestToken k) (To 2) Keep))
 
 -- a quoted value gives none
 unfoldable pub valueBy : Kind → List ℕ → ItemPlaces → Given

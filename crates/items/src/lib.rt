@@ -8,7 +8,7 @@ ghost use Rattle.megaco.specs.Bytes.{rightBrace};
 ghost use Rattle.syntax.specs.Production.{pastSign};
 ghost use Rattle.syntax.specs.Places.{itemsAt};
 ghost use Rattle.parts.specs.Found.{itemsFrom, commandEndFrom};
-ghost use Rattle.items.specs.Judging.{Lies, calledBy, itemChecked, calledIn, kindOf, stoodAfter, valueBy, nextAt, propertyBy, mediaBy, topBy, Known, closedBy};
+ghost use Rattle.items.specs.Judging.{Lies, modeBy, stateBy, calledBy, itemChecked, calledIn, kindOf, stoodAfter, valueBy, nextAt, propertyBy, mediaBy, topBy, Known, closedBy};
 use megaco::Checked;
 use megaco::Given;
 use megaco::Judged;
@@ -20,6 +20,7 @@ use megaco::Values;
 use parts::CommandPlaces;
 use parts::ItemPlaces;
 use parts::ValuePlaces;
+use text::Meaning;
 
 // What items are judged, and where they end if nothing is wrong with them.
 pub struct JudgedItems {
@@ -35,40 +36,48 @@ pub struct Descriptors {
 
 // ---- values
 
+fn mode_by(k: Token) -> Given
+    ensures { λ r. ⌜ r ≡ modeBy k ⌝ }
+{
+    match k {
+        Token::InactiveToken => Given::To(0),
+        Token::SendonlyToken => Given::To(1),
+        Token::RecvonlyToken => Given::To(2),
+        Token::SendrecvToken => Given::To(3),
+        Token::LoopbackToken => Given::To(4),
+        _ => Given::Keep,
+    }
+}
+
 fn mode_given(w: &[u8]) -> Given
     ensures { λ r. ⌜ r ≡ modeGiven (now (w .entry)) ⌝ }
 {
-    if text::spells(Token::InactiveToken, w) {
-        return Given::To(0);
+    let m = text::meaning_of(w);
+    match m {
+        Meaning::Of(k) => mode_by(k),
+        Meaning::Nothing => Given::Keep,
     }
-    if text::spells(Token::SendonlyToken, w) {
-        return Given::To(1);
+}
+
+fn state_by(k: Token) -> Given
+    ensures { λ r. ⌜ r ≡ stateBy k ⌝ }
+{
+    match k {
+        Token::InSvcToken => Given::To(0),
+        Token::OutOfSvcToken => Given::To(1),
+        Token::TestToken => Given::To(2),
+        _ => Given::Keep,
     }
-    if text::spells(Token::RecvonlyToken, w) {
-        return Given::To(2);
-    }
-    if text::spells(Token::SendrecvToken, w) {
-        return Given::To(3);
-    }
-    if text::spells(Token::LoopbackToken, w) {
-        return Given::To(4);
-    }
-    Given::Keep
 }
 
 fn state_given(w: &[u8]) -> Given
     ensures { λ r. ⌜ r ≡ stateGiven (now (w .entry)) ⌝ }
 {
-    if text::spells(Token::InSvcToken, w) {
-        return Given::To(0);
+    let m = text::meaning_of(w);
+    match m {
+        Meaning::Of(k) => state_by(k),
+        Meaning::Nothing => Given::Keep,
     }
-    if text::spells(Token::OutOfSvcToken, w) {
-        return Given::To(1);
-    }
-    if text::spells(Token::TestToken, w) {
-        return Given::To(2);
-    }
-    Given::Keep
 }
 
 // What a plain value gives.

@@ -10,7 +10,13 @@ use Rattle.megaco.specs.Table.{fitted, known, rec, cell, get, contexts}
 use Rattle.megaco.specs.State.{State, state}
 use Rattle.megaco.specs.Names.{nameOf}
 use Rattle.megaco.specs.Running.{seen, numberOf, opOf, missed, aim, aimed, named}
-use Rattle.megaco.specs.Keywords.{spells}
+use Rattle.megaco.specs.Keywords.{isToken, meaningOf}
+use Rattle.megaco.proofs.Meanings.{spells-means, spells-none}
+use Rattle.text.proofs.RowLaws.{told-some, told-none}
+use Rattle.text.specs.Page.{told}
+use Rattle.text.specs.declared.keywords.Meaning.{Meaning}
+use Rattle.text.specs.declared.keywords.Meaning.the-variants.{Of, Nothing}
+use Rattle.megaco.specs.declared.Token.{Token}
 use Rattle.megaco.specs.declared.Token.the-variants.{AddToken, ModifyToken, SubtractToken, MoveToken}
 use Rattle.megaco.specs.declared.Context.{Context}
 use Rattle.megaco.specs.declared.Op.{Op}
@@ -26,8 +32,9 @@ use Rattle.aims.specs.declared.Target.{Target}
 use Rattle.tries.specs.Contract.{Did, Missed}
 use Rattle.tries.specs.declared.Turn.{Turn}
 use Rattle.tries.specs.declared.Went.{Went}
-use Rattle.orders.specs.Orders.{foundOf, heldAt, FairJudged}
-use Rattle.orders.specs.declared.Found.the-variants.{Unbuilt}
+use Rattle.orders.specs.Orders.{foundOf, opBy, heldAt, FairJudged}
+use Rattle.orders.specs.declared.Found.{Found}
+use Rattle.orders.specs.declared.Found.the-variants.{Built, Unbuilt}
 
 -- ---- words
 
@@ -35,11 +42,29 @@ pub op-wild : (wild : Bool) (w : List ℕ) → wild ≡ true → foundOf Unbuilt
 unfolding opOf foundOf
 op-wild wild w e = rw e
 
-pub op-plain : (wild : Bool) (w : List ℕ) (x : Option Op) → wild ≡ false
-    → x ≡ pick (spells AddToken w) (some Add) (pick (spells ModifyToken w) (some Modify) (pick (spells SubtractToken w) (some Subtract) (pick (spells MoveToken w) (some Move) none)))
-    → x ≡ opOf wild w
-unfolding opOf
-op-plain wild w x e q = rw e q
+op-any : (k : Token) → foundOf (opBy k) ≡ pick (isToken AddToken k) (some Add) (pick (isToken ModifyToken k) (some Modify) (pick (isToken SubtractToken k) (some Subtract) (pick (isToken MoveToken k) (some Move) none)))
+unfolding foundOf opBy pick
+op-any k = by (isToken AddToken k) (isToken ModifyToken k) (isToken SubtractToken k) (isToken MoveToken k)
+  where
+    by : (a m s v : Bool) → foundOf (pick a (Built Add) (pick m (Built Modify) (pick s (Built Subtract) (pick v (Built Move) Unbuilt)))) ≡ pick a (some Add) (pick m (some Modify) (pick s (some Subtract) (pick v (some Move) none)))
+    by true m s v = refl
+    by false true s v = refl
+    by false false true v = refl
+    by false false false true = refl
+    by false false false false = refl
+
+module _ (wild : Bool) (w : List ℕ) (m : Meaning) (e : wild ≡ false) (h : told m ≡ meaningOf w) where
+  pub op-of-token : (k : Token) (r : Found) → m ≡ Of k → r ≡ opBy k → foundOf r ≡ opOf wild w
+  unfolding opOf
+  op-of-token k r g q =
+      let z : meaningOf w ≡ some k = told-some w m k h g in
+      rw (e, q, spells-means AddToken k w z, spells-means ModifyToken k w z, spells-means SubtractToken k w z, spells-means MoveToken k w z) (op-any k)
+
+  pub op-of-none : m ≡ Nothing → foundOf Unbuilt ≡ opOf wild w
+  unfolding opOf foundOf pick
+  op-of-none g =
+      let z : meaningOf w ≡ none = told-none w m h g in
+      rw (e, spells-none AddToken w z, spells-none ModifyToken w z, spells-none SubtractToken w z, spells-none MoveToken w z)
 
 -- ---- the record of the action's context
 

@@ -2,9 +2,14 @@
 use Prim.Native.Nat.{ℕ}
 use mathlib.Core.List.{List}
 use mathlib.Core.Option.{Option, none, some}
+use Rattle.base.specs.Pick.{pick}
+use Rattle.megaco.specs.Keywords.{isToken}
 use Rattle.megaco.specs.Running.{seen, numberOf}
 use Rattle.megaco.specs.declared.Context.{Context}
 use Rattle.megaco.specs.declared.Op.{Op}
+use Rattle.megaco.specs.declared.Op.the-variants.{Add, Modify, Subtract, Move}
+use Rattle.megaco.specs.declared.Token.{Token}
+use Rattle.megaco.specs.declared.Token.the-variants.{AddToken, ModifyToken, SubtractToken, MoveToken}
 use Rattle.megaco.specs.declared.Judged.{Judged}
 use Rattle.megaco.specs.declared.Judged.the-variants.{Wrong, Right}
 use Rattle.attempt.specs.Judging.{Fair}
@@ -15,6 +20,14 @@ use Rattle.orders.specs.declared.Found.the-variants.{Built, Unbuilt}
 unfoldable pub foundOf : Found → Option Op
 foundOf (Built op) = some op
 foundOf Unbuilt = none
+
+-- what a keyword tells
+unfoldable pub opBy : Token → Found
+opBy k =
+    pick (isToken AddToken k) (Built Add)
+    (pick (isToken ModifyToken k) (Built Modify)
+    (pick (isToken SubtractToken k) (Built Subtract)
+    (pick (isToken MoveToken k) (Built Move) Unbuilt)))
 
 -- the record of an action's context, 0 if it does not exist
 unfoldable pub heldAt : Context → List ℕ → ℕ

@@ -6,12 +6,13 @@ ghost use Rattle.megaco.specs.Running.{opOf, lost, barred, named};
 ghost use Rattle.megaco.specs.declared.Judged.the-variants.{Right};
 ghost use Rattle.attempt.specs.Judging.{Fair};
 ghost use Rattle.tries.specs.Contract.{Did};
-ghost use Rattle.orders.specs.Orders.{foundOf, heldAt, FairJudged};
+ghost use Rattle.orders.specs.Orders.{foundOf, opBy, heldAt, FairJudged};
 use megaco::Context;
 use megaco::Judged;
 use megaco::Op;
 use megaco::Token;
 use megaco::Values;
+use text::Meaning;
 use tries::Turn;
 use tries::Went;
 
@@ -21,6 +22,19 @@ pub enum Found {
     Unbuilt,
 }
 
+// The command that a keyword names.
+fn op_by(k: Token) -> Found
+    ensures { λ r. ⌜ r ≡ opBy k ⌝ }
+{
+    match k {
+        Token::AddToken => Found::Built(Op::Add),
+        Token::ModifyToken => Found::Built(Op::Modify),
+        Token::SubtractToken => Found::Built(Op::Subtract),
+        Token::MoveToken => Found::Built(Op::Move),
+        _ => Found::Unbuilt,
+    }
+}
+
 // The command of a word.
 pub fn op_of(wild: bool, word: &[u8]) -> Found
     ensures { λ r. ⌜ foundOf r ≡ opOf wild (now (word .entry)) ⌝ }
@@ -28,19 +42,11 @@ pub fn op_of(wild: bool, word: &[u8]) -> Found
     if wild {
         return Found::Unbuilt;
     }
-    if text::spells(Token::AddToken, word) {
-        return Found::Built(Op::Add);
+    let m = text::meaning_of(word);
+    match m {
+        Meaning::Of(k) => op_by(k),
+        Meaning::Nothing => Found::Unbuilt,
     }
-    if text::spells(Token::ModifyToken, word) {
-        return Found::Built(Op::Modify);
-    }
-    if text::spells(Token::SubtractToken, word) {
-        return Found::Built(Op::Subtract);
-    }
-    if text::spells(Token::MoveToken, word) {
-        return Found::Built(Op::Move);
-    }
-    Found::Unbuilt
 }
 
 // 411.

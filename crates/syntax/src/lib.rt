@@ -178,7 +178,7 @@ fn order_start(s: &[u8], at: usize) -> usize
 }
 
 // Whether a word is a property's.
-fn is_property(w: &[u8]) -> bool
+pub fn is_property(w: &[u8]) -> bool
     ensures { λ r. ⌜ r ≡ isProperty (now (w .entry)) ⌝ }
 {
     text::spells(Token::PriorityToken, w) | text::spells(Token::EmergencyToken, w)

@@ -22,7 +22,7 @@ agree-is false true e = e
 agree-is false false e = refl
 
 -- a test holds of each number below n
-below : (ℕ → Bool) → ℕ → Bool
+unfoldable pub below : (ℕ → Bool) → ℕ → Bool
 below f zero = true
 below f (suc n) = f n && below f n
 
@@ -35,7 +35,7 @@ right true b e = e
 right false true e = refl
 right false false e = e
 
-below-at : (f : ℕ → Bool) (n : ℕ) → below f n ≡ true → (b : ℕ) → b < n → f b ≡ true
+pub below-at : (f : ℕ → Bool) (n : ℕ) → below f n ≡ true → (b : ℕ) → b < n → f b ≡ true
 unfolding below
 below-at f zero t b h = absurd (omega arith)
 below-at f (suc n) t b h = by (eqb b n) refl (below-at f n (right (f n) (below f n) t) b)

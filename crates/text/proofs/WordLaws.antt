@@ -10,9 +10,7 @@ use lib.Seq.{drop-cons}
 use lib.Dec.{eqb}
 use Rattle.base.specs.Pick.{pick}
 use Rattle.base.specs.Lists.{same}
-use Rattle.megaco.specs.declared.Token.{Token}
 use Rattle.megaco.specs.Bytes.{capital, capitals}
-use Rattle.megaco.specs.Keywords.{formsOf, spelt, spells}
 
 pick-none : (t : Bool) → pick t false false ≡ false
 unfolding pick
@@ -41,7 +39,3 @@ module _ (w f : List ℕ) (i : ℕ) (q : Bool) (inv : q ≡ same (capitals (drop
 pub word-end : (w f : List ℕ) (i : ℕ) (q : Bool) → q ≡ same (capitals (drop i w)) (drop i f) → length w ≡ length f → length w ≤ i → true ≡ q
 unfolding same capitals
 word-end w f i q inv long h = let m : length f ≤ i = omega arith in sym (inv ∙ rw (drop-of-length-le w h, drop-of-length-le f m))
-
-pub spells-by : (k j : Token) (w : List ℕ) (r : Bool) → k ≡ j → r ≡ spelt (formsOf j) (capitals w) → r ≡ spells k w
-unfolding spells
-spells-by k j w r e h = rw e h

@@ -1,11 +1,50 @@
-// Keywords in their long and their short form, in any letter case.
+// The table of keywords, and words compared with its forms, in any letter case. rows.rt, derived from the table, finds a word's row.
 ghost use mathlib.Core.Path.{_≡_};
+ghost use Prim.Native.Nat.{_<_, _≤_, _+_};
+ghost use lib.ListN.{length};
+ghost use lib.Bits.{bitAnd};
 ghost use lib.Dec.{eqb};
 ghost use Rattle.base.specs.Lists.{same};
 ghost use Rattle.megaco.specs.Bytes.{capital, capitals};
-ghost use Rattle.megaco.specs.Keywords.{forms, spelt, spells};
-ghost use Rattle.text.specs.Spelling.{spelling};
+ghost use Rattle.text.specs.Page.{Packs, mask, frontKey, middleKey, backKey, alike, Formed};
 use megaco::Token;
+
+// A keyword: its meaning, then its long and its short form in capital letters, with blanks behind them.
+pub struct Row(pub Token, pub [u8; 24], pub [u8; 2]);
+
+// What bytes mean.
+pub enum Meaning {
+    Of(Token),
+    Nothing,
+}
+
+// Annex B.2's tokens in its order. Error and Reply are written only: no reader asks for them.
+pub const KEYWORDS: [Row; 24] = [
+    Row(Token::AddToken, *b"ADD                     ", *b"A "),
+    Row(Token::CtxToken, *b"CONTEXT                 ", *b"C "),
+    Row(Token::EmergencyToken, *b"EMERGENCY               ", *b"EG"),
+    Row(Token::ErrorToken, *b"ERROR                   ", *b"ER"),
+    Row(Token::InactiveToken, *b"INACTIVE                ", *b"IN"),
+    Row(Token::InSvcToken, *b"INSERVICE               ", *b"IV"),
+    Row(Token::LocalControlToken, *b"LOCALCONTROL            ", *b"O "),
+    Row(Token::LoopbackToken, *b"LOOPBACK                ", *b"LB"),
+    Row(Token::MediaToken, *b"MEDIA                   ", *b"M "),
+    Row(Token::MegacopToken, *b"MEGACO                  ", *b"! "),
+    Row(Token::ModeToken, *b"MODE                    ", *b"MO"),
+    Row(Token::ModifyToken, *b"MODIFY                  ", *b"MF"),
+    Row(Token::MoveToken, *b"MOVE                    ", *b"MV"),
+    Row(Token::OutOfSvcToken, *b"OUTOFSERVICE            ", *b"OS"),
+    Row(Token::PriorityToken, *b"PRIORITY                ", *b"PR"),
+    Row(Token::RecvonlyToken, *b"RECEIVEONLY             ", *b"RC"),
+    Row(Token::ReplyToken, *b"REPLY                   ", *b"P "),
+    Row(Token::SendonlyToken, *b"SENDONLY                ", *b"SO"),
+    Row(Token::SendrecvToken, *b"SENDRECEIVE             ", *b"SR"),
+    Row(Token::ServiceStatesToken, *b"SERVICESTATES           ", *b"SI"),
+    Row(Token::SubtractToken, *b"SUBTRACT                ", *b"S "),
+    Row(Token::TerminationStateToken, *b"TERMINATIONSTATE        ", *b"TS"),
+    Row(Token::TestToken, *b"TEST                    ", *b"TE"),
+    Row(Token::TransToken, *b"TRANSACTION             ", *b"T "),
+];
 
 fn same_letter(x: u8, y: u8) -> bool
     ensures { λ r. ⌜ r ≡ eqb (capital x) y ⌝ }
@@ -31,173 +70,98 @@ pub fn is_word(w: &[u8], form: &[u8]) -> bool
     true
 }
 
-// The long or the short form.
-fn is_either(w: &[u8], long: &[u8], short: &[u8]) -> bool
-    ensures { λ r. ⌜ r ≡ spelt (forms (now (long .entry)) (now (short .entry))) (capitals (now (w .entry))) ⌝ }
+// ---- bytes as one number, lowest first
+
+fn wide(b: u8) -> u64
+    ensures { λ r. ⌜ (r ≡ b) × (r < 256) ⌝ }
 {
-    is_word(w, long) | is_word(w, short)
+    b as u64
 }
 
-// The forms of each keyword stand in a function of their own: a byte string is laid down where its function starts, and so only
-// those of the keyword that is asked for are.
-fn is_megacop(w: &[u8]) -> bool
-    ensures { λ r. ⌜ r ≡ spelling "MEGACO" "!" (now (w .entry)) ⌝ }
+fn pair(w: &[u8], at: usize) -> u64
+    requires { ⌜ at + 2 ≤ length (now w) ⌝ }
+    ensures { λ r. ⌜ Packs 2 (now (w .entry)) at r ⌝ }
 {
-    is_either(w, b"MEGACO", b"!")
+    wide(w[at]) + wide(w[at + 1]) * 0x100
 }
 
-fn is_trans(w: &[u8]) -> bool
-    ensures { λ r. ⌜ r ≡ spelling "TRANSACTION" "T" (now (w .entry)) ⌝ }
+fn quad(w: &[u8], at: usize) -> u64
+    requires { ⌜ at + 4 ≤ length (now w) ⌝ }
+    ensures { λ r. ⌜ Packs 4 (now (w .entry)) at r ⌝ }
 {
-    is_either(w, b"TRANSACTION", b"T")
+    pair(w, at) + pair(w, at + 2) * 0x1_0000
 }
 
-fn is_ctx(w: &[u8]) -> bool
-    ensures { λ r. ⌜ r ≡ spelling "CONTEXT" "C" (now (w .entry)) ⌝ }
+fn octet(w: &[u8], at: usize) -> u64
+    requires { ⌜ at + 8 ≤ length (now w) ⌝ }
+    ensures { λ r. ⌜ Packs 8 (now (w .entry)) at r ⌝ }
 {
-    is_either(w, b"CONTEXT", b"C")
+    quad(w, at) + quad(w, at + 4) * 0x1_0000_0000
 }
 
-fn is_add(w: &[u8]) -> bool
-    ensures { λ r. ⌜ r ≡ spelling "ADD" "A" (now (w .entry)) ⌝ }
+// Letter case aside, where the bytes are letters.
+fn folded(x: u64) -> u64
+    ensures { λ r. ⌜ r ≡ bitAnd x mask ⌝ }
 {
-    is_either(w, b"ADD", b"A")
+    x & 0xdfdf_dfdf_dfdf_dfdf
 }
 
-fn is_modify(w: &[u8]) -> bool
-    ensures { λ r. ⌜ r ≡ spelling "MODIFY" "MF" (now (w .entry)) ⌝ }
+// The first 2, 4 or 8 bytes of a word.
+fn front(w: &[u8]) -> u64
+    requires { ⌜ 1 < length (now w) ⌝ }
+    ensures { λ r. ⌜ r ≡ frontKey (now (w .entry)) ⌝ }
 {
-    is_either(w, b"MODIFY", b"MF")
-}
-
-fn is_subtract(w: &[u8]) -> bool
-    ensures { λ r. ⌜ r ≡ spelling "SUBTRACT" "S" (now (w .entry)) ⌝ }
-{
-    is_either(w, b"SUBTRACT", b"S")
-}
-
-fn is_move(w: &[u8]) -> bool
-    ensures { λ r. ⌜ r ≡ spelling "MOVE" "MV" (now (w .entry)) ⌝ }
-{
-    is_either(w, b"MOVE", b"MV")
-}
-
-fn is_media(w: &[u8]) -> bool
-    ensures { λ r. ⌜ r ≡ spelling "MEDIA" "M" (now (w .entry)) ⌝ }
-{
-    is_either(w, b"MEDIA", b"M")
-}
-
-fn is_local_control(w: &[u8]) -> bool
-    ensures { λ r. ⌜ r ≡ spelling "LOCALCONTROL" "O" (now (w .entry)) ⌝ }
-{
-    is_either(w, b"LOCALCONTROL", b"O")
-}
-
-fn is_termination_state(w: &[u8]) -> bool
-    ensures { λ r. ⌜ r ≡ spelling "TERMINATIONSTATE" "TS" (now (w .entry)) ⌝ }
-{
-    is_either(w, b"TERMINATIONSTATE", b"TS")
-}
-
-fn is_mode(w: &[u8]) -> bool
-    ensures { λ r. ⌜ r ≡ spelling "MODE" "MO" (now (w .entry)) ⌝ }
-{
-    is_either(w, b"MODE", b"MO")
-}
-
-fn is_service_states(w: &[u8]) -> bool
-    ensures { λ r. ⌜ r ≡ spelling "SERVICESTATES" "SI" (now (w .entry)) ⌝ }
-{
-    is_either(w, b"SERVICESTATES", b"SI")
-}
-
-fn is_priority(w: &[u8]) -> bool
-    ensures { λ r. ⌜ r ≡ spelling "PRIORITY" "PR" (now (w .entry)) ⌝ }
-{
-    is_either(w, b"PRIORITY", b"PR")
-}
-
-fn is_emergency(w: &[u8]) -> bool
-    ensures { λ r. ⌜ r ≡ spelling "EMERGENCY" "EG" (now (w .entry)) ⌝ }
-{
-    is_either(w, b"EMERGENCY", b"EG")
-}
-
-fn is_inactive(w: &[u8]) -> bool
-    ensures { λ r. ⌜ r ≡ spelling "INACTIVE" "IN" (now (w .entry)) ⌝ }
-{
-    is_either(w, b"INACTIVE", b"IN")
-}
-
-fn is_sendonly(w: &[u8]) -> bool
-    ensures { λ r. ⌜ r ≡ spelling "SENDONLY" "SO" (now (w .entry)) ⌝ }
-{
-    is_either(w, b"SENDONLY", b"SO")
-}
-
-fn is_recvonly(w: &[u8]) -> bool
-    ensures { λ r. ⌜ r ≡ spelling "RECEIVEONLY" "RC" (now (w .entry)) ⌝ }
-{
-    is_either(w, b"RECEIVEONLY", b"RC")
-}
-
-fn is_sendrecv(w: &[u8]) -> bool
-    ensures { λ r. ⌜ r ≡ spelling "SENDRECEIVE" "SR" (now (w .entry)) ⌝ }
-{
-    is_either(w, b"SENDRECEIVE", b"SR")
-}
-
-fn is_loopback(w: &[u8]) -> bool
-    ensures { λ r. ⌜ r ≡ spelling "LOOPBACK" "LB" (now (w .entry)) ⌝ }
-{
-    is_either(w, b"LOOPBACK", b"LB")
-}
-
-fn is_in_svc(w: &[u8]) -> bool
-    ensures { λ r. ⌜ r ≡ spelling "INSERVICE" "IV" (now (w .entry)) ⌝ }
-{
-    is_either(w, b"INSERVICE", b"IV")
-}
-
-fn is_out_of_svc(w: &[u8]) -> bool
-    ensures { λ r. ⌜ r ≡ spelling "OUTOFSERVICE" "OS" (now (w .entry)) ⌝ }
-{
-    is_either(w, b"OUTOFSERVICE", b"OS")
-}
-
-fn is_test(w: &[u8]) -> bool
-    ensures { λ r. ⌜ r ≡ spelling "TEST" "TE" (now (w .entry)) ⌝ }
-{
-    is_either(w, b"TEST", b"TE")
-}
-
-// Whether a word is the keyword, in either form and any letter case.
-pub fn spells(k: Token, w: &[u8]) -> bool
-    ensures { λ r. ⌜ r ≡ spells k (now (w .entry)) ⌝ }
-{
-    match k {
-        Token::MegacopToken => is_megacop(w),
-        Token::TransToken => is_trans(w),
-        Token::CtxToken => is_ctx(w),
-        Token::AddToken => is_add(w),
-        Token::ModifyToken => is_modify(w),
-        Token::SubtractToken => is_subtract(w),
-        Token::MoveToken => is_move(w),
-        Token::MediaToken => is_media(w),
-        Token::LocalControlToken => is_local_control(w),
-        Token::TerminationStateToken => is_termination_state(w),
-        Token::ModeToken => is_mode(w),
-        Token::ServiceStatesToken => is_service_states(w),
-        Token::PriorityToken => is_priority(w),
-        Token::EmergencyToken => is_emergency(w),
-        Token::InactiveToken => is_inactive(w),
-        Token::SendonlyToken => is_sendonly(w),
-        Token::RecvonlyToken => is_recvonly(w),
-        Token::SendrecvToken => is_sendrecv(w),
-        Token::LoopbackToken => is_loopback(w),
-        Token::InSvcToken => is_in_svc(w),
-        Token::OutOfSvcToken => is_out_of_svc(w),
-        Token::TestToken => is_test(w),
+    if w.len() < 4 {
+        return folded(pair(w, 0));
     }
+    if w.len() < 8 {
+        return folded(quad(w, 0));
+    }
+    folded(octet(w, 0))
+}
+
+// Bytes 8 to 15 of a word that the first and the last do not cover.
+fn middle(w: &[u8]) -> u64
+    ensures { λ r. ⌜ r ≡ middleKey (now (w .entry)) ⌝ }
+{
+    if w.len() < 17 {
+        return 0;
+    }
+    folded(octet(w, 8))
+}
+
+// The last 2, 4 or 8 bytes of a word.
+fn back(w: &[u8]) -> u64
+    requires { ⌜ 1 < length (now w) ⌝ }
+    ensures { λ r. ⌜ r ≡ backKey (now (w .entry)) ⌝ }
+{
+    if w.len() < 4 {
+        return folded(pair(w, w.len() - 2));
+    }
+    if w.len() < 8 {
+        return folded(quad(w, w.len() - 4));
+    }
+    folded(octet(w, w.len() - 8))
+}
+
+// The numbers of words of one length.
+fn is_alike(w: &[u8], f: &[u8]) -> bool
+    requires { ⌜ (1 < length (now f)) × (length (now w) ≡ length (now f)) ⌝ }
+    ensures { λ r. ⌜ r ≡ alike (now (w .entry)) (now (f .entry)) ⌝ }
+{
+    (front(w) == front(f)) & (middle(w) == middle(f)) & (back(w) == back(f))
+}
+
+// Whether a word, in any letter case, is this form of a keyword.
+pub fn is_form(w: &[u8], f: &[u8]) -> bool
+    requires { ⌜ Formed (now f) ⌝ }
+    ensures { λ r. ⌜ r ≡ same (capitals (now (w .entry))) (now (f .entry)) ⌝ }
+{
+    if w.len() != f.len() {
+        return false;
+    }
+    if f.len() < 2 {
+        return same_letter(w[0], f[0]);
+    }
+    is_alike(w, f)
 }

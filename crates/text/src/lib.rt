@@ -1,4 +1,4 @@
-// Leaf readers: bytes and their classes, white space, rows of bytes, given bytes. Keywords are in keywords.rt.
+// Leaf readers: bytes and their classes, white space, rows of bytes, given bytes. Keywords are in keywords.rt and rows.rt.
 ghost use mathlib.Core.Path.{_≡_};
 ghost use Prim.Native.Nat.{_<_};
 ghost use Rattle.base.specs.Lists.{isAt};
@@ -8,9 +8,12 @@ ghost use Rattle.megaco.specs.Tokens.{markAt, signAt, letterAt, rowAt};
 ghost use Rattle.text.specs.Classes.{lowOf, highOf, halfOf, OfMaps};
 
 mod keywords;
+mod rows;
 
+pub use keywords::Meaning;
 pub use keywords::is_word;
-pub use keywords::spells;
+pub use rows::meaning_of;
+pub use rows::spells;
 use megaco::Class;
 use megaco::Parsed;
 

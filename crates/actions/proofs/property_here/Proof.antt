@@ -1,4 +1,5 @@
-use Rattle.megaco.specs.Reading.{isProperty}
+use Rattle.actions.proofs.ActionLaws.{here-property}
+use Rattle.base.specs.Lists.{part}
 use borrow.Author.Needs.{needs}
 use Rattle.actions.proofs.property_here.Statement.{statement}
 use Rattle.actions.proofs.property_here.Tie as tie
@@ -9,4 +10,8 @@ property-here-spec =
     (tie.spec
     (λ c κs. search needs)
     (λ c κs. search needs)
-    (λ c. unfold isProperty in rw (c .before .here-spells .ensures, c .here-spells2 .ensures)))
+    (λ c. search needs)
+    (λ c. search needs)
+    (λ c. search needs)
+    (λ c κs. search needs)
+    (λ c. unfold part in search here-property))

@@ -1,6 +1,5 @@
 use borrow.Author.Needs.{needs}
-use Rattle.base.specs.Pick.{pick-yes-by, pick-no-by}
-use Rattle.megaco.specs.Items.{modeGiven}
+use Rattle.items.proofs.ValueLaws.{mode-token, mode-none}
 use Rattle.items.proofs.mode_given.Statement.{statement}
 use Rattle.items.proofs.mode_given.Tie as tie
 
@@ -9,13 +8,8 @@ mode-given-spec =
     tie.close
     (tie.spec
     (λ c κs. search needs)
-    (λ c. unfold modeGiven in search (pick-yes-by, pick-no-by))
+    (λ c. search needs)
     (λ c κs. search needs)
-    (λ c. unfold modeGiven in search (pick-yes-by, pick-no-by))
-    (λ c κs. search needs)
-    (λ c. unfold modeGiven in search (pick-yes-by, pick-no-by))
-    (λ c κs. search needs)
-    (λ c. unfold modeGiven in search (pick-yes-by, pick-no-by))
-    (λ c κs. search needs)
-    (λ c. unfold modeGiven in search (pick-yes-by, pick-no-by))
-    (λ c. unfold modeGiven in search (pick-yes-by, pick-no-by)))
+    (λ c. search needs)
+    (λ c. search mode-token)
+    (λ c. search mode-none))

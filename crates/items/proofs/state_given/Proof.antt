@@ -1,6 +1,5 @@
 use borrow.Author.Needs.{needs}
-use Rattle.base.specs.Pick.{pick-yes-by, pick-no-by}
-use Rattle.megaco.specs.Items.{stateGiven}
+use Rattle.items.proofs.ValueLaws.{state-token, state-none}
 use Rattle.items.proofs.state_given.Statement.{statement}
 use Rattle.items.proofs.state_given.Tie as tie
 
@@ -9,9 +8,8 @@ state-given-spec =
     tie.close
     (tie.spec
     (λ c κs. search needs)
-    (λ c. unfold stateGiven in search (pick-yes-by, pick-no-by))
+    (λ c. search needs)
     (λ c κs. search needs)
-    (λ c. unfold stateGiven in search (pick-yes-by, pick-no-by))
-    (λ c κs. search needs)
-    (λ c. unfold stateGiven in search (pick-yes-by, pick-no-by))
-    (λ c. unfold stateGiven in search (pick-yes-by, pick-no-by)))
+    (λ c. search needs)
+    (λ c. search state-token)
+    (λ c. search state-none))

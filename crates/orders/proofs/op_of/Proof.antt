@@ -1,7 +1,5 @@
 use borrow.Author.Needs.{needs}
-use Rattle.base.specs.Pick.{picks}
-use Rattle.orders.specs.Orders.{foundOf}
-use Rattle.orders.proofs.OrderLaws.{op-wild, op-plain}
+use Rattle.orders.proofs.OrderLaws.{op-wild, op-of-token, op-of-none}
 use Rattle.orders.proofs.op_of.Statement.{statement}
 use Rattle.orders.proofs.op_of.Tie as tie
 
@@ -11,11 +9,8 @@ op-of-spec =
     (tie.spec
     (λ c. search op-wild)
     (λ c κs. search needs)
-    (λ c. unfold foundOf in search (op-plain, picks) depth 12)
+    (λ c. search needs)
     (λ c κs. search needs)
-    (λ c. unfold foundOf in search (op-plain, picks) depth 12)
-    (λ c κs. search needs)
-    (λ c. unfold foundOf in search (op-plain, picks) depth 12)
-    (λ c κs. search needs)
-    (λ c. unfold foundOf in search (op-plain, picks) depth 12)
-    (λ c. unfold foundOf in search (op-plain, picks) depth 12))
+    (λ c. search needs)
+    (λ c. search op-of-token)
+    (λ c. search op-of-none))

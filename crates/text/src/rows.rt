@@ -1,0 +1,409 @@
+// A word's row and its meaning. Derived from the table in keywords.rt: tools/keywords.py --write.
+ghost use mathlib.Core.Path.{_≡_};
+ghost use mathlib.Core.Option.{some};
+ghost use lib.ListN.{length};
+ghost use Rattle.base.specs.Lists.{same};
+ghost use Rattle.megaco.specs.Bytes.{capitals};
+ghost use Rattle.megaco.specs.Keywords.{formsOf, spells, meaningOf};
+ghost use Rattle.text.specs.Page.{rowOf, tokenAt, longOf, shortOf, told, meaningLater};
+use crate::keywords::KEYWORDS;
+use crate::keywords::Meaning;
+use crate::keywords::Row;
+use megaco::Token;
+
+// ---- rows
+
+// The row at a place, past the end the last one. Places and lengths are numbers that stand in the code where a form is asked for, so that
+// the compiler makes constants of the table; a table that is read at a variable place is laid down first.
+fn row_at(i: usize) -> Row
+    ensures { λ r. ⌜ r ≡ rowOf (tokenAt i) ⌝ }
+{
+    let t = KEYWORDS;
+    match i {
+        0 => t[0],
+        1 => t[1],
+        2 => t[2],
+        3 => t[3],
+        4 => t[4],
+        5 => t[5],
+        6 => t[6],
+        7 => t[7],
+        8 => t[8],
+        9 => t[9],
+        10 => t[10],
+        11 => t[11],
+        12 => t[12],
+        13 => t[13],
+        14 => t[14],
+        15 => t[15],
+        16 => t[16],
+        17 => t[17],
+        18 => t[18],
+        19 => t[19],
+        20 => t[20],
+        21 => t[21],
+        22 => t[22],
+        _ => t[23],
+    }
+}
+
+fn is_long(w: &[u8], i: usize, n: usize) -> bool
+    requires { ⌜ n ≡ length (longOf (formsOf (tokenAt i))) ⌝ }
+    ensures { λ r. ⌜ r ≡ same (capitals (now (w .entry))) (longOf (formsOf (tokenAt i))) ⌝ }
+{
+    let r = row_at(i);
+    let f = r.1;
+    crate::keywords::is_form(w, &f[0..n])
+}
+
+fn is_short(w: &[u8], i: usize, n: usize) -> bool
+    requires { ⌜ n ≡ length (shortOf (formsOf (tokenAt i))) ⌝ }
+    ensures { λ r. ⌜ r ≡ same (capitals (now (w .entry))) (shortOf (formsOf (tokenAt i))) ⌝ }
+{
+    let r = row_at(i);
+    let f = r.2;
+    crate::keywords::is_form(w, &f[0..n])
+}
+
+fn is_either(w: &[u8], i: usize, long: usize, short: usize) -> bool
+    requires { ⌜ (long ≡ length (longOf (formsOf (tokenAt i)))) × (short ≡ length (shortOf (formsOf (tokenAt i)))) ⌝ }
+    ensures { λ r. ⌜ r ≡ spells (tokenAt i) (now (w .entry)) ⌝ }
+{
+    is_long(w, i, long) | is_short(w, i, short)
+}
+
+// Whether a word is the keyword, in either form and any letter case: each row by itself, so that it is a constant.
+pub fn spells(k: Token, w: &[u8]) -> bool
+    ensures { λ r. ⌜ r ≡ spells k (now (w .entry)) ⌝ }
+{
+    match k {
+        Token::AddToken => is_either(w, 0, 3, 1),
+        Token::CtxToken => is_either(w, 1, 7, 1),
+        Token::EmergencyToken => is_either(w, 2, 9, 2),
+        Token::ErrorToken => is_either(w, 3, 5, 2),
+        Token::InactiveToken => is_either(w, 4, 8, 2),
+        Token::InSvcToken => is_either(w, 5, 9, 2),
+        Token::LocalControlToken => is_either(w, 6, 12, 1),
+        Token::LoopbackToken => is_either(w, 7, 8, 2),
+        Token::MediaToken => is_either(w, 8, 5, 1),
+        Token::MegacopToken => is_either(w, 9, 6, 1),
+        Token::ModeToken => is_either(w, 10, 4, 2),
+        Token::ModifyToken => is_either(w, 11, 6, 2),
+        Token::MoveToken => is_either(w, 12, 4, 2),
+        Token::OutOfSvcToken => is_either(w, 13, 12, 2),
+        Token::PriorityToken => is_either(w, 14, 8, 2),
+        Token::RecvonlyToken => is_either(w, 15, 11, 2),
+        Token::ReplyToken => is_either(w, 16, 5, 1),
+        Token::SendonlyToken => is_either(w, 17, 8, 2),
+        Token::SendrecvToken => is_either(w, 18, 11, 2),
+        Token::ServiceStatesToken => is_either(w, 19, 13, 2),
+        Token::SubtractToken => is_either(w, 20, 8, 1),
+        Token::TerminationStateToken => is_either(w, 21, 16, 2),
+        Token::TestToken => is_either(w, 22, 4, 2),
+        Token::TransToken => is_either(w, 23, 11, 1),
+    }
+}
+
+// What a row's keyword means.
+fn of(i: usize) -> Meaning
+    ensures { λ r. ⌜ told r ≡ some (tokenAt i) ⌝ }
+{
+    let r = row_at(i);
+    let m = r.0;
+    Meaning::Of(m)
+}
+
+// ---- words by their length
+
+fn letters_16(w: &[u8]) -> Meaning
+    ensures { λ r. ⌜ told r ≡ meaningLater 16 0 (now (w .entry)) ⌝ }
+{
+    if is_long(w, 21, 16) {
+        return of(21);
+    }
+    Meaning::Nothing
+}
+
+fn letters_13(w: &[u8]) -> Meaning
+    ensures { λ r. ⌜ told r ≡ meaningLater 13 0 (now (w .entry)) ⌝ }
+{
+    if is_long(w, 19, 13) {
+        return of(19);
+    }
+    Meaning::Nothing
+}
+
+fn letters_12(w: &[u8]) -> Meaning
+    ensures { λ r. ⌜ told r ≡ meaningLater 12 0 (now (w .entry)) ⌝ }
+{
+    if is_long(w, 6, 12) {
+        return of(6);
+    }
+    if is_long(w, 13, 12) {
+        return of(13);
+    }
+    Meaning::Nothing
+}
+
+fn letters_11(w: &[u8]) -> Meaning
+    ensures { λ r. ⌜ told r ≡ meaningLater 11 0 (now (w .entry)) ⌝ }
+{
+    if is_long(w, 15, 11) {
+        return of(15);
+    }
+    if is_long(w, 18, 11) {
+        return of(18);
+    }
+    if is_long(w, 23, 11) {
+        return of(23);
+    }
+    Meaning::Nothing
+}
+
+fn letters_9(w: &[u8]) -> Meaning
+    ensures { λ r. ⌜ told r ≡ meaningLater 9 0 (now (w .entry)) ⌝ }
+{
+    if is_long(w, 2, 9) {
+        return of(2);
+    }
+    if is_long(w, 5, 9) {
+        return of(5);
+    }
+    Meaning::Nothing
+}
+
+fn letters_8(w: &[u8]) -> Meaning
+    ensures { λ r. ⌜ told r ≡ meaningLater 8 0 (now (w .entry)) ⌝ }
+{
+    if is_long(w, 4, 8) {
+        return of(4);
+    }
+    if is_long(w, 7, 8) {
+        return of(7);
+    }
+    if is_long(w, 14, 8) {
+        return of(14);
+    }
+    if is_long(w, 17, 8) {
+        return of(17);
+    }
+    if is_long(w, 20, 8) {
+        return of(20);
+    }
+    Meaning::Nothing
+}
+
+fn letters_7(w: &[u8]) -> Meaning
+    ensures { λ r. ⌜ told r ≡ meaningLater 7 0 (now (w .entry)) ⌝ }
+{
+    if is_long(w, 1, 7) {
+        return of(1);
+    }
+    Meaning::Nothing
+}
+
+fn letters_6(w: &[u8]) -> Meaning
+    ensures { λ r. ⌜ told r ≡ meaningLater 6 0 (now (w .entry)) ⌝ }
+{
+    if is_long(w, 9, 6) {
+        return of(9);
+    }
+    if is_long(w, 11, 6) {
+        return of(11);
+    }
+    Meaning::Nothing
+}
+
+fn letters_5(w: &[u8]) -> Meaning
+    ensures { λ r. ⌜ told r ≡ meaningLater 5 0 (now (w .entry)) ⌝ }
+{
+    if is_long(w, 3, 5) {
+        return of(3);
+    }
+    if is_long(w, 8, 5) {
+        return of(8);
+    }
+    if is_long(w, 16, 5) {
+        return of(16);
+    }
+    Meaning::Nothing
+}
+
+fn letters_4(w: &[u8]) -> Meaning
+    ensures { λ r. ⌜ told r ≡ meaningLater 4 0 (now (w .entry)) ⌝ }
+{
+    if is_long(w, 10, 4) {
+        return of(10);
+    }
+    if is_long(w, 12, 4) {
+        return of(12);
+    }
+    if is_long(w, 22, 4) {
+        return of(22);
+    }
+    Meaning::Nothing
+}
+
+fn letters_3(w: &[u8]) -> Meaning
+    ensures { λ r. ⌜ told r ≡ meaningLater 3 0 (now (w .entry)) ⌝ }
+{
+    if is_long(w, 0, 3) {
+        return of(0);
+    }
+    Meaning::Nothing
+}
+
+fn letters_2_from_15(w: &[u8]) -> Meaning
+    ensures { λ r. ⌜ told r ≡ meaningLater 2 15 (now (w .entry)) ⌝ }
+{
+    if is_short(w, 22, 2) {
+        return of(22);
+    }
+    Meaning::Nothing
+}
+
+fn letters_2_from_10(w: &[u8]) -> Meaning
+    ensures { λ r. ⌜ told r ≡ meaningLater 2 10 (now (w .entry)) ⌝ }
+{
+    if is_short(w, 15, 2) {
+        return of(15);
+    }
+    if is_short(w, 17, 2) {
+        return of(17);
+    }
+    if is_short(w, 18, 2) {
+        return of(18);
+    }
+    if is_short(w, 19, 2) {
+        return of(19);
+    }
+    if is_short(w, 21, 2) {
+        return of(21);
+    }
+    letters_2_from_15(w)
+}
+
+fn letters_2_from_5(w: &[u8]) -> Meaning
+    ensures { λ r. ⌜ told r ≡ meaningLater 2 5 (now (w .entry)) ⌝ }
+{
+    if is_short(w, 10, 2) {
+        return of(10);
+    }
+    if is_short(w, 11, 2) {
+        return of(11);
+    }
+    if is_short(w, 12, 2) {
+        return of(12);
+    }
+    if is_short(w, 13, 2) {
+        return of(13);
+    }
+    if is_short(w, 14, 2) {
+        return of(14);
+    }
+    letters_2_from_10(w)
+}
+
+fn letters_2(w: &[u8]) -> Meaning
+    ensures { λ r. ⌜ told r ≡ meaningLater 2 0 (now (w .entry)) ⌝ }
+{
+    if is_short(w, 2, 2) {
+        return of(2);
+    }
+    if is_short(w, 3, 2) {
+        return of(3);
+    }
+    if is_short(w, 4, 2) {
+        return of(4);
+    }
+    if is_short(w, 5, 2) {
+        return of(5);
+    }
+    if is_short(w, 7, 2) {
+        return of(7);
+    }
+    letters_2_from_5(w)
+}
+
+fn letters_1_from_5(w: &[u8]) -> Meaning
+    ensures { λ r. ⌜ told r ≡ meaningLater 1 5 (now (w .entry)) ⌝ }
+{
+    if is_short(w, 16, 1) {
+        return of(16);
+    }
+    if is_short(w, 20, 1) {
+        return of(20);
+    }
+    if is_short(w, 23, 1) {
+        return of(23);
+    }
+    Meaning::Nothing
+}
+
+fn letters_1(w: &[u8]) -> Meaning
+    ensures { λ r. ⌜ told r ≡ meaningLater 1 0 (now (w .entry)) ⌝ }
+{
+    if is_short(w, 0, 1) {
+        return of(0);
+    }
+    if is_short(w, 1, 1) {
+        return of(1);
+    }
+    if is_short(w, 6, 1) {
+        return of(6);
+    }
+    if is_short(w, 8, 1) {
+        return of(8);
+    }
+    if is_short(w, 9, 1) {
+        return of(9);
+    }
+    letters_1_from_5(w)
+}
+
+// The meaning of the row that spells the word, letter case aside, or none.
+pub fn meaning_of(w: &[u8]) -> Meaning
+    ensures { λ r. ⌜ told r ≡ meaningOf (now (w .entry)) ⌝ }
+{
+    let n = w.len();
+    if n == 1 {
+        return letters_1(w);
+    }
+    if n == 2 {
+        return letters_2(w);
+    }
+    if n == 3 {
+        return letters_3(w);
+    }
+    if n == 4 {
+        return letters_4(w);
+    }
+    if n == 5 {
+        return letters_5(w);
+    }
+    if n == 6 {
+        return letters_6(w);
+    }
+    if n == 7 {
+        return letters_7(w);
+    }
+    if n == 8 {
+        return letters_8(w);
+    }
+    if n == 9 {
+        return letters_9(w);
+    }
+    if n == 11 {
+        return letters_11(w);
+    }
+    if n == 12 {
+        return letters_12(w);
+    }
+    if n == 13 {
+        return letters_13(w);
+    }
+    if n == 16 {
+        return letters_16(w);
+    }
+    Meaning::Nothing
+}
