@@ -1,17 +1,19 @@
 /*
- * The Megaco trunk gateway, for C99 and C++: the call, and two questions about
- * the ephemerals in use.
+ * The Megaco trunk gateway, for C99 and C++: the call, the contexts as text, two
+ * questions about the ephemerals in use, and digit maps.
  *
  * A call takes the count of lines that the shelf has, one H.248.1 (Megaco) text
  * message and a table that the caller lends, runs the message on the table, and
- * writes the reply into a buffer that the caller lends. What it answers is
- * document 01's; the code of the call is proved equal to the definition in
- * crates/megaco/specs.
+ * writes the reply into a buffer that the caller lends. docs/REFERENCE.md says
+ * what a message may say and what is answered; the code is proved equal to the
+ * definition in crates/megaco/specs.
  *
  *     cc -I include program.c target/staticlib/libcordafina.a
  *
- * The archive is for x86-64 Linux and asks for nothing but the C library's
- * memory functions.
+ * `rt staticlib cordafina` makes the archive. If the compiler finds no such file,
+ * or the linker says `undefined reference to cordafina_answer`, it was not made
+ * or does not stand behind the program on the command line. It is for x86-64
+ * Linux and asks for nothing but the C library's memory functions.
  */
 #ifndef CORDAFINA_H
 #define CORDAFINA_H
@@ -21,8 +23,35 @@
 
 #include "cordafina_digit_maps.h"
 
+/*
+ * The version of this header and its archive; it goes up with every change that
+ * a caller sees. 1 had no number.
+ *
+ * What changes when words are added. The table grows at its end only: the words
+ * told below keep their places and their meaning, CORDAFINA_TABLE_WORDS grows, and
+ * the new words have macros of their own. A program that uses the macros is
+ * compiled again, and no more; a table that was kept by an older version is of
+ * another length and is turned down (CORDAFINA_TABLE_UNSOUND), and so is one lent
+ * by a program that was compiled with an older header. All zero stays the fresh
+ * table.
+ */
+#define CORDAFINA_VERSION 2
+
+/*
+ * Stack that a call of any function here uses at most, but for the plain digit
+ * matcher. Measured and rounded up: tests/stack.c runs each function on a painted
+ * stack, on some 2,600 messages, and fails if one takes more. The deepest was
+ * 8,816 bytes. It does not grow with a message: items nest 8 levels, a number is
+ * written in 10 digits, and nothing else calls itself.
+ */
+#define CORDAFINA_STACK_BYTES 12288
+
 /* Lines of a shelf: 1 to so many. */
 #define CORDAFINA_MOST_LINES 16
+/* Channels of a line; ephemerals and contexts, whatever the count of lines. */
+#define CORDAFINA_CHANNELS 31
+#define CORDAFINA_EPHEMERALS 64
+#define CORDAFINA_CONTEXTS 128
 
 /*
  * The table of n lines, N = 31n + 64 being the terminations. All zero is the
@@ -54,20 +83,42 @@
 /* Words of a table: exactly so many, 754 for eight lines. */
 #define CORDAFINA_TABLE_WORDS(n) (CORDAFINA_MAP(n) + 2)
 
+/* A termination's mode and state, from its properties. */
+#define CORDAFINA_MODE(properties) ((properties) % 8)
+#define CORDAFINA_STATE(properties) ((properties) / 8)
+#define CORDAFINA_INACTIVE 0
+#define CORDAFINA_SEND_ONLY 1
+#define CORDAFINA_RECEIVE_ONLY 2
+#define CORDAFINA_SEND_RECEIVE 3
+#define CORDAFINA_LOOPBACK 4
+#define CORDAFINA_IN_SERVICE 0
+#define CORDAFINA_OUT_OF_SERVICE 1
+#define CORDAFINA_TEST 2
+/* A context's priority and emergency, from its record, which is not 0. */
+#define CORDAFINA_PRIORITY(record) (((record) - 1) % 16)
+#define CORDAFINA_EMERGENCY(record) ((record) > 16)
+
 /* Bytes of a reply buffer: at least so many. No reply is longer. */
 #define CORDAFINA_REPLY_BYTES 16640
+/* Bytes of an output for the contexts as text: at least so many. No text is longer. */
+#define CORDAFINA_OUTPUT_BYTES 8192
 /* Bytes of a message: 1 to so many. */
 #define CORDAFINA_MESSAGE_BYTES 4096
 /* Bytes of the gateway's own mId: 1 to so many. */
 #define CORDAFINA_MID_BYTES 64
 
-/* What cordafina_refusal gives: the documents' numbers of the calls turned down. */
-#define CORDAFINA_TAKEN 0           /* not turned down: there is a reply */
-#define CORDAFINA_BAD_MESSAGE 1     /* message of 0 or over 4,096 bytes */
-#define CORDAFINA_BAD_TABLE 2       /* table not of the count's words, or not sound */
-#define CORDAFINA_REPLY_TOO_SHORT 3 /* reply buffer under 16,640 bytes */
-#define CORDAFINA_BAD_MID 4         /* own mId not an mId, or over 64 bytes */
-#define CORDAFINA_LINES_UNFIT 8     /* count of lines outside 1 to 16 */
+/*
+ * What cordafina_refusal gives. The names are those of the Rust crate and of the
+ * proved code; 6 and 7 are in cordafina_digit_maps.h. Numbers that are missing
+ * belong to functions that are not built.
+ */
+#define CORDAFINA_TAKEN 0             /* not turned down: there is a reply, or a text */
+#define CORDAFINA_MESSAGE_UNFIT 1     /* message of 0 or over 4,096 bytes */
+#define CORDAFINA_TABLE_UNSOUND 2     /* table not of the count's words, or not sound */
+#define CORDAFINA_REPLY_TOO_SHORT 3   /* reply buffer under 16,640 bytes */
+#define CORDAFINA_MID_UNFIT 4         /* own mId not an mId, or over 64 bytes */
+#define CORDAFINA_LINES_UNFIT 8       /* count of lines outside 1 to 16 */
+#define CORDAFINA_OUTPUT_TOO_SHORT 11 /* output under 8,192 bytes */
 
 #ifdef __cplusplus
 extern "C" {
@@ -117,6 +168,27 @@ uint64_t cordafina_answer(uint32_t lines,
                           uint8_t *reply, size_t reply_len);
 
 /*
+ * The contexts of a table as text, for people: `contexts` and their count, then a
+ * line for each, ascending: number, priority, emergency 0 or 1, and the names of
+ * its terminations, one space between. Each line ends with LF.
+ *
+ *     contexts 1
+ *     1 0 0 L/1/5 R/1
+ *
+ *   lines                  the count of lines, 1 to 16
+ *   table, table_len       the table, its length in words; read only
+ *   out, out_len           where the text goes, at least 8,192 bytes
+ *
+ * The result is taken apart as that of cordafina_answer. The refusals are judged
+ * in the order 8, 11, 2. A refusal writes no byte; otherwise the bytes past the
+ * text stay. The text is not ended by a zero byte. Pointers, ownership and threads
+ * are as above.
+ */
+uint64_t cordafina_contexts(uint32_t lines,
+                            const uint32_t *table, size_t table_len,
+                            uint8_t *out, size_t out_len);
+
+/*
  * Asked of the map alone, given as one number; no table is read. Any map is
  * answered.
  *
@@ -133,16 +205,33 @@ static inline uint64_t cordafina_map(uint32_t lines, const uint32_t *table)
     return map[0] | (uint64_t)map[1] << 32;
 }
 
-/* The reply's length in a result of cordafina_answer; 0 for a call turned down. */
+/* The length in a result of cordafina_answer or cordafina_contexts; 0 for a call turned down. */
 static inline size_t cordafina_length(uint64_t answer)
 {
     return (size_t)(answer & 0xFFFFFFFFu);
 }
 
-/* The refusal in a result of cordafina_answer: CORDAFINA_TAKEN or one of the five. */
+/* The refusal in such a result: CORDAFINA_TAKEN or one of those above. */
 static inline int cordafina_refusal(uint64_t answer)
 {
     return (int)(answer >> 32);
+}
+
+/* A refusal in words, for a log. */
+static inline const char *cordafina_refusal_text(int refusal)
+{
+    switch (refusal) {
+    case CORDAFINA_TAKEN: return "not turned down";
+    case CORDAFINA_MESSAGE_UNFIT: return "message of 0 or over 4,096 bytes";
+    case CORDAFINA_TABLE_UNSOUND: return "table not of its count's words, or not sound";
+    case CORDAFINA_REPLY_TOO_SHORT: return "reply buffer under 16,640 bytes";
+    case CORDAFINA_MID_UNFIT: return "own mId not an mId, or over 64 bytes";
+    case CORDAFINA_BAD_MAP: return "digit map malformed or too large";
+    case CORDAFINA_BAD_STRING: return "dialled string over 32 symbols, or with a foreign one";
+    case CORDAFINA_LINES_UNFIT: return "count of lines outside 1 to 16";
+    case CORDAFINA_OUTPUT_TOO_SHORT: return "output under 8,192 bytes";
+    default: return "no refusal of this version";
+    }
 }
 
 #ifdef __cplusplus

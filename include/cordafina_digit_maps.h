@@ -1,6 +1,6 @@
 /*
- * Digit maps (CR 8, CR 9), for C99 and C++. docs/DIGITS.md says what a map is and
- * what the answers mean.
+ * Digit maps, for C99 and C++. docs/REFERENCE.md says what a map is and what the
+ * answers mean.
  */
 #ifndef CORDAFINA_DIGIT_MAPS_H
 #define CORDAFINA_DIGIT_MAPS_H
@@ -21,7 +21,7 @@
 #define CORDAFINA_TIMER_SHORT 3
 #define CORDAFINA_TIMER_RUN_OUT 4
 
-/* What cordafina_dial_refusal gives: document 02's numbers, 0 for an answer. */
+/* What cordafina_dial_refusal gives, 0 for an answer; cordafina_refusal_text has the words. */
 #define CORDAFINA_BAD_MAP 6     /* malformed or too large map */
 #define CORDAFINA_BAD_STRING 7  /* dialled string over 32 symbols, or with a foreign one */
 
@@ -48,8 +48,11 @@ uint32_t cordafina_dial(const uint8_t *map, size_t map_len,
                         uint32_t start, uint32_t zero,
                         const uint8_t *dialled, size_t dialled_len);
 
+/* Stack that cordafina_dial_plain uses at most, measured as CORDAFINA_STACK_BYTES is. */
+#define CORDAFINA_PLAIN_STACK_BYTES 20480
+
 /*
- * As cordafina_dial, by the plain matcher (CR 9): the same result on every map
+ * As cordafina_dial, by the plain matcher: the same result on every map
  * and string, but it tries each way through repeated selectors, and on some
  * maps does not come back in any useful time (docs/DIGITS.md). For support, not
  * for calls.

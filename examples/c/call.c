@@ -1,4 +1,8 @@
-/* Places a call: a line and an RTP ephemeral into a new context, both turned on, and cleared again. */
+/*
+ * Places a call: a line and an RTP ephemeral into a new context, both turned on, and cleared again.
+ *
+ *     cc -I include examples/c/call.c target/staticlib/libcordafina.a -o call
+ */
 #include <stdio.h>
 #include <string.h>
 
@@ -17,6 +21,7 @@ int main(void)
     static const char own[] = "[10.0.0.9]";
     static uint32_t table[CORDAFINA_TABLE_WORDS(LINES)];
     static uint8_t reply[CORDAFINA_REPLY_BYTES];
+    static uint8_t text[CORDAFINA_OUTPUT_BYTES];
 
     for (size_t i = 0; i < sizeof messages / sizeof messages[0]; i++) {
         uint64_t answer = cordafina_answer(LINES, (const uint8_t *)messages[i], strlen(messages[i]),
@@ -24,7 +29,7 @@ int main(void)
                                            (const uint8_t *)own, strlen(own),
                                            reply, sizeof reply);
         if (cordafina_refusal(answer) != CORDAFINA_TAKEN) {
-            printf("refused %d\n", cordafina_refusal(answer));
+            fprintf(stderr, "refused: %s\n", cordafina_refusal_text(cordafina_refusal(answer)));
             return 1;
         }
         printf("%s\n  %.*s\n", messages[i], (int)cordafina_length(answer), (const char *)reply);
@@ -32,6 +37,8 @@ int main(void)
         uint64_t map = cordafina_map(LINES, table);
         printf("  ephemerals in use: %u, next: R/%u\n", (unsigned)cordafina_in_use(map),
                (unsigned)cordafina_lowest_absent(map));
+        uint64_t contexts = cordafina_contexts(LINES, table, CORDAFINA_TABLE_WORDS(LINES), text, sizeof text);
+        printf("%.*s", (int)cordafina_length(contexts), (const char *)text);
     }
     return 0;
 }

@@ -1,2 +1,3 @@
 pub mod FaceLaws
 mod HeadLaws
+mod ContextLaws

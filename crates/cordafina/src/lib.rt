@@ -1,6 +1,8 @@
 // The library's face for C: thin functions, each with the promise of the one that it calls. `rt staticlib cordafina` makes the archive
 // that include/cordafina.h declares.
+pub mod contexts;
 pub mod digit_maps;
+
 use gateway::Outcome;
 ghost use mathlib.Core.Path.{_≡_};
 ghost use Rattle.base.specs.Lists.{lowestAbsent};

@@ -35,14 +35,14 @@ pub fn answer(
 }
 
 // 1 to 16.
-fn are_fitted(lines: u32) -> bool
+pub fn are_fitted(lines: u32) -> bool
     ensures { λ r. ⌜ r ≡ within lines mostLines ⌝ }
 {
     (0 < lines) & (lines <= table::MOST_LINES)
 }
 
 // The words of a table of so many lines.
-fn words_of(lines: u32) -> usize
+pub fn words_of(lines: u32) -> usize
     ensures { λ r. ⌜ r ≡ words lines ⌝ }
 {
     let n = table::line_terminations(lines) + table::EPHEMERALS as usize;

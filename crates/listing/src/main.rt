@@ -149,6 +149,6 @@ fn main() {
     let held = take_input(&mut line, &mut table, &mut out);
     let n = finish_line(&line, held, &mut table, &mut out);
     io::write_all(1, &out[0..n]);
-    let k = sessions::put_contexts(&mut out, 0, &table);
+    let k = sessions::put_contexts(&mut out, 0, 8, &table);
     io::write_all(1, &out[0..k]);
 }

@@ -1,12 +1,12 @@
--- How long the contexts of a sound table are, printed.
+-- How long the contexts of a sound table of any count of lines are, printed.
 use Prim.Native.Nat.{ℕ, suc, _+_, _*_, _-_, _/_, _%_, _≤_, _<_}
-use mathlib.Core.Path.{_≡_}
+use mathlib.Core.Path.{_≡_, refl}
 use mathlib.Core.Bool.{Bool, true, false, _&&_}
 use mathlib.Core.List.{List, [], _∷_}
 use native.Mathlib.Omega.{arith}
 use lib.ListN.{length, take, drop, length-take}
 use lib.Dec.{eqb, leb}
-use borrow.Author.Tests.{eqb-true, leb-false}
+use borrow.Author.Tests.{eqb-true, eqb-false, leb-false, ne-eqb}
 use Rattle.base.specs.Pick.{pick}
 use Rattle.base.specs.Lists.{every, count}
 use Rattle.base.specs.Bytes.{text, decimal, _then_}
@@ -14,53 +14,94 @@ use Rattle.base.proofs.PickLaws.{pick-ind}
 use Rattle.base.proofs.TestLaws.{pick-both, and-both}
 use Rattle.base.proofs.TextLaws.{length-then, length-below}
 use Rattle.laws.specs.Sound.{record-sound}
-use Rattle.megaco.specs.Table.{channels, terminations, contexts, words, lineTerminations, isEphemeral, contextWords, propertyWords, recordWords, ephemeralContexts, ephemeralProperties, isPropertyWord, absentAreZero, priorityOf, emergencyOf, recordIsSound, recordsAreSound, sized, mapIsSound, sound}
+use Rattle.megaco.specs.Table.{channels, terminations, contexts, words, mostLines, lineTerminations, isEphemeral, contextWords, propertyWords, recordWords, ephemeralContexts, ephemeralProperties, isPropertyWord, absentAreZero, priorityOf, emergencyOf, recordIsSound, recordsAreSound, sized, mapIsSound, sound}
 use Rattle.megaco.specs.Names.{nameText}
 use Rattle.megaco.proofs.Sizes.{fitted-is}
 use Rattle.sessions.specs.Session.{ready}
 use Rattle.sessions.specs.Lines.{lineEnd}
-use Rattle.sessions.specs.Listing.{lines, each, memberText, membersText, propertiesText, contextLine, present, countLine, partsText, reportText}
+use Rattle.sessions.specs.Listing.{lines, each, memberText, membersText, propertiesText, contextLine, present, countLine, partsText, contextsText, reportText}
 
 -- `R/n`, `L/l/s`
-name-fits : (i : ℕ) → i < (terminations lines) → length (nameText lines i) ≤ 6
-unfolding nameText lines isEphemeral
-name-fits i h =
-    pick-ind (λ l. length l ≤ 6) (leb (lineTerminations lines) i) (text "R/" then decimal (i - (lineTerminations lines) + 1))
+name-fits : (n i : ℕ) → n ≤ mostLines → i < terminations n → length (nameText n i) ≤ 7
+unfolding nameText isEphemeral
+name-fits n i m h =
+    pick-ind (λ l. length l ≤ 7) (leb (lineTerminations n) i) (text "R/" then decimal (i - lineTerminations n + 1))
     (text "L/" then decimal (i / channels + 1) then text "/" then decimal (i % channels + 1))
-    (λ e. simp length-then (omega (arith, length-below 1 (i - (lineTerminations lines) + 1) (omega arith))))
+    (λ e. simp length-then (omega (arith, length-below 1 (i - lineTerminations n + 1) (omega arith))))
     (λ e.
     simp length-then
-    (omega (arith, length-below 0 (i / channels + 1) (omega (arith, leb-false (lineTerminations lines) i e)), length-below 1 (i % channels + 1) (omega arith))))
+    (omega (arith, length-below 1 (i / channels + 1) (omega (arith, leb-false (lineTerminations n) i e)), length-below 1 (i % channels + 1) (omega arith))))
 
-member-fits : (c i w : ℕ) → i < (terminations lines) → length (memberText c i w) ≤ 7 * pick (eqb w c) 1 0
+member-fits : (n c i w : ℕ) → n ≤ mostLines → i < terminations n → length (memberText n c i w) ≤ 8 * pick (eqb w c) 1 0
 unfolding memberText pick
-member-fits c i w h = by (eqb w c)
+member-fits n c i w m h = by (eqb w c)
   where
-    by : (x : Bool) → length (pick x (text " " then nameText lines i) []) ≤ 7 * pick x 1 0
-    by true = simp length-then (omega (arith, name-fits i h))
+    by : (x : Bool) → length (pick x (text " " then nameText n i) []) ≤ 8 * pick x 1 0
+    by true = simp length-then (omega (arith, name-fits n i m h))
     by false = omega arith
 
-members-fit : (c i : ℕ) (ws : List ℕ) → i + length ws ≤ (terminations lines) → length (each (memberText c) i ws) ≤ 7 * count c ws
+members-fit : (n c i : ℕ) (ws : List ℕ) → n ≤ mostLines → i + length ws ≤ terminations n → length (each (memberText n c) i ws) ≤ 8 * count c ws
 unfolding each count
-members-fit c i [] h = omega arith
-members-fit c i (w ∷ ws) h = simp length-then (omega (arith, member-fits c i w (omega arith), members-fit c (i + 1) ws (omega arith)))
+members-fit n c i [] m h = omega arith
+members-fit n c i (w ∷ ws) m h = simp length-then (omega (arith, member-fits n c i w m (omega arith), members-fit n c (i + 1) ws m (omega arith)))
 
-line-fits : (ws : List ℕ) (c r : ℕ) → length ws ≤ (terminations lines) → c ≤ contexts → recordIsSound r (count c ws) ≡ true → length (contextLine ws c r) ≤ 65
+line-fits : (n : ℕ) (ws : List ℕ) (c r : ℕ) → n ≤ mostLines → length ws ≤ terminations n → c ≤ contexts → recordIsSound r (count c ws) ≡ true
+    → length (contextLine n ws c r) ≤ 9 + 8 * count c ws
 unfolding contextLine propertiesText
-line-fits ws c r l h s =
+line-fits n ws c r m l h s =
     let k = record-sound r (count c ws) s in
-    pick-ind (λ x. length x ≤ 65) (eqb r 0) [] (decimal c then propertiesText r then membersText c ws then (lineEnd ∷ [])) (λ e. omega arith)
+    pick-ind (λ x. length x ≤ 9 + 8 * count c ws) (eqb r 0) [] (decimal c then propertiesText r then membersText n c ws then (lineEnd ∷ [])) (λ e. omega arith)
     (λ e.
     simp length-then
-    (omega (arith, length-below 2 c (omega arith), length-below 1 (priorityOf r) (omega arith), length-below 0 (emergencyOf r) (omega arith), members-fit c 0 ws (omega arith))))
+    (omega (arith, length-below 2 c (omega arith), length-below 1 (priorityOf r) (omega arith), length-below 0 (emergencyOf r) (omega arith), members-fit n c 0 ws m (omega arith))))
 
-lines-fit : (ws : List ℕ) (c : ℕ) (rs : List ℕ) → length ws ≤ (terminations lines) → c + length rs ≤ suc contexts → recordsAreSound ws c rs ≡ true
-    → length (each (contextLine ws) c rs) ≤ 65 * length rs
-unfolding each recordsAreSound
-lines-fit ws c [] l h s = omega arith
-lines-fit ws c (r ∷ rs) l h s =
+-- ---- a termination stands in one context at most
+
+-- the terminations in the contexts from c on, one for each record
+spread : List ℕ → ℕ → List ℕ → ℕ
+spread ws c [] = 0
+spread ws c (r ∷ rs) = count c ws + spread ws (c + 1) rs
+
+-- how many of those contexts a word names
+meets : ℕ → ℕ → List ℕ → ℕ
+meets w c [] = 0
+meets w c (r ∷ rs) = pick (eqb w c) 1 0 + meets w (c + 1) rs
+
+meets-none : (w c : ℕ) (rs : List ℕ) → w < c → meets w c rs ≡ 0
+unfolding meets pick
+meets-none w c [] h = refl
+meets-none w c (r ∷ rs) h = rw (ne-eqb w c (λ e. omega arith), meets-none w (c + 1) rs (omega arith))
+
+meets-once : (w c : ℕ) (rs : List ℕ) → meets w c rs ≤ 1
+unfolding meets
+meets-once w c [] = omega arith
+meets-once w c (r ∷ rs) =
+    pick-ind (λ x. x + meets w (c + 1) rs ≤ 1) (eqb w c) 1 0 (λ e. omega (arith, eqb-true w c e, meets-none w (c + 1) rs (omega (arith, eqb-true w c e))))
+    (λ e. omega (arith, meets-once w (c + 1) rs))
+
+spread-more : (w : ℕ) (ws : List ℕ) (c : ℕ) (rs : List ℕ) → spread (w ∷ ws) c rs ≡ meets w c rs + spread ws c rs
+unfolding spread meets count
+spread-more w ws c [] = omega arith
+spread-more w ws c (r ∷ rs) = omega (arith, spread-more w ws (c + 1) rs)
+
+spread-none : (c : ℕ) (rs : List ℕ) → spread [] c rs ≡ 0
+unfolding spread count
+spread-none c [] = refl
+spread-none c (r ∷ rs) = omega (arith, spread-none (c + 1) rs)
+
+spread-fits : (ws : List ℕ) (c : ℕ) (rs : List ℕ) → spread ws c rs ≤ length ws
+spread-fits [] c rs = omega (arith, spread-none c rs)
+spread-fits (w ∷ ws) c rs = omega (arith, spread-more w ws c rs, meets-once w c rs, spread-fits ws c rs)
+
+-- ---- the whole
+
+lines-fit : (n : ℕ) (ws : List ℕ) (c : ℕ) (rs : List ℕ) → n ≤ mostLines → length ws ≤ terminations n → c + length rs ≤ suc contexts → recordsAreSound ws c rs ≡ true
+    → length (each (contextLine n ws) c rs) ≤ 9 * length rs + 8 * spread ws c rs
+unfolding spread each recordsAreSound
+lines-fit n ws c [] m l h s = omega arith
+lines-fit n ws c (r ∷ rs) m l h s =
     let k = pick-both (recordIsSound r (count c ws)) (recordsAreSound ws (c + 1) rs) s in
-    simp length-then (omega (arith, line-fits ws c r l (omega arith) (k .0), lines-fit ws (c + 1) rs l (omega arith) (k .1)))
+    simp length-then (omega (arith, line-fits n ws c r m l (omega arith) (k .0), lines-fit n ws (c + 1) rs m l (omega arith) (k .1)))
 
 present-fits : (rs : List ℕ) → present rs ≤ length rs
 unfolding present
@@ -74,19 +115,23 @@ records-of-sound t s =
     let words′ : Bool = sized t && every (λ w. leb w contexts) (contextWords t) && every isPropertyWord (propertyWords t) && absentAreZero (ephemeralContexts t) (ephemeralProperties t) in
     and-both words′ r (and-both (words′ && r) (mapIsSound t) s .0) .1
 
-records-of-ready : (t : List ℕ) → ready t ≡ true
-    → recordsAreSound (take (terminations lines) t) 1 (take contexts (drop (terminations lines + terminations lines) t)) ≡ true
-unfolding ready contextWords recordWords
-records-of-ready t e =
-    let b = and-both (eqb (length t) (words lines)) (sound t) e in
-    rw (fitted-is lines t (eqb-true (length t) (words lines) (b .0))) at (records-of-sound t (b .1))
+records-of : (n : ℕ) (t : List ℕ) → length t ≡ words n → sound t ≡ true
+    → recordsAreSound (take (terminations n) t) 1 (take contexts (drop (terminations n + terminations n) t)) ≡ true
+unfolding contextWords recordWords
+records-of n t l s = rw (fitted-is n t l) at (records-of-sound t s)
 
--- the contexts of a sound table of eight lines take at most 8,333 bytes
-pub report-fits : (t : List ℕ) → ready t ≡ true → length (reportText t) ≤ 8333
-unfolding reportText partsText countLine
-report-fits t s =
-    let ws : List ℕ = take (terminations lines) t in
-    let rs : List ℕ = take contexts (drop (terminations lines + terminations lines) t) in
-    let k : length rs ≤ contexts = omega (arith, length-take contexts (drop (terminations lines + terminations lines) t)) in
-    let l : length ws ≤ terminations lines = omega (arith, length-take (terminations lines) t) in
-    simp length-then (omega (arith, length-below 2 (present rs) (omega (arith, present-fits rs)), lines-fit ws 1 rs l (omega arith) (records-of-ready t s)))
+-- the contexts of a sound table of n lines take at most 5,645 bytes: 13 for their count, 9 for each context, 8 for each termination
+pub contexts-fit : (n : ℕ) (t : List ℕ) → n ≤ mostLines → length t ≡ words n → sound t ≡ true → length (contextsText n t) ≤ 5645
+unfolding contextsText partsText countLine
+contexts-fit n t m e s =
+    let ws : List ℕ = take (terminations n) t in
+    let rs : List ℕ = take contexts (drop (terminations n + terminations n) t) in
+    let k : length rs ≤ contexts = omega (arith, length-take contexts (drop (terminations n + terminations n) t)) in
+    let l : length ws ≤ terminations n = omega (arith, length-take (terminations n) t) in
+    simp length-then
+    (omega (arith, length-below 2 (present rs) (omega (arith, present-fits rs)), spread-fits ws 1 rs, lines-fit n ws 1 rs m l (omega arith) (records-of n t e s)))
+
+pub report-fits : (t : List ℕ) → ready t ≡ true → length (reportText t) ≤ 5645
+unfolding ready
+report-fits t e =
+    let b = and-both (eqb (length t) (words lines)) (sound t) e in contexts-fit lines t (omega arith) (eqb-true (length t) (words lines) (b .0)) (b .1)

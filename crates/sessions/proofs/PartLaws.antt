@@ -8,7 +8,7 @@ use lib.Seq.{take-nil, drop-nil}
 use Rattle.base.specs.Out.{Appended}
 use Rattle.base.proofs.OutLaws.{_▸_}
 use Rattle.megaco.specs.Table.{terminations, contexts, mapStart}
-use Rattle.sessions.specs.Listing.{lines, present, countLine, contextLines, partsText, reportText}
+use Rattle.sessions.specs.Listing.{present, countLine, contextLines, partsText, contextsText}
 
 -- a list taken or dropped up to a place, or to its end if that comes first
 take-reach : (k : ℕ) (l : List ℕ) (n : ℕ) → n ≡ min k (length l) → take n l ≡ take k l
@@ -21,15 +21,16 @@ drop-reach zero l n e = let z : n ≡ 0 = omega arith in rw z
 drop-reach (suc k) [] n e = drop-nil n
 drop-reach (suc k) (x ∷ l) n e = let q : ℕ = min k (length l) in let z : n ≡ suc q = omega arith in rw z (drop-reach k l q refl)
 
-module _ (o : List ℕ) (at : ℕ) (o′ : List ℕ) (r : ℕ) where
-  pub parts-are : (ws rs : List ℕ) (n : ℕ) (o₁ : List ℕ) (p : ℕ) → n ≡ present rs → Appended o at (countLine n) o₁ p → Appended o₁ p (contextLines ws rs) o′ r
-      → Appended o at (partsText ws rs) o′ r
+module _ (o : List ℕ) (at : ℕ) (o′ : List ℕ) (r lines : ℕ) where
+  pub parts-are : (ws rs : List ℕ) (n : ℕ) (o₁ : List ℕ) (p : ℕ) → n ≡ present rs → Appended o at (countLine n) o₁ p → Appended o₁ p (contextLines lines ws rs) o′ r
+      → Appended o at (partsText lines ws rs) o′ r
   unfolding partsText
   parts-are ws rs n o₁ p e f g = (rw e at f) ▸ g
 
   pub contexts-are : (t : List ℕ) (a b e : ℕ) → a ≡ min (terminations lines) (length t) → b ≡ min (terminations lines + terminations lines) (length t)
-      → e ≡ min (mapStart lines) (length t) → Appended o at (partsText (take (a - 0) (drop 0 t)) (take (e - b) (drop b t))) o′ r → Appended o at (reportText t) o′ r
-  unfolding reportText
+      → e ≡ min (mapStart lines) (length t) → Appended o at (partsText lines (take (a - 0) (drop 0 t)) (take (e - b) (drop b t))) o′ r
+      → Appended o at (contextsText lines t) o′ r
+  unfolding contextsText
   contexts-are t a b e l m n f =
       let k : ℕ = terminations lines + terminations lines in
       let x : take (a - 0) t ≡ take (terminations lines) t = take-reach (terminations lines) t (a - 0) (omega arith) in

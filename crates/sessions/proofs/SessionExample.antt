@@ -15,7 +15,7 @@ use Rattle.megaco.specs.Call.{Called, written, call}
 use Rattle.megaco.proofs.Opened.{opened}
 use Rattle.megaco.proofs.Examples.{Row, row, own, fresh, ended, examples, Hold, examples-hold}
 use Rattle.sessions.specs.Lines.{lineEnd, onFirst, linesOf}
-use Rattle.sessions.specs.Listing.{each, memberText, propertiesText, contextLine, present, countLine, partsText, reportText}
+use Rattle.sessions.specs.Listing.{each, memberText, propertiesText, contextLine, present, countLine, partsText, contextsText, reportText}
 use Rattle.sessions.specs.Session.{ownMid, freshTable, answered, answerText, sessionText, restText, printedText}
 
 -- ---- rows of the examples one after another
@@ -92,7 +92,7 @@ unfolding examples
 they-follow = (refl, refl, refl, (refl, refl, refl, (refl, refl, refl, (refl, refl, refl, (refl, refl, refl, (refl, refl, refl, refl))))))
 
 listed : answers (take 6 examples) (reportText ended) ≡ output
-unfolding opened examples each memberText propertiesText contextLine present countLine partsText reportText
+unfolding opened examples each memberText propertiesText contextLine present countLine partsText contextsText
 listed = refl
 
 pub session-computes : printedText input ≡ output

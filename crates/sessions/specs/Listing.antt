@@ -18,25 +18,25 @@ unfoldable pub each : (ℕ → ℕ → List ℕ) → ℕ → List ℕ → List �
 each f n [] = []
 each f n (x ∷ xs) = f n x then each f (n + 1) xs
 
--- a termination's name, if it stands in the context
-unfoldable pub memberText : ℕ → ℕ → ℕ → List ℕ
-memberText c i word = pick (eqb word c) (text " " then nameText lines i) []
+-- a termination's name, if it stands in the context; n is the count of lines
+unfoldable pub memberText : ℕ → ℕ → ℕ → ℕ → List ℕ
+memberText n c i word = pick (eqb word c) (text " " then nameText n i) []
 
 -- "member names ascending", from the context words
-abbrev pub membersText : ℕ → List ℕ → List ℕ
-membersText c ws = each (memberText c) 0 ws
+abbrev pub membersText : ℕ → ℕ → List ℕ → List ℕ
+membersText n c ws = each (memberText n c) 0 ws
 
 -- "priority, emergency 0 or 1", from the context's record
 unfoldable pub propertiesText : ℕ → List ℕ
 propertiesText r = text " " then decimal (priorityOf r) then text " " then decimal (emergencyOf r)
 
 -- "number, priority, emergency 0 or 1, member names ascending, one space between fields"; no line for an absent context
-unfoldable pub contextLine : List ℕ → ℕ → ℕ → List ℕ
-contextLine ws c r = pick (eqb r 0) [] (decimal c then propertiesText r then membersText c ws then (lineEnd ∷ []))
+unfoldable pub contextLine : ℕ → List ℕ → ℕ → ℕ → List ℕ
+contextLine n ws c r = pick (eqb r 0) [] (decimal c then propertiesText r then membersText n c ws then (lineEnd ∷ []))
 
 -- "a line per context ascending", from the records and the context words
-abbrev pub contextLines : List ℕ → List ℕ → List ℕ
-contextLines ws rs = each (contextLine ws) 1 rs
+abbrev pub contextLines : ℕ → List ℕ → List ℕ → List ℕ
+contextLines n ws rs = each (contextLine n ws) 1 rs
 
 -- how many contexts there are
 unfoldable pub present : List ℕ → ℕ
@@ -48,11 +48,15 @@ unfoldable pub countLine : ℕ → List ℕ
 countLine n = text "contexts " then decimal n then (lineEnd ∷ [])
 
 -- "Then `contexts` and their count, and a line per context", from the context words and the records
-unfoldable pub partsText : List ℕ → List ℕ → List ℕ
-partsText ws rs = countLine (present rs) then contextLines ws rs
+unfoldable pub partsText : ℕ → List ℕ → List ℕ → List ℕ
+partsText n ws rs = countLine (present rs) then contextLines n ws rs
 
-unfoldable pub reportText : List ℕ → List ℕ
-reportText t = partsText (take (terminations lines) t) (take contexts (drop (terminations lines + terminations lines) t))
+-- the same of a table of n lines
+unfoldable pub contextsText : ℕ → List ℕ → List ℕ
+contextsText n t = partsText n (take (terminations n) t) (take contexts (drop (terminations n + terminations n) t))
+
+abbrev pub reportText : List ℕ → List ℕ
+reportText t = contextsText lines t
 
 -- "`refused 1`"
 unfoldable pub refusedText : ℕ → List ℕ

@@ -1,25 +1,22 @@
 // The lines that the listing program takes and prints.
 ghost use mathlib.Core.Path.{_≡_};
 ghost use mathlib.Core.List.{[], _∷_};
-ghost use Prim.Native.Nat.{_+_, min};
+ghost use Prim.Native.Nat.{_+_, _<_, min};
 ghost use lib.ListN.{length};
 ghost use Rattle.base.specs.Out.{Appended};
 ghost use Rattle.megaco.specs.Table.{emergencyOf};
 ghost use Rattle.sessions.specs.Lines.{lineEnd, lineFrom, lineEndAt};
-ghost use Rattle.sessions.specs.Listing.{memberText, membersText, propertiesText, contextLine, contextLines, present, countLine, partsText, reportText, refusedText};
+ghost use Rattle.sessions.specs.Listing.{memberText, membersText, propertiesText, contextLine, contextLines, present, countLine, partsText, contextsText, refusedText};
 
 // LF.
 const LINE_END: u8 = 10;
 
-// The lines of the listing program's table.
-const LINES: u32 = 8;
+// Speech channels of a line, ephemerals, contexts.
+const CHANNELS: usize = 31;
 
-// The context words of a table of eight lines end here, its records start and end here.
-const TERMINATIONS: usize = 312;
+const EPHEMERALS: usize = 64;
 
-const RECORDS: usize = 624;
-
-const RECORDS_END: usize = 752;
+const CONTEXTS: usize = 128;
 
 // ---- lines taken
 
@@ -67,24 +64,26 @@ pub fn put_refused(out: &mut [u8], at: usize, n: u32) -> usize
 }
 
 // One termination's name, if it stands in the context.
-fn put_member(out: &mut [u8], at: usize, c: usize, i: usize, word: u32) -> usize
-    ensures { λ r. ⌜ Appended (now (out .entry)) at (memberText c i word) (now (out .exit)) r ⌝ }
+fn put_member(out: &mut [u8], at: usize, lines: u32, c: usize, i: usize, word: u32) -> usize
+    requires { ⌜ 0 < lines ⌝ }
+    ensures { λ r. ⌜ Appended (now (out .entry)) at (memberText lines c i word) (now (out .exit)) r ⌝ }
 {
     if word as usize == c {
         let p = writer::put_byte(out, at, b' ');
-        return report::put_name(out, p, LINES, i);
+        return report::put_name(out, p, lines, i);
     }
     at
 }
 
 // The names of a context's members, from the context words.
-fn put_members(out: &mut [u8], at: usize, c: usize, row: &[u32]) -> usize
-    ensures { λ r. ⌜ Appended (now (out .entry)) at (membersText c (now (row .entry))) (now (out .exit)) r ⌝ }
+fn put_members(out: &mut [u8], at: usize, lines: u32, c: usize, row: &[u32]) -> usize
+    requires { ⌜ 0 < lines ⌝ }
+    ensures { λ r. ⌜ Appended (now (out .entry)) at (membersText lines c (now (row .entry))) (now (out .exit)) r ⌝ }
 {
     let mut p = at;
     let mut i = 0;
     while i < row.len() {
-        p = put_member(out, p, c, i, row[i]);
+        p = put_member(out, p, lines, c, i, row[i]);
         i += 1;
     }
     p
@@ -111,26 +110,28 @@ fn put_properties(out: &mut [u8], at: usize, held: u32) -> usize
 }
 
 // One context's line, none if it is absent.
-fn put_context(out: &mut [u8], at: usize, c: usize, held: u32, row: &[u32]) -> usize
-    ensures { λ r. ⌜ Appended (now (out .entry)) at (contextLine (now (row .entry)) c held) (now (out .exit)) r ⌝ }
+fn put_context(out: &mut [u8], at: usize, lines: u32, c: usize, held: u32, row: &[u32]) -> usize
+    requires { ⌜ 0 < lines ⌝ }
+    ensures { λ r. ⌜ Appended (now (out .entry)) at (contextLine lines (now (row .entry)) c held) (now (out .exit)) r ⌝ }
 {
     if held == 0 {
         return at;
     }
     let p = writer::put_count(out, at, c);
     let q = put_properties(out, p, held);
-    let u = put_members(out, q, c, row);
+    let u = put_members(out, q, lines, c, row);
     put_line_end(out, u)
 }
 
 // The lines of all contexts, from the context words and the records.
-fn put_lines(out: &mut [u8], at: usize, row: &[u32], records: &[u32]) -> usize
-    ensures { λ r. ⌜ Appended (now (out .entry)) at (contextLines (now (row .entry)) (now (records .entry))) (now (out .exit)) r ⌝ }
+fn put_lines(out: &mut [u8], at: usize, lines: u32, row: &[u32], records: &[u32]) -> usize
+    requires { ⌜ 0 < lines ⌝ }
+    ensures { λ r. ⌜ Appended (now (out .entry)) at (contextLines lines (now (row .entry)) (now (records .entry))) (now (out .exit)) r ⌝ }
 {
     let mut p = at;
     let mut i = 0;
     while i < records.len() {
-        p = put_context(out, p, i + 1, records[i], row);
+        p = put_context(out, p, lines, i + 1, records[i], row);
         i += 1;
     }
     p
@@ -158,12 +159,13 @@ fn put_count_line(out: &mut [u8], at: usize, n: usize) -> usize
 }
 
 // The count and the lines, from the context words and the records.
-fn put_parts(out: &mut [u8], at: usize, row: &[u32], records: &[u32]) -> usize
-    ensures { λ r. ⌜ Appended (now (out .entry)) at (partsText (now (row .entry)) (now (records .entry))) (now (out .exit)) r ⌝ }
+fn put_parts(out: &mut [u8], at: usize, lines: u32, row: &[u32], records: &[u32]) -> usize
+    requires { ⌜ 0 < lines ⌝ }
+    ensures { λ r. ⌜ Appended (now (out .entry)) at (partsText lines (now (row .entry)) (now (records .entry))) (now (out .exit)) r ⌝ }
 {
     let n = count_present(records);
     let p = put_count_line(out, at, n);
-    put_lines(out, p, row, records)
+    put_lines(out, p, lines, row, records)
 }
 
 // A place of a table, or its end.
@@ -173,12 +175,14 @@ fn within(table: &[u32], k: usize) -> usize
     if k < table.len() { k } else { table.len() }
 }
 
-// The contexts of a table.
-pub fn put_contexts(out: &mut [u8], at: usize, table: &[u32]) -> usize
-    ensures { λ r. ⌜ Appended (now (out .entry)) at (reportText (now (table .entry))) (now (out .exit)) r ⌝ }
+// The contexts of a table of so many lines.
+pub fn put_contexts(out: &mut [u8], at: usize, lines: u32, table: &[u32]) -> usize
+    requires { ⌜ 0 < lines ⌝ }
+    ensures { λ r. ⌜ Appended (now (out .entry)) at (contextsText lines (now (table .entry))) (now (out .exit)) r ⌝ }
 {
-    let a = within(table, TERMINATIONS);
-    let b = within(table, RECORDS);
-    let e = within(table, RECORDS_END);
-    put_parts(out, at, &table[0..a], &table[b..e])
+    let n = CHANNELS * lines as usize + EPHEMERALS;
+    let a = within(table, n);
+    let b = within(table, n + n);
+    let e = within(table, n + n + CONTEXTS);
+    put_parts(out, at, lines, &table[0..a], &table[b..e])
 }

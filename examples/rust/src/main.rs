@@ -1,7 +1,7 @@
 //! Places a call: a line and an RTP ephemeral into a new context, both turned
 //! on, and cleared again.
 
-use cordafina::{Gateway, Refusal};
+use cordafina::{Gateway, Refusal, Termination};
 
 const MESSAGES: [&str; 3] = [
     "!/1 [10.0.0.1] T=1{C=${PR=4,A=L/1/5,A=$}}",
@@ -15,9 +15,11 @@ fn main() -> Result<(), Refusal> {
         let reply = gateway.answer(message.as_bytes())?;
         println!("{message}\n  {}", reply.escape_ascii());
         let table = gateway.table();
-        println!("  L/1/5 stands in context {}", table.words()[4]);
+        let context = table.context_of(Termination::Line(1, 5)).unwrap_or(0);
+        println!("  L/1/5 stands in context {context}");
         let (used, next) = (table.in_use(), table.lowest_absent());
         println!("  ephemerals in use: {used}, next: R/{next}");
+        print!("{table}");
     }
     Ok(())
 }

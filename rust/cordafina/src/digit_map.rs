@@ -8,15 +8,18 @@
 //! assert_eq!(answer.progress, Progress::MorePossible);
 //! assert_eq!(answer.timer, Timer::Short);
 //! assert_eq!(map.dial(b""), Ok(Dialled { progress: Progress::MoreNeeded, timer: Timer::Start }));
-//! # Ok::<(), cordafina::digit_map::Refusal>(())
+//! # Ok::<(), cordafina::Refusal>(())
 //! ```
 //!
+//! A refused map or string is [`Refusal::BadMap`] or [`Refusal::BadString`].
 //! `docs/DIGITS.md` says what a map is and what the answers mean.
 
-use core::{error, fmt};
+use core::fmt;
+
+use crate::{archive, Refusal};
 
 /// Words that hold a loaded map.
-const CELLS: usize = 1_040;
+pub(crate) const CELLS: usize = 1_040;
 
 /// A start timer of zero, before any symbol.
 #[derive(Clone, Copy, Debug, PartialEq, Eq)]
@@ -43,46 +46,26 @@ pub enum Progress {
 /// The timer that goes with an answer.
 #[derive(Clone, Copy, Debug, PartialEq, Eq)]
 pub enum Timer {
+    /// No timer runs.
     None = 0,
+    /// Until the first symbol.
     Start = 1,
+    /// More symbols are needed.
     Long = 2,
+    /// It is matched, and more symbols are possible.
     Short = 3,
+    /// The start timer of zero has run out.
     RunOut = 4,
 }
 
 /// The answer to a dialled string.
 #[derive(Clone, Copy, Debug, PartialEq, Eq)]
 pub struct Dialled {
+    /// How far it has come.
     pub progress: Progress,
+    /// The timer to run now.
     pub timer: Timer,
 }
-
-/// Why a map or a dialled string was turned down.
-#[derive(Clone, Copy, Debug, PartialEq, Eq)]
-pub enum Refusal {
-    /// "a malformed or too large map"
-    BadMap = 6,
-    /// "a dialled string too long or with a foreign symbol"
-    BadString = 7,
-}
-
-impl Refusal {
-    /// Document 02's number.
-    pub fn number(self) -> u32 {
-        self as u32
-    }
-}
-
-impl fmt::Display for Refusal {
-    fn fmt(&self, f: &mut fmt::Formatter) -> fmt::Result {
-        f.write_str(match self {
-            Refusal::BadMap => "malformed or too large map",
-            Refusal::BadString => "dialled string too long or with a foreign symbol",
-        })
-    }
-}
-
-impl error::Error for Refusal {}
 
 /// A map that was loaded: some 4,200 bytes, in place.
 #[derive(Clone)]
@@ -94,12 +77,15 @@ pub struct DigitMap {
 impl DigitMap {
     /// Reads a map's text. The start timer counts only before any symbol, and
     /// there only whether it is zero.
+    ///
+    /// # Errors
+    /// `BadMap` where the text is malformed or too large.
     pub fn load(text: &[u8], start: u32, zero: ZeroStart) -> Result<Self, Refusal> {
         let mut cells = [0; CELLS];
         // SAFETY: the text is a slice with its length, the cells are as many
         // as the callee writes, and neither is kept.
         let head = unsafe {
-            cordafina_load_map(
+            archive::cordafina_load_map(
                 text.as_ptr(),
                 text.len(),
                 start,
@@ -113,17 +99,20 @@ impl DigitMap {
         }
     }
 
-    /// Answers a dialled string: `BadString` where it has over 32 symbols, or
-    /// a byte that is none. Its work grows with the map's size times the
+    /// Answers a dialled string. The work grows with the map's size times the
     /// string's length.
+    ///
+    /// # Errors
+    /// `BadString` where it has over 32 symbols, or a byte that is none.
     ///
     /// # Panics
     /// Where the archive that is linked gives an answer that there is not, so
     /// is not this library.
     pub fn dial(&self, dialled: &[u8]) -> Result<Dialled, Refusal> {
         // SAFETY: as above; both are only read.
-        let word =
-            unsafe { cordafina_dial_map(self.head, &self.cells, dialled.as_ptr(), dialled.len()) };
+        let word = unsafe {
+            archive::cordafina_dial_map(self.head, &self.cells, dialled.as_ptr(), dialled.len())
+        };
         answer_of(word)
     }
 }
@@ -136,11 +125,12 @@ impl fmt::Debug for DigitMap {
 
 /// The call as C has it: loads and dials at once. The answer in bits 0 to 7,
 /// the timer in bits 8 to 15, the refusal in bits 16 to 31.
+#[must_use]
 pub fn dial_word(map: &[u8], start: u32, zero: u32, dialled: &[u8]) -> u32 {
     // SAFETY: each pointer is a slice's own, with its length; both are only
     // read, and neither is kept.
     unsafe {
-        cordafina_dial(
+        archive::cordafina_dial(
             map.as_ptr(),
             map.len(),
             start,
@@ -154,10 +144,11 @@ pub fn dial_word(map: &[u8], start: u32, zero: u32, dialled: &[u8]) -> u32 {
 /// The same by the plain matcher (CR 9), which tries each way through repeated
 /// selectors: the same result on every map and string. On some maps it does not
 /// come back in any useful time, as `docs/DIGITS.md` says; not for calls.
+#[must_use]
 pub fn dial_plain_word(map: &[u8], start: u32, zero: u32, dialled: &[u8]) -> u32 {
     // SAFETY: as in `dial_word`.
     unsafe {
-        cordafina_dial_plain(
+        archive::cordafina_dial_plain(
             map.as_ptr(),
             map.len(),
             start,
@@ -193,43 +184,6 @@ fn answer_of(word: u32) -> Result<Dialled, Refusal> {
     };
     match word >> 16 {
         0 => Ok(Dialled { progress, timer }),
-        6 => Err(Refusal::BadMap),
-        7 => Err(Refusal::BadString),
-        number => panic!("refusal {number}: the archive is not this library"),
+        number => Err(Refusal::of_number(number)),
     }
-}
-
-extern "C" {
-    fn cordafina_dial(
-        map: *const u8,
-        map_len: usize,
-        start: u32,
-        zero: u32,
-        dialled: *const u8,
-        dialled_len: usize,
-    ) -> u32;
-
-    fn cordafina_dial_plain(
-        map: *const u8,
-        map_len: usize,
-        start: u32,
-        zero: u32,
-        dialled: *const u8,
-        dialled_len: usize,
-    ) -> u32;
-
-    fn cordafina_load_map(
-        map: *const u8,
-        map_len: usize,
-        start: u32,
-        zero: u32,
-        cells: *mut [u32; CELLS],
-    ) -> u32;
-
-    fn cordafina_dial_map(
-        head: u32,
-        cells: *const [u32; CELLS],
-        dialled: *const u8,
-        dialled_len: usize,
-    ) -> u32;
 }

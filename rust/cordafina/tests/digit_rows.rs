@@ -4,7 +4,8 @@
 //! result as C has it, and 1 where the plain matcher comes back soon.
 
 use cordafina::digit_map::{dial_plain_word, dial_word};
-use cordafina::digit_map::{Dialled, DigitMap, Progress, Refusal, Timer, ZeroStart};
+use cordafina::digit_map::{Dialled, DigitMap, Progress, Timer, ZeroStart};
+use cordafina::Refusal;
 
 const ROWS: &str = include_str!("digit_rows.txt");
 

@@ -3,7 +3,7 @@
 
 use cordafina::{answer, answer_word, in_use, lowest_absent};
 use cordafina::{map_start, records_start, table_words, terminations};
-use cordafina::{Answer, Gateway, Refusal, Table, MESSAGE_BYTES, MOST_LINES, REPLY_BYTES};
+use cordafina::{Gateway, Refusal, Table, MESSAGE_BYTES, MOST_LINES, REPLY_BYTES};
 
 /// Words of a table of eight lines.
 const TABLE_WORDS: usize = table_words(8);
@@ -63,9 +63,7 @@ fn session() {
     let mut table = Table::fresh();
     for (message, expected) in messages(SESSION) {
         let mut reply = [FILL; REPLY_BYTES];
-        let Answer::Taken(length) = answer(&message, &mut table, OWN, &mut reply) else {
-            panic!("turned down: {}", message.escape_ascii());
-        };
+        let length = answer(&message, &mut table, OWN, &mut reply).unwrap();
         assert_eq!(&reply[..length], expected);
         assert!(reply[length..].iter().all(|&byte| byte == FILL));
     }
@@ -79,7 +77,7 @@ fn session_of_a_gateway() {
         assert_eq!(gateway.answer(&message), Ok(&*expected));
     }
     assert_eq!(gateway.table(), &table_at_the_end());
-    assert_eq!(gateway.answer(b""), Err(Refusal::BadMessage));
+    assert_eq!(gateway.answer(b""), Err(Refusal::MessageUnfit));
     let mut kept = Gateway::with_table(OWN, gateway.table().clone()).unwrap();
     let reply = kept.answer(&message("T=1{C=2{PR=3}}")).unwrap();
     assert_eq!(reply, text("P=1{C=2{PR=3}}"));
@@ -128,18 +126,15 @@ fn refusals_by_name() {
     let mut reply = [FILL; REPLY_BYTES];
     let mut table = Table::fresh();
     let refused = answer(b"x", &mut table, b"[10.0.0.256]", &mut reply);
-    assert_eq!(refused, Answer::Refused(Refusal::BadMid));
+    assert_eq!(refused, Err(Refusal::MidUnfit));
     let refused = answer(b"x", &mut table, OWN, &mut reply[..16]);
-    assert_eq!(refused, Answer::Refused(Refusal::ReplyTooShort));
-    let trampled = Table::from_words(8, &[129; TABLE_WORDS]).unwrap();
-    let refused = answer(b"x", &mut trampled.clone(), OWN, &mut reply);
-    assert_eq!(refused, Answer::Refused(Refusal::BadTable));
-    assert_eq!(Gateway::new(b"10.0.0.9").err(), Some(Refusal::BadMid));
-    assert_eq!(Gateway::new(&[b'a'; 65]).err(), Some(Refusal::BadMid));
+    assert_eq!(refused, Err(Refusal::ReplyTooShort));
+    let refused = Table::from_words(8, &[129; TABLE_WORDS]);
+    assert_eq!(refused, Err(Refusal::TableUnsound));
+    assert_eq!(Gateway::new(b"10.0.0.9").err(), Some(Refusal::MidUnfit));
+    assert_eq!(Gateway::new(&[b'a'; 65]).err(), Some(Refusal::MidUnfit));
     assert!(Gateway::new(&[b'a'; 64]).is_ok());
-    let refused = Gateway::with_table(OWN, trampled);
-    assert_eq!(refused.err(), Some(Refusal::BadTable));
-    assert_eq!(Refusal::BadMid.number(), 4);
+    assert_eq!(Refusal::MidUnfit.number(), 4);
     assert_eq!(Refusal::LinesUnfit.number(), 8);
 }
 
@@ -156,12 +151,12 @@ fn tables_by_their_count() {
         assert_eq!((table.lines(), table.words()), (lines, &words[..]));
         assert_eq!(Table::from_words(lines, &words), Ok(table));
         let refused = Table::from_words(lines, &words[1..]);
-        assert_eq!(refused, Err(Refusal::BadTable));
+        assert_eq!(refused, Err(Refusal::TableUnsound));
     }
     assert_eq!(Table::with_lines(8), Ok(Table::fresh()));
     assert_ne!(Table::with_lines(9), Ok(Table::fresh()));
     let nine = [0; table_words(9)];
-    assert_eq!(Table::from_words(8, &nine), Err(Refusal::BadTable));
+    assert_eq!(Table::from_words(8, &nine), Err(Refusal::TableUnsound));
 }
 
 #[test]
@@ -227,15 +222,13 @@ fn map_of_the_ephemerals() {
         for (at, bit) in [(start, 1), (start + 1, 1), (start + 1, 1 << 7)] {
             let mut words = gateway.table().words().to_vec();
             words[at] ^= bit;
-            let trampled = Table::from_words(lines, &words).unwrap();
-            let refused = Gateway::with_table(OWN, trampled);
-            assert_eq!(refused.err(), Some(Refusal::BadTable));
+            let refused = Table::from_words(lines, &words);
+            assert_eq!(refused, Err(Refusal::TableUnsound));
         }
         let mut words = gateway.table().words().to_vec();
         words[start..].reverse();
-        let trampled = Table::from_words(lines, &words).unwrap();
-        let refused = Gateway::with_table(OWN, trampled);
-        assert_eq!(refused.err(), Some(Refusal::BadTable));
+        let refused = Table::from_words(lines, &words);
+        assert_eq!(refused, Err(Refusal::TableUnsound));
     }
 }
 

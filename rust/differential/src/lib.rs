@@ -1,8 +1,10 @@
 //! A differential test: any callee with the gateway's face against the
 //! reference, on random, damaged and boundary calls from a seed; what it
-//! answers of the map of the ephemerals; and demand 3 on the callee alone.
+//! answers of the map of the ephemerals and of the contexts; and demand 3 on the
+//! callee alone.
 
 pub mod calls;
+pub mod contexts;
 pub mod damage;
 pub mod limits;
 pub mod maps;

@@ -5,6 +5,9 @@
 //! `differential maps SEED COUNT`: what the archive answers of so many maps of
 //! the ephemerals, and of the maps of so many sound tables.
 //!
+//! `differential contexts SEED COUNT`: the contexts of so many tables as text,
+//! the archive against the reference.
+//!
 //! `differential pairs SEED COUNT`: so many pairs of transactions that meet
 //! demand 3's conditions, in both orders.
 
@@ -12,12 +15,13 @@ use std::process::ExitCode;
 
 use cordafina::answer_word;
 use differential::calls::{compare, shortened, Cases, Tally, GUARD};
+use differential::contexts;
 use differential::maps::{ask, Questions};
 use differential::numbers::Numbers;
 use differential::pairs::Pair;
 
 const USAGE: &str =
-    "usage: differential calls SEED COUNT [exact] | maps SEED COUNT | pairs SEED COUNT";
+    "usage: differential calls SEED COUNT [exact] | (maps | contexts | pairs) SEED COUNT";
 
 fn main() -> ExitCode {
     let words: Vec<String> = std::env::args().skip(1).collect();
@@ -42,6 +46,7 @@ fn test(words: &[&str]) -> Option<bool> {
         ("calls", []) => Some(calls(seed, count, GUARD)),
         ("calls", ["exact"]) => Some(calls(seed, count, 0)),
         ("maps", []) => Some(maps(seed, count)),
+        ("contexts", []) => Some(contexts(seed, count)),
         ("pairs", []) => Some(pairs(seed, count)),
         _ => None,
     }
@@ -91,6 +96,34 @@ fn maps(seed: u64, count: u64) -> bool {
         }
     }
     println!("seed {seed}, {count} maps, {full} of them full, and {count} of sound tables: 0 differences");
+    true
+}
+
+fn contexts(seed: u64, count: u64) -> bool {
+    let mut numbers = Numbers::new(seed);
+    let (mut refused, mut longest) = ([0; 12], 0);
+    for place in 0..count {
+        match contexts::ask(&mut numbers, cordafina::contexts_word) {
+            Ok(answer) => {
+                refused[(answer >> 32) as usize] += 1;
+                longest = longest.max(answer as u32);
+            }
+            Err(what) => {
+                println!("DIFFERENCE: {what}");
+                println!("seed {seed}, after {place} tables: 1 difference");
+                return false;
+            }
+        }
+    }
+    let [eight, eleven, two] = [8, 11, 2].map(|number: usize| refused[number]);
+    println!(
+        "seed {seed}, {count} tables, refused 8 {eight}, 11 {eleven}, 2 {two} times, \
+         longest text {longest} bytes: 0 differences"
+    );
+    if count >= 10_000 && [eight, eleven, two].contains(&0) {
+        println!("a refusal never came");
+        return false;
+    }
     true
 }
 

@@ -4,6 +4,7 @@
 use std::sync::atomic::{AtomicU32, Ordering::Relaxed};
 
 use differential::calls::{compare, reference_word, shortened, Call, Cases, GUARD};
+use differential::contexts;
 use differential::maps::{ask, Questions, REFERENCE};
 use differential::numbers::Numbers;
 use differential::pairs::{BothChange, Pair};
@@ -414,4 +415,47 @@ fn a_map_answered_wrongly_is_found() {
     }
     let mut numbers = Numbers::new(1);
     assert!((0..2_000).all(|_| ask(&mut numbers, &REFERENCE).is_ok()));
+}
+
+#[test]
+fn contexts_told_wrongly_are_found() {
+    const DEFECTS: [contexts::Asked; 6] = [
+        // As if there were eight lines.
+        |lines, table, out| match lines {
+            9..=16 if table.len() > 754 => contexts::reference(8, &table[..754], out),
+            _ => contexts::reference(lines, table, out),
+        },
+        // 2 before 11.
+        |lines, table, out| match contexts::reference(lines, table, &mut [0; 8_192]) >> 32 {
+            2 => 2 << 32,
+            _ => contexts::reference(lines, table, out),
+        },
+        // An output of 8,191 bytes is taken.
+        |lines, table, out| match out.len() {
+            8_191 => 0,
+            _ => contexts::reference(lines, table, out),
+        },
+        // 16 lines at most, but 17 are taken for 16.
+        |lines, table, out| contexts::reference(lines.min(16), table, out),
+        // A zero byte ends the text.
+        |lines, table, out| {
+            let answer = contexts::reference(lines, table, out);
+            if answer >> 32 == 0 {
+                out[length(answer)] = 0;
+            }
+            answer
+        },
+        // The last line end is missing.
+        |lines, table, out| {
+            let answer = contexts::reference(lines, table, out);
+            answer - u64::from(answer >> 32 == 0)
+        },
+    ];
+    for (place, defect) in DEFECTS.iter().enumerate() {
+        let mut numbers = Numbers::new(1);
+        let found = (0..2_000).any(|_| contexts::ask(&mut numbers, *defect).is_err());
+        assert!(found, "defect {place} is not found");
+    }
+    let mut numbers = Numbers::new(1);
+    assert!((0..2_000).all(|_| contexts::ask(&mut numbers, contexts::reference).is_ok()));
 }

@@ -31,11 +31,11 @@ pub enum Answer {
     /// "reply buffer under 16,640 bytes"
     ReplyTooShort,
     /// Table not of the count's words, "or not sound"
-    BadTable,
+    TableUnsound,
     /// "gateway's own mId not an mId as below, or over 64 bytes"
-    BadMid,
+    MidUnfit,
     /// "message of 0 or over 4,096 bytes"
-    BadMessage,
+    MessageUnfit,
     /// "8 for a count outside 1..16, before 3"
     LinesUnfit,
 }
@@ -45,10 +45,10 @@ impl Answer {
     pub fn number(&self) -> u32 {
         match self {
             Answer::Taken(_) => 0,
-            Answer::BadMessage => 1,
-            Answer::BadTable => 2,
+            Answer::MessageUnfit => 1,
+            Answer::TableUnsound => 2,
             Answer::ReplyTooShort => 3,
-            Answer::BadMid => 4,
+            Answer::MidUnfit => 4,
             Answer::LinesUnfit => 8,
         }
     }
@@ -72,13 +72,13 @@ pub fn answer(
         return Answer::ReplyTooShort;
     }
     let Some(mut table) = Table::sound(lines, table) else {
-        return Answer::BadTable;
+        return Answer::TableUnsound;
     };
     if own.len() > OWN_MID_BYTES || !text::is_mid(own) {
-        return Answer::BadMid;
+        return Answer::MidUnfit;
     }
     if message.is_empty() || message.len() > MESSAGE_BYTES {
-        return Answer::BadMessage;
+        return Answer::MessageUnfit;
     }
 
     let mut out = Reply::new(lines, own);

@@ -23,7 +23,7 @@ pub fn listing(mut input: impl BufRead, mut out: impl Write) -> io::Result<()> {
             refused => writeln!(out, "refused {}", refused.number())?,
         }
     }
-    contexts(&mut table, &mut out)?;
+    contexts(LINES, &mut table, &mut out)?;
     out.flush()
 }
 
@@ -56,16 +56,16 @@ fn next_line(input: &mut impl BufRead, line: &mut Vec<u8>) -> io::Result<bool> {
 /// "`contexts` and their count, and a line per context ascending: number,
 /// priority, emergency 0 or 1, member names ascending, one space between
 /// fields"
-fn contexts(words: &mut [u32], out: &mut impl Write) -> io::Result<()> {
+pub fn contexts(lines: Lines, words: &mut [u32], out: &mut impl Write) -> io::Result<()> {
     // No call leaves a table that is not sound.
-    let Some(table) = Table::sound(LINES, words) else {
+    let Some(table) = Table::sound(lines, words) else {
         return Err(io::Error::other("the table is not sound"));
     };
     let mut names = vec![Vec::new(); CONTEXTS + 1];
-    for termination in (0..LINES.terminations()).filter(|&number| table.context_of(number) != 0) {
+    for termination in (0..lines.terminations()).filter(|&number| table.context_of(number) != 0) {
         let names = &mut names[table.context_of(termination)];
         names.push(b' ');
-        write_name(LINES, termination, names);
+        write_name(lines, termination, names);
     }
     let present: Vec<usize> = (1..=CONTEXTS)
         .filter(|&context| table.members(context) != 0)

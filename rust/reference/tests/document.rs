@@ -167,16 +167,16 @@ fn turned_down() {
     for (message, words, own, length, expected) in [
         (&message[..], &sound[..], OWN, 16_639, Answer::ReplyTooShort),
         (b"", &unsound, b"", 0, Answer::ReplyTooShort),
-        (message, &sound[..752], OWN, 16_640, Answer::BadTable),
-        (message, &sound[..753], OWN, 16_640, Answer::BadTable),
-        (message, &[0; 755], OWN, 16_640, Answer::BadTable),
-        (message, &[], OWN, 16_640, Answer::BadTable),
-        (b"", &unsound, b"", 16_640, Answer::BadTable),
-        (b"", &sound, b"", 16_640, Answer::BadMid),
-        (message, &sound, b"[10.0.0.9] ", 16_640, Answer::BadMid),
-        (message, &sound, &own_65, 16_640, Answer::BadMid),
-        (b"", &sound, OWN, 16_640, Answer::BadMessage),
-        (&long, &sound, OWN, 16_640, Answer::BadMessage),
+        (message, &sound[..752], OWN, 16_640, Answer::TableUnsound),
+        (message, &sound[..753], OWN, 16_640, Answer::TableUnsound),
+        (message, &[0; 755], OWN, 16_640, Answer::TableUnsound),
+        (message, &[], OWN, 16_640, Answer::TableUnsound),
+        (b"", &unsound, b"", 16_640, Answer::TableUnsound),
+        (b"", &sound, b"", 16_640, Answer::MidUnfit),
+        (message, &sound, b"[10.0.0.9] ", 16_640, Answer::MidUnfit),
+        (message, &sound, &own_65, 16_640, Answer::MidUnfit),
+        (b"", &sound, OWN, 16_640, Answer::MessageUnfit),
+        (&long, &sound, OWN, 16_640, Answer::MessageUnfit),
     ] {
         let mut table = words.to_vec();
         let mut reply = vec![FILL; length];
@@ -186,10 +186,10 @@ fn turned_down() {
         assert!(reply.iter().all(|&byte| byte == FILL));
     }
     assert_eq!(Answer::Taken(5).number(), 0);
-    assert_eq!(Answer::BadMessage.number(), 1);
-    assert_eq!(Answer::BadTable.number(), 2);
+    assert_eq!(Answer::MessageUnfit.number(), 1);
+    assert_eq!(Answer::TableUnsound.number(), 2);
     assert_eq!(Answer::ReplyTooShort.number(), 3);
-    assert_eq!(Answer::BadMid.number(), 4);
+    assert_eq!(Answer::MidUnfit.number(), 4);
     assert_eq!(Answer::LinesUnfit.number(), 8);
     // A longer buffer, and an own mId of just 64 bytes, are fine.
     let mut reply = vec![FILL; 20_000];
@@ -209,7 +209,7 @@ fn tables_not_sound() {
     let taken = |table: &[u32; 754]| {
         let mut reply = vec![FILL; 16_640];
         let got = answer(8, b"x", &mut table.clone(), OWN, &mut reply);
-        got != Answer::BadTable
+        got != Answer::TableUnsound
     };
     assert!(taken(&sound));
     for (place, word) in [
@@ -372,7 +372,7 @@ fn message_of_4096() {
     assert_eq!(whole(&message, &mut [0; 754]), "P=1{C=1{A=R/1}}");
     message.push(b' ');
     let refused = answer(8, &message, &mut [0; 754], OWN, &mut [0; 16_640]);
-    assert_eq!(refused, Answer::BadMessage);
+    assert_eq!(refused, Answer::MessageUnfit);
 }
 
 #[test]
@@ -502,7 +502,7 @@ fn sizes_follow_from_the_count() {
         for length in [0, words - 62, words - 1, words, words + 1, words + 62] {
             let got = answer(count, b"x", &mut vec![0; length], OWN, &mut [0; 16_640]);
             assert_eq!(
-                got == Answer::BadTable,
+                got == Answer::TableUnsound,
                 length != words,
                 "{count}: {length}"
             );
@@ -680,7 +680,7 @@ fn map_of_the_ephemerals() {
         assert_eq!((low, high), (0xFFFF_FF01, u32::MAX));
         table[words - 2..].reverse();
         let got = answer(count, b"x", &mut table, OWN, &mut [0; 16_640]);
-        assert_eq!(got, Answer::BadTable);
+        assert_eq!(got, Answer::TableUnsound);
     }
 }
 
@@ -760,7 +760,7 @@ fn line_noise() {
         message.truncate(1 + numbers.next(2 * message.len()));
         whole(&message, &mut table);
         let sound = answer(8, b"x", &mut table, OWN, &mut [0; 16_640]);
-        assert_ne!(sound, Answer::BadTable);
+        assert_ne!(sound, Answer::TableUnsound);
         if round % 64 == 0 {
             table = [0; 754];
         }

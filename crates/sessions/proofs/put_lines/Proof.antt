@@ -7,10 +7,10 @@ use Rattle.sessions.proofs.put_lines.Statement.{statement}
 use Rattle.sessions.proofs.put_lines.Tie as tie
 
 abbrev Inv-loop : tie.InvT-loop
-Inv-loop out₀ at row records p₀ i₀ out p i = Leads out₀ at (contextLines row records) out p (each (contextLine row) (i + 1) (drop i records))
+Inv-loop out₀ at lines row records p₀ i₀ out p i = Leads out₀ at (contextLines lines row records) out p (each (contextLine lines row) (i + 1) (drop i records))
 
 abbrev μ-loop : tie.MeasureT-loop
-μ-loop out₀ at row records p₀ i₀ out p i = length records - i
+μ-loop out₀ at lines row records p₀ i₀ out p i = length records - i
 
 pub put-lines-spec : {M : Type 1} → statement M
 put-lines-spec =

@@ -7,10 +7,10 @@ use Rattle.sessions.proofs.put_members.Statement.{statement}
 use Rattle.sessions.proofs.put_members.Tie as tie
 
 abbrev Inv-loop : tie.InvT-loop
-Inv-loop out₀ at c row p₀ i₀ out p i = Leads out₀ at (membersText c row) out p (each (memberText c) i (drop i row))
+Inv-loop out₀ at lines c row p₀ i₀ out p i = Leads out₀ at (membersText lines c row) out p (each (memberText lines c) i (drop i row))
 
 abbrev μ-loop : tie.MeasureT-loop
-μ-loop out₀ at c row p₀ i₀ out p i = length row - i
+μ-loop out₀ at lines c row p₀ i₀ out p i = length row - i
 
 pub put-members-spec : {M : Type 1} → statement M
 put-members-spec =

@@ -1,0 +1,62 @@
+//! The functions of the archive, as `include/cordafina.h` declares them.
+
+use crate::digit_map::CELLS;
+
+extern "C" {
+    pub fn cordafina_answer(
+        lines: u32,
+        message: *const u8,
+        message_len: usize,
+        table: *mut u32,
+        table_len: usize,
+        own_mid: *const u8,
+        own_mid_len: usize,
+        reply: *mut u8,
+        reply_len: usize,
+    ) -> u64;
+
+    pub fn cordafina_contexts(
+        lines: u32,
+        table: *const u32,
+        table_len: usize,
+        out: *mut u8,
+        out_len: usize,
+    ) -> u64;
+
+    pub fn cordafina_lowest_absent(map: u64) -> u32;
+
+    pub fn cordafina_in_use(map: u64) -> u32;
+
+    pub fn cordafina_dial(
+        map: *const u8,
+        map_len: usize,
+        start: u32,
+        zero: u32,
+        dialled: *const u8,
+        dialled_len: usize,
+    ) -> u32;
+
+    pub fn cordafina_dial_plain(
+        map: *const u8,
+        map_len: usize,
+        start: u32,
+        zero: u32,
+        dialled: *const u8,
+        dialled_len: usize,
+    ) -> u32;
+
+    pub fn cordafina_load_map(
+        map: *const u8,
+        map_len: usize,
+        start: u32,
+        zero: u32,
+        cells: *mut [u32; CELLS],
+    ) -> u32;
+
+    pub fn cordafina_dial_map(
+        head: u32,
+        cells: *const [u32; CELLS],
+        dialled: *const u8,
+        dialled_len: usize,
+    ) -> u32;
+}

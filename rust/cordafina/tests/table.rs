@@ -1,0 +1,145 @@
+//! What a table holds, read by name, against its words.
+
+use cordafina::{line_terminations, records_start, table_words, terminations};
+use cordafina::{Gateway, Mode, Refusal, ServiceState, Table, Termination, UnknownName};
+use cordafina::{MOST_LINES, OUTPUT_BYTES};
+
+const OWN: &[u8] = b"[10.0.0.9]";
+
+fn after(lines: u32, requests: &[&str]) -> Table {
+    let mut gateway = Gateway::with_table(OWN, Table::with_lines(lines).unwrap()).unwrap();
+    for request in requests {
+        let message = format!("!/1 [10.0.0.1] {request}");
+        let reply = gateway.answer(message.as_bytes()).unwrap();
+        assert!(!reply.windows(2).any(|part| part == b"ER"), "{request}");
+    }
+    gateway.table().clone()
+}
+
+/// Every termination that a shelf of so many lines can have.
+fn all(lines: u32) -> Vec<Termination> {
+    let channels = |line| (1..=31).map(move |channel| Termination::Line(line, channel));
+    let ephemerals = (1..=64).map(Termination::Ephemeral);
+    (1..=lines).flat_map(channels).chain(ephemerals).collect()
+}
+
+#[test]
+fn names() {
+    for termination in all(MOST_LINES) {
+        let name = termination.to_string();
+        assert_eq!(name.parse(), Ok(termination));
+        assert_eq!(name.to_lowercase().parse(), Ok(termination));
+    }
+    for name in [
+        "", "L", "L/", "L/1", "L/1/", "L/1/5/", "L/1/5 ", "L/0/5", "L/17/1", "L/1/0", "L/1/32",
+        "L/01/5", "L/1/05", "L/1/5/1", "L/+1/5", "L/100/1", "R", "R/", "R/0", "R/65", "R/1/1",
+        "R/064", "M/1/1", "ROOT", "*", "$", "R/*", "L//1", "/L/1/1",
+    ] {
+        assert_eq!(name.parse::<Termination>(), Err(UnknownName), "{name}");
+    }
+}
+
+#[test]
+fn read_by_name() {
+    for lines in 1..=MOST_LINES {
+        let requests = [
+            "T=1{C=${PR=4,EG,A=L/1/5{M{O{MO=SR},TS{SI=TE}}},A=$}}",
+            "T=2{C=${PR=15,A=L/1/31{M{O{MO=LB}}},A=$,A=$}}",
+            "T=3{C=-{MF=L/1/1{M{TS{SI=OS}}}}}",
+            "T=4{C=2{S=R/2}}",
+        ];
+        let table = after(lines, &requests);
+        let [five, last] = [Termination::Line(1, 5), Termination::Line(1, 31)];
+        let [first, second, third] = [1, 2, 3].map(Termination::Ephemeral);
+        assert_eq!(table.context_of(five), Some(1));
+        assert_eq!(table.context_of(last), Some(2));
+        assert_eq!(table.context_of(Termination::Line(1, 1)), None);
+        assert_eq!(table.mode_of(five), Some(Mode::SendReceive));
+        assert_eq!(table.state_of(five), Some(ServiceState::Test));
+        assert_eq!(table.mode_of(last), Some(Mode::Loopback));
+        let one = Termination::Line(1, 1);
+        assert_eq!(table.state_of(one), Some(ServiceState::OutOfService));
+        assert_eq!(table.mode_of(one), Some(Mode::Inactive));
+        assert_eq!(table.mode_of(first), Some(Mode::Inactive));
+        assert_eq!(table.context_of(third), Some(2));
+        // One that was subtracted, one of no line, names of no termination.
+        let beyond = Termination::Line(lines + 1, 1);
+        for absent in [
+            second,
+            beyond,
+            Termination::Line(0, 1),
+            Termination::Line(1, 32),
+        ] {
+            assert!(!table.exists(absent));
+            assert_eq!(table.context_of(absent), None);
+            assert_eq!(table.mode_of(absent), None);
+            assert_eq!(table.state_of(absent), None);
+        }
+        let contexts: Vec<_> = table.contexts().collect();
+        let told = contexts.iter();
+        let told: Vec<_> = told
+            .map(|c| (c.number(), c.priority(), c.emergency()))
+            .collect();
+        assert_eq!(told, [(1, 4, true), (2, 15, false)]);
+        assert!(contexts[0].members().eq([five, first]));
+        assert!(contexts[1].members().eq([last, third]));
+        for absent in [0, 3, 128, 129, u32::MAX] {
+            assert!(table.context(absent).is_none());
+        }
+        let text = "contexts 2\n1 4 1 L/1/5 R/1\n2 15 0 L/1/31 R/3\n";
+        assert_eq!(table.to_string(), text);
+    }
+}
+
+/// Every word is where the names say, on every count of lines.
+#[test]
+fn every_word() {
+    for lines in 1..=MOST_LINES {
+        for (number, termination) in all(lines).into_iter().enumerate() {
+            let request = match termination {
+                Termination::Line(..) => {
+                    format!("T=1{{C=${{A={termination}{{M{{O{{MO=RC}}}}}}}}}}")
+                }
+                Termination::Ephemeral(_) => continue,
+            };
+            let table = after(lines, &[&request]);
+            let mut words = vec![0; table_words(lines)];
+            words[number] = 1;
+            words[terminations(lines) + number] = 2;
+            words[records_start(lines)] = 1;
+            assert_eq!(table.words(), words);
+            assert_eq!(table.context_of(termination), Some(1));
+            assert_eq!(table.mode_of(termination), Some(Mode::ReceiveOnly));
+            assert_eq!(table.terminations().count(), line_terminations(lines));
+        }
+    }
+}
+
+#[test]
+fn words_kept() {
+    for lines in 1..=MOST_LINES {
+        let table = after(lines, &["T=1{C=${A=L/1/5,A=$}}"]);
+        assert_eq!(Table::try_from(table.words()), Ok(table.clone()));
+        let refused = Table::try_from(&table.words()[1..]);
+        assert_eq!(refused, Err(Refusal::TableUnsound));
+        let mut words = table.words().to_vec();
+        words[0] = 1;
+        let refused = Table::try_from(&words[..]);
+        assert_eq!(refused.is_ok(), true, "L/1/1 stands in context 1, too");
+        words[0] = 2;
+        let refused = Table::try_from(&words[..]);
+        assert_eq!(refused, Err(Refusal::TableUnsound));
+    }
+    assert_eq!(Table::try_from(&[][..]), Err(Refusal::TableUnsound));
+}
+
+#[test]
+fn report_in_its_output() {
+    let table = after(8, &["T=1{C=${A=L/1/5,A=$}}"]);
+    let mut out = [0xA5; OUTPUT_BYTES];
+    assert_eq!(table.report(&mut out), Ok("contexts 1\n1 0 0 L/1/5 R/1\n"));
+    assert!(out[27..].iter().all(|&byte| byte == 0xA5));
+    let mut short = [0xA5; OUTPUT_BYTES - 1];
+    assert_eq!(table.report(&mut short), Err(Refusal::OutputTooShort));
+    assert!(short.iter().all(|&byte| byte == 0xA5));
+}

@@ -1,0 +1,16 @@
+#!/usr/bin/env bash
+# Says whether the kit here is the one that this tree was proved with (kit.txt), and what another one may change.
+set -eu
+cd "$(dirname "$0")/.."
+pinned=$(cat kit.txt)
+if ! command -v rt > /dev/null; then
+    echo "kit: there is no rt on the path; this tree was proved with $pinned"
+    exit 1
+fi
+here=$(rt version)
+if [ "$here" = "$pinned" ]; then
+    echo "kit: $here, the one that this tree was proved with"
+else
+    echo "kit: DIFFERS, here is $here, but this tree was proved with $pinned"
+    echo "kit: proofs that are good may then be refused, and times, sizes and stack may be others"
+fi
