@@ -3,8 +3,8 @@
 
 usage, from the root: tools/call_cases.py [--early EARLIER.jsonl..] CALLS.jsonl
 
-EARLIER: calls recorded before the table had the map of the ephemerals and before a termination out of service was barred from Move: the
-map is worked out for them, and those in which such a Move could come are left out, told by their number.
+EARLIER: calls recorded before the table had the map of the ephemerals, before a termination out of service was barred from Move, and before
+AuditValue: the map is worked out for them, and those in which such a Move or an audit could come are left out, told by their number.
 
 Takes the rows at a boundary first, then rows that show a code, a refusal, a report or a kind that few before them show, as
 tools/evaluate.py does, and adds the calls of SESSION and SINGLE, which stand in this file: document 01 gives their replies and
@@ -55,6 +55,11 @@ def may_be_barred(row):
     moved = re.search(rb"MV=[^{},]+(?:[,}]|\{ER=(?:412|434))", reply) or (b"ER=533" in reply and (b"MV" in message or b"MOVE" in message))
     out = b"OS" in message or b"OUTOFSERVICE" in message or any(v // 8 == 1 for i, v in row["table"] if states <= i < 2 * states)
     return bool(moved and out)
+
+
+def may_audit(row):
+    """Whether a row recorded before AuditValue may meet it, or Audit's empty braces: one of their words stands in the message."""
+    return bool(re.search(rb"\b(?:AV|AUDITVALUE|AT|AUDIT)\b", bytes.fromhex(row["message"]).upper()))
 
 
 def runs(pairs):
@@ -218,7 +223,7 @@ def main():
     early = sys.argv[2:] if sys.argv[1] == "--early" else []
     rows = [json.loads(line) for line in open(sys.argv[-1])]
     before = [r for name in early[:-1] for r in map(grown, map(json.loads, open(name))) if r]
-    kept = [r for r in before if not may_be_barred(r)]
+    kept = [r for r in before if not may_be_barred(r) and not may_audit(r)]
     print(len(before) - len(kept), "of", len(before), "earlier calls left out")
     rows += kept
     own = own_rows()

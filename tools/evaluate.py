@@ -74,15 +74,16 @@ use mathlib.Core.List.{List, [], _∷_, _++_}
 use lib.ListN.{length, replicate, set}
 use lib.Dec.{eqb}
 use Rattle.base.specs.Lists.{same}
+use Rattle.megaco.specs.State.{state}
 use Rattle.megaco.specs.Call.{Called, call}
 use Rattle.megaco.proofs.Opened.{opened}
 
 abbrev fits : Called → ℕ → ℕ → List ℕ → List ℕ → Bool
-fits c b n a u = eqb (c .refusal) n && eqb (c .size) (length a) && same (c .reply) (a ++ replicate (b - length a) 170) && same (c .table) u
+fits c b n a u = eqb (c .refusal) n && eqb (c .size) (length a) && same (c .reply) (a ++ replicate (b - length a) 170) && same (c .state .table) u
 
 unfoldable holds : ℕ → List ℕ → List ℕ → List ℕ → ℕ → ℕ → List ℕ → List ℕ → Bool
 unfolding opened
-holds l m t own b n a u = fits (call l m t own (replicate b 170)) b n a u
+holds l m t own b n a u = fits (call l m (state t) own (replicate b 170)) b n a u
 
 '''
     per = 25

@@ -201,6 +201,14 @@ put(GOOD, message, ("8 levels", nested(8)), ("8 levels, values", nested(8, b"m=1
 put(f403(1), message, ("9 levels", nested(9)), ("10 levels", nested(10)), ("900 levels", nested(900)),
     ("9 levels, after 8", inside(b"A=$" + b"{m" * 8 + b"," + b"m{m}" + b"}" * 8)))
 put(f403(1), message, *[("empty braces at level %d" % n, nested(n, b"")) for n in range(1, 10)])
+# CR 1: "Audit/AT may have empty braces, at level 1 of any command, document 01's one exception"
+put(GOOD, item, b"AT{}", b"at{ }", b"Audit{\t}", b"aUdIt {\r\n} ", b"AT{;c\n}", b"AT=1{}", b"AT=\"x\" { }", b"AT", b"AT=1", b"AT{M}", b"AT{M{x}}",
+    b"m,AT{},n{x}", b"AT{},AT{}", b"AT/x{m}")
+put(f403(1), item, b"AT/x{}", b"Audit/AT{}", b"m{AT{}}", b"AT{AT{}}", b"AT{M{}}", b"AT{,}", b"AT{}{}", b"AT{}=1", b"AT{;}", b"AT{", b"AT{{}}",
+    b"AT{},", b"A{}", b"ATT{}", b"AUDITS{}", b"AV{}", b"AuditValue{}", b"AT_{}", b"m{}", b"M{}", b"AT/{}")
+put(GOOD, inside, b"AV=${AT{}}", b"MF=L/1/1{AT{}}", b"MV=*{AT{}},S=${at{}}", b"O-W-Q=ROOT{Audit{}}")
+put(f403(1), inside, b"AV=${}", b"AT=${}", b"AV=${ }", b"AV{AT{}}")
+put(f403(1), message, *[("AT{} at level %d" % n, nested(n, b"AT{}")) for n in range(2, 10)])
 put(f403(1), message, ("8 levels, a brace short", nested(8)[:-1]))
 put(f403(1), message, ("8 levels, two braces short", nested(8)[:-2]))
 put(F400, message, ("8 levels, a brace more", nested(8) + b"}"))

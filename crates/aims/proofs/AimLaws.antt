@@ -7,7 +7,7 @@ use lib.Dec.{eqb}
 use borrow.Author.Tests.{ne-eqb}
 use Rattle.base.specs.Pick.{pick}
 use Rattle.megaco.specs.Table.{lineTerminations, fitted, ctx, get, exists, freeEphemeral}
-use Rattle.megaco.specs.Running.{misses, aimRoot, aimFree, aim, isAdd, isModify, isNull}
+use Rattle.megaco.specs.Running.{misses, aimRoot, aimFree, aim, isAdd, inPlace, isNull}
 use Rattle.megaco.specs.declared.Context.{Context}
 use Rattle.megaco.specs.declared.Op.{Op}
 use Rattle.megaco.specs.declared.Name.{Name}
@@ -18,7 +18,7 @@ use Rattle.aims.specs.declared.Target.the-variants.{Misses, One, Many}
 use Rattle.aims.specs.Targets.{rootTarget, freeTarget, unchosenTarget, oneTarget, targetOf, aimOf}
 
 module _ (op : Op) (at : Context) (t : List ℕ) where
-  root-is : (m n items : Bool) → isModify op ≡ m → isNull at ≡ n → aimOf (rootTarget op at items) op at t ≡ aimRoot op at items
+  root-is : (m n items : Bool) → inPlace op ≡ m → isNull at ≡ n → aimOf (rootTarget op at items) op at t ≡ aimRoot op at items
   unfolding rootTarget aimRoot aimOf pick
   root-is true true true p q = rw (p, q)
   root-is true true false p q = rw (p, q)
@@ -45,7 +45,7 @@ module _ (op : Op) (at : Context) (t : List ℕ) where
   pub target-is : (items : Bool) (n : Name) → aimOf (targetOf op at items n t) op at t ≡ aim op at items n t
   unfolding targetOf aim aimOf
   target-is items (Termination i) = one-is i (exists (fitted t) i (get t (ctx i))) refl
-  target-is items Root = root-is (isModify op) (isNull at) items refl refl
+  target-is items Root = root-is (inPlace op) (isNull at) items refl refl
   target-is items Chosen = free-is (isAdd op) (eqb (freeEphemeral t) 0) (freeEphemeral t) refl refl
   target-is items Unchosen = unchosen-is (isAdd op) refl
   target-is items (Wildcard r) = refl

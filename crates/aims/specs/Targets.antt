@@ -5,7 +5,7 @@ use mathlib.Core.List.{List, [], _∷_}
 use lib.Dec.{eqb}
 use Rattle.base.specs.Pick.{pick}
 use Rattle.megaco.specs.Table.{fitted, ctx, get, lineTerminations, exists, freeEphemeral}
-use Rattle.megaco.specs.Running.{Aim, misses, gateway, meets, aimMatches, matches, isAdd, isModify, isNull}
+use Rattle.megaco.specs.Running.{Aim, misses, gateway, meets, aimMatches, matches, isAdd, inPlace, isNull}
 use Rattle.megaco.specs.declared.Context.{Context}
 use Rattle.megaco.specs.declared.Op.{Op}
 use Rattle.megaco.specs.declared.Name.{Name}
@@ -13,9 +13,9 @@ use Rattle.megaco.specs.declared.Name.the-variants.{Termination, Root, Chosen, 
 use Rattle.aims.specs.declared.Target.{Target}
 use Rattle.aims.specs.declared.Target.the-variants.{Misses, Gateway, One, Many}
 
--- "`ROOT`: 410 unless Modify; 435 outside `-`; 447 with items"
+-- "`ROOT`: 410 unless Modify", or AuditValue; "435 outside `-`; 447 with items"
 unfoldable pub rootTarget : Op → Context → Bool → Target
-rootTarget op at items = pick (isModify op) (pick (isNull at) (pick items (Misses 447) Gateway) (Misses 435)) (Misses 410)
+rootTarget op at items = pick (inPlace op) (pick (isNull at) (pick items (Misses 447) Gateway) (Misses 435)) (Misses 410)
 
 -- "410 unless Add; `$` and `R/$` choose the lowest absent ephemeral, 432 if none"
 unfoldable pub freeTarget : ℕ → Op → ℕ → Target

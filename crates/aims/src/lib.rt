@@ -1,8 +1,7 @@
 // Whom a command's name means (document 01, test 4).
 ghost use mathlib.Core.Path.{_≡_};
 ghost use Rattle.megaco.specs.Table.{Sized};
-ghost use Rattle.megaco.specs.Items.{isSubtract};
-ghost use Rattle.megaco.specs.Running.{isAdd, isModify, isNull};
+ghost use Rattle.megaco.specs.Running.{isAdd, isSubtract, inPlace, isNull};
 ghost use Rattle.aims.specs.Targets.{rootTarget, freeTarget, unchosenTarget, oneTarget, targetOf};
 use megaco::Context;
 use megaco::Name;
@@ -25,17 +24,20 @@ fn is_add(op: Op) -> bool
         Op::Modify => false,
         Op::Subtract => false,
         Op::Move => false,
+        Op::AuditValue => false,
     }
 }
 
-pub fn is_modify(op: Op) -> bool
-    ensures { λ r. ⌜ r ≡ isModify op ⌝ }
+// The commands that leave a termination where it stands.
+pub fn in_place(op: Op) -> bool
+    ensures { λ r. ⌜ r ≡ inPlace op ⌝ }
 {
     match op {
         Op::Add => false,
         Op::Modify => true,
         Op::Subtract => false,
         Op::Move => false,
+        Op::AuditValue => true,
     }
 }
 
@@ -47,6 +49,7 @@ pub fn is_subtract(op: Op) -> bool
         Op::Modify => false,
         Op::Subtract => true,
         Op::Move => false,
+        Op::AuditValue => false,
     }
 }
 
@@ -65,7 +68,7 @@ pub fn is_null(at: Context) -> bool
 fn root_target(op: Op, at: Context, items: bool) -> Target
     ensures { λ r. ⌜ r ≡ rootTarget op at items ⌝ }
 {
-    if is_modify(op) {
+    if in_place(op) {
         if is_null(at) {
             if items {
                 return Target::Misses(447);

@@ -12,7 +12,7 @@ use Rattle.megaco.specs.Table.{Write, write, ctx, cell, prop, rec, used, isEphe
 use Rattle.megaco.specs.Items.{update}
 use Rattle.megaco.specs.Running.{isChoose, target, joining, leaving, placed, marking, added, subtracted, changes}
 use Rattle.megaco.specs.declared.Op.{Op}
-use Rattle.megaco.specs.declared.Op.the-variants.{Add, Modify, Subtract, Move}
+use Rattle.megaco.specs.declared.Op.the-variants.{Add, Modify, Subtract, Move, AuditValue}
 use Rattle.megaco.specs.declared.Context.{Context}
 use Rattle.megaco.specs.declared.Given.{Given}
 use Rattle.megaco.specs.declared.Given.the-variants.{Keep, To}
@@ -115,3 +115,7 @@ module _ (op : Op) (at : Context) (given i : ℕ) (vs : Values) (v : View) (t : 
   unfolding changes leaving joining
   change-move t₁ t₂ t₃ c u o e d f h k =
       k ∙ rw (d, e, h, f, o) (sym (first-write _ _ _ t ∙ first-write (isChoose at) _ _ (apply (leaving v []) t)))
+
+  pub change-audit : op ≡ AuditValue → t ≡ apply (changes op at given i vs v) t
+  unfolding changes apply
+  change-audit o = rw o

@@ -10,7 +10,7 @@ use Rattle.base.specs.Pick.{pick}
 use Rattle.megaco.specs.Table.{stateOf}
 use Rattle.megaco.specs.Running.{Check, check, judge, numberOf, roomChecks, checks}
 use Rattle.megaco.specs.declared.Op.{Op}
-use Rattle.megaco.specs.declared.Op.the-variants.{Add, Modify, Subtract, Move}
+use Rattle.megaco.specs.declared.Op.the-variants.{Add, Modify, Subtract, Move, AuditValue}
 use Rattle.megaco.specs.declared.Context.{Context}
 use Rattle.megaco.specs.declared.Checked.{Checked}
 use Rattle.megaco.specs.declared.Checked.the-variants.{Passes, Fails}
@@ -60,6 +60,10 @@ module _ (op : Op) (at : Context) (v : View) (r : Checked) (n : ℕ) where
       → r ≡ judge (check (eqb (v .here) 0) 435 ∷ check (eqb (v .here) n) 433 ∷ check (eqb (stateOf (v .word)) 1) 503 ∷ roomChecks at v) → r ≡ judge (checks op at v)
   unfolding checks
   test-move e f p = rw (e, ← f) p
+
+  pub test-audit : op ≡ AuditValue → n ≡ numberOf at → r ≡ judge (check (not (eqb (v .here) n)) 435 ∷ []) → r ≡ judge (checks op at v)
+  unfolding checks
+  test-audit e f p = rw (e, ← f) p
 
 pub by-call : (x y b v : Bool) → x ≡ y → (x && b) ≡ v → (y && b) ≡ v
 by-call x y b v e f = rw e at f

@@ -79,6 +79,12 @@ pub fn judge_attempt(op: Op, at: Context, view: View) -> Checked
             }
             judge_room(at, view)
         }
+        Op::AuditValue => {
+            if view.here != c {
+                return Checked::Fails(435);
+            }
+            Checked::Passes
+        }
     }
 }
 
@@ -222,5 +228,6 @@ pub fn change(
             join(table, at, given, view);
             place(table, i, target(at, view), update(values, view.word));
         }
+        Op::AuditValue => {}
     }
 }

@@ -29,7 +29,7 @@ pub front : (a b : List ℕ) → take (length a) (a ++ b) ≡ a
 front [] b = refl
 front (x ∷ a) b = ap (λ (z : List ℕ). x ∷ z) (front a b)
 
-behind : (a b : List ℕ) → drop (length a) (a ++ b) ≡ b
+pub behind : (a b : List ℕ) → drop (length a) (a ++ b) ≡ b
 behind [] b = refl
 behind (x ∷ a) b = behind a b
 
@@ -76,7 +76,7 @@ one-text {n} {m} {st} {own} {o} {c} {x} {y} a b =
 -- ---- demand 2
 
 module _ {n : ℕ} {m : List ℕ} {st : State} {own o : List ℕ} (c : Made n m st own o) (e : refusalOf (c .answer) ≡ 0) where
-  left : Leaves c (runMessage (messageR m) st)
+  pub left : Leaves c (runMessage (messageR m) st)
   left = fit-leaves c (fits 0 refl (number-is c 0 .0 e))
 
   -- as the message reads

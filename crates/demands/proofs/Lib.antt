@@ -3,4 +3,5 @@ pub mod Telling
 pub mod Admitting
 pub mod Ordering
 pub mod Witness
+pub mod Afternoon
 pub mod Theorems

@@ -51,7 +51,7 @@ done {n} {m} {st} {own} {o} c x d f w b s =
     }
 
 -- what was replied
-leaves-reply : {n : ℕ} {m : List ℕ} {st : State} {own o : List ℕ} {c : Made n m st own o} {x : Ran} → Leaves c x → replyOf c ≡ replyWith own (x .text)
+pub leaves-reply : {n : ℕ} {m : List ℕ} {st : State} {own o : List ℕ} {c : Made n m st own o} {x : Ran} → Leaves c x → replyOf c ≡ replyWith own (x .text)
 unfolding sizeOf
 leaves-reply {n} {m} {st} {own} {o} {c} {x} l = rw (l .answer, l .buffer) (front (replyWith own (x .text)) (drop (length (replyWith own (x .text))) o))
 

@@ -1,11 +1,12 @@
 -- Items of every level are read exactly as the grammar derives them.
 use Prim.Native.Nat.{ℕ, zero, suc, _+_}
 use mathlib.Core.Path.{_≡_, refl, sym, ap, _∙_}
-use mathlib.Core.Bool.{true}
-use mathlib.Core.List.{List, [], _∷_, _++_, append-assoc}
+use mathlib.Core.Bool.{Bool, true, false, _&&_, and-false, false≢true}
+use mathlib.Core.List.{List, [], _∷_, _++_, append-assoc, append-nil}
 use mathlib.Core.Option.{Option, none, some}
 use lib.ListN.{length, drop}
 use lib.Dec.{eqb}
+use borrow.Author.Tests.{eqb-true}
 use native.Mathlib.Omega.{arith}
 use Rattle.base.specs.Pick.{pick}
 use Rattle.base.specs.Lists.{isAt, every, has}
@@ -13,16 +14,20 @@ use Rattle.base.specs.Bytes.{text}
 use Rattle.megaco.specs.Bytes.{equal, leftBrace, rightBrace, slash, isLetter, isDigit, isWord, isWhite, inClass}
 use Rattle.megaco.specs.White.{goesOn}
 use Rattle.megaco.specs.Tokens.{signAt, valueAt}
-use Rattle.megaco.specs.Tree.{Value, ItemOf, item}
-use Rattle.megaco.specs.Reading.{Read, got, reading, spaced, wordR, secondR, valueOf, valueR, bracesR, itemR, itemsR}
+use Rattle.megaco.specs.Tree.{Value, ItemOf, item, Item}
+use Rattle.megaco.specs.Items.{called}
+use Rattle.megaco.specs.Reading.{Read, got, reading, spaced, wordR, secondR, valueOf, valueR, bracesR, mayBeEmpty, orNoneR, itemR, itemsR}
+use Rattle.megaco.specs.declared.Token.the-variants.{AuditToken}
 use Rattle.megaco.specs.declared.Class.the-variants.{WordByte, SafeByte}
 use Rattle.megaco.specs.declared.Parsed.the-variants.{Next}
-use Rattle.grammar.specs.Grammar.{LWSP, noLWSP, around, NAME, name, VALUE, quotedString, safeChars, ItemID, noItemID, itemID, parmValue, noValue, withValue, Braces, noBraces, withBraces, ammParameter, parameter, ammParameters}
-use Rattle.grammar.proofs.Classes.{letter-passes, safe-tests}
-use Rattle.grammar.proofs.Places.{regroup3, regroup4, regroup-braces, Gets, gets-here, gets-skip, gets-bind, behind, isAt-head, isAt-cons, whether, given, fault-got, got-same, skip-got, bind-got, reading-got}
+use Rattle.grammar.specs.Characters.{Keyword}
+use Rattle.grammar.specs.Grammar.{LWSP, noLWSP, around, NAME, name, VALUE, quotedString, safeChars, ItemID, noItemID, itemID, parmValue, noValue, withValue, Commas, single, joined, LBRKT, RBRKT, Braces, noBraces, withBraces, auditDescriptor, emptyAudit, ammParameter, parameter, audit, ammParameters}
+use Rattle.grammar.proofs.Classes.{and-parts, test-not, letter-passes, safe-tests}
+use Rattle.grammar.proofs.Places.{regroup3, regroup4, regroup-braces, head, Gets, gets-here, gets-skip, gets-bind, behind, isAt-head, isAt-cons, whether, given, fault-got, got-same, skip-got, bind-got, reading-got}
 use Rattle.grammar.proofs.WhiteLaws.{Solid, white-append, white-sound}
 use Rattle.grammar.proofs.RowLaws.{Stops, After, afterSign, sign-complete, sign-sound}
 use Rattle.grammar.proofs.FollowLaws.{Follow, ends, signs, closing, follow-not, follow-in, signs-solid, closing-signs, white-ends, ends-word, ends-safe, letter-solid, safe-solid}
+use Rattle.grammar.proofs.WordLaws.{name-letter, keyword-spells, spells-keyword, audit-name}
 use Rattle.grammar.proofs.NameLaws.{value-exact, value-sound}
 use Rattle.grammar.proofs.ListLaws.{Spaced, gets-spaced, spaced-got, gets-word, word-got, Complete, Sound, list-complete-all, list-sound-all}
 
@@ -44,6 +49,10 @@ value-solid : {a : List ℕ} {v : Value} (t : List ℕ) → VALUE a v → Solid 
 unfolding goesOn isWhite
 value-solid t (quotedString m l) = refl
 value-solid t (safeChars {b} x m l) = safe-solid b (safe-tests .passes b x)
+
+-- what stands in braces does not begin with `}`
+pub record Filled {A : Type 0} (X : List ℕ → List A → Type 0) : Type 0 where
+  pub first : (a t : List ℕ) (xs : List A) → X a xs → eqb (head (a ++ t)) rightBrace ≡ false
 
 -- ---- complete
 
@@ -75,6 +84,39 @@ module _ (s : List ℕ) where
             gets-skip s (signAt rightBrace s q) _ (sign-complete s q rightBrace rest (white-append l v) (signs-solid (closing-signs f))
             (n ∙ sym (append-assoc (rightBrace ∷ v₂) w rest))) (λ e o.
             gets-here s (some xs) e rest o))));
+      }
+
+  -- where the braces may be empty, items are read as elsewhere: they do not begin with `}`
+  or-none-complete : {A : Type 0} {X : List ℕ → List A → Type 0} {inner : ℕ → Read (List A)} (empty : Bool) → Complete X (text "}") s inner → Filled X
+      → Complete X (text "}") s (orNoneR empty inner s)
+  unfolding orNoneR pick
+  or-none-complete {X} {inner} empty c f = record {
+    solid = c .solid;
+    reads = λ a w rest xs at y v g h.
+        rw (isAt-head s (a ++ (w ++ rest)) at rightBrace h, f .first a (w ++ rest) xs y, and-false empty) (c .reads a w rest xs at y v g h);
+  }
+
+  -- and empty braces
+  empty-led : {A : Type 0} (inner : ℕ → Read (List A)) {c d w rest : List ℕ} {empty : Bool} → empty ≡ true
+      → LBRKT c → RBRKT d → LWSP w → Follow closing rest
+      → Led s ((c ++ d) ++ (w ++ rest)) (text "{,}") (bracesR (orNoneR empty inner s) s) (some []) rest
+  unfolding bracesR orNoneR every has pick goesOn isWhite
+  empty-led inner {w} {rest} t (around {a = u₁} {b = v₁} i j) (around {a = u₂} {b = v₂} k l) v f =
+      let t₂ = rightBrace ∷ v₂ ++ (w ++ rest) in
+      let t₁ = leftBrace ∷ v₁ ++ (u₂ ++ t₂) in
+      record {
+        white = u₁;
+        body = t₁;
+        isWhite = i;
+        sign = record { first = refl };
+        split = simp append-assoc;
+        reads = λ at h. rw (isAt-head s t₁ at leftBrace h) (
+            gets-skip s (signAt leftBrace s at) _ (sign-complete s at leftBrace t₂ (white-append j k) refl
+            (h ∙ ap (λ z. leftBrace ∷ z) (sym (append-assoc v₁ u₂ t₂)))) (λ p m.
+            gets-bind s [] _ _ (rw (t, isAt-head s t₂ p rightBrace m) (gets-here s [] p t₂ m)) (λ q n.
+            gets-skip s (signAt rightBrace s q) _ (sign-complete s q rightBrace rest (white-append l v) (signs-solid (closing-signs f))
+            (n ∙ sym (append-assoc (rightBrace ∷ v₂) w rest))) (λ e o.
+            gets-here s (some []) e rest o))));
       }
 
   -- what follows a part that a sign, perhaps behind white space, ends
@@ -130,31 +172,64 @@ module _ (s : List ℕ) where
   second-stops noItemID l = ends-word (led-ends refl l)
   second-stops (itemID n) l = refl
 
-  item-solid : {A : Type 0} {X : List ℕ → List A → Type 0} {a : List ℕ} {x : ItemOf A} (t : List ℕ) → ammParameter X a x → Solid (a ++ t)
-  item-solid t (parameter {a} {b} {c} {d} n i p z) = rw (regroup4 a b c d t) (name-solid (b ++ (c ++ (d ++ t))) n)
+  -- an item begins with a word
+  item-first : {A : Type 0} {left : ℕ} {X : List ℕ → List A → Type 0} {a : List ℕ} {x : ItemOf A} (t : List ℕ) → ammParameter left X a x
+      → isLetter (head (a ++ t)) ≡ true
+  item-first t (parameter {a} {b} {c} {d} n i p z) = rw (regroup4 a b c d t) (name-letter (b ++ (c ++ (d ++ t))) n)
+  item-first t (audit l (emptyAudit {a} {b} {c} {d} k v o p)) = rw (regroup4 a b c d t) (name-letter (b ++ (c ++ (d ++ t))) (audit-name k))
 
-  pub item-complete : {A : Type 0} (X : List ℕ → List A → Type 0) (inner : ℕ → Read (List A)) → Complete X (text "}") s inner
-      → Complete (ammParameter X) closing s (itemR inner s)
-  unfolding itemR
-  item-complete {A} X inner c = record { solid = λ a t x y. item-solid t y; reads = all }
+  items-filled : (k : ℕ) → Filled (ammParameters (suc k))
+  unfolding isLetter
+  items-filled k = record { first = λ a t xs y. test-not isLetter (head (a ++ t)) rightBrace refl (go t y) }
     where
-      all : (a w rest : List ℕ) (x : ItemOf A) (at : ℕ) → ammParameter X a x → LWSP w → Follow closing rest → drop at s ≡ a ++ (w ++ rest)
-          → Gets s (itemR inner s at) x rest
-      all a′ w rest x′ at (parameter {a} {b} {c = p} {d} {x} {v} {is} n i y z) g f h =
-          given (braces-led c z g f) (λ l. given (value-led y l) (λ k.
-          gets-bind s a (wordR s at) _ (gets-word s (b ++ (p ++ (d ++ (w ++ rest)))) at n (second-stops i k) (h ∙ regroup4 a b p d (w ++ rest)))
-          (λ q m.
-          gets-bind s x (spaced s (secondR s q)) _ (second-gets q i k m) (λ q m.
-          gets-bind s v (valueR s q) _ (k .reads q m) (λ q m.
-          gets-bind s is (bracesR inner s q) _ (l .reads q m) (λ q m. gets-here s (item a x v is) q rest m))))))
+      go : {a : List ℕ} {xs : List (Item (suc k))} (t : List ℕ) → Commas (ammParameter k (ammParameters k)) a xs → isLetter (head (a ++ t)) ≡ true
+      go t (single y) = item-first t y
+      go t (joined {a} {b} {c} y m ys) = rw (regroup3 a b c t) (item-first (b ++ (c ++ t)) y)
+
+  -- an item whose parts are led on from one another
+  item-gets : {A : Type 0} (left : ℕ) (inner : ℕ → Read (List A)) {a b c t rest : List ℕ} {x : Option (List ℕ)} {v : Option Value}
+      {is : Option (List A)} (at : ℕ)
+      → NAME a → ItemID b x → parmValue c v → Led s t (text "{,}") (bracesR (orNoneR (mayBeEmpty left a x) inner s) s) is rest
+      → drop at s ≡ a ++ (b ++ (c ++ t)) → Gets s (itemR left inner s at) (item a x v is) rest
+  unfolding itemR
+  item-gets left inner {a} {b} {c = p} {t} {rest} {x} {v} {is} at n i y l h =
+      given (value-led y l) (λ k.
+      gets-bind s a (wordR s at) _ (gets-word s (b ++ (p ++ t)) at n (second-stops i k) h)
+      (λ q m.
+      gets-bind s x (spaced s (secondR s q)) _ (second-gets q i k m) (λ q m.
+      gets-bind s v (valueR s q) _ (k .reads q m) (λ q m.
+      gets-bind s is _ _ (l .reads q m) (λ q m. gets-here s (item a x v is) q rest m)))))
+
+  may : (left : ℕ) (a : List ℕ) → left ≡ 7 → Keyword AuditToken a → mayBeEmpty left a none ≡ true
+  unfolding mayBeEmpty called
+  may left a e k = rw (e, keyword-spells AuditToken a k)
+
+  pub item-complete : {A : Type 0} (left : ℕ) (X : List ℕ → List A → Type 0) (inner : ℕ → Read (List A)) → Complete X (text "}") s inner → Filled X
+      → Complete (ammParameter left X) closing s (itemR left inner s)
+  item-complete {A} left X inner c o = record { solid = λ a t x y. letter-solid _ (item-first t y); reads = all }
+    where
+      all : (a w rest : List ℕ) (x : ItemOf A) (at : ℕ) → ammParameter left X a x → LWSP w → Follow closing rest → drop at s ≡ a ++ (w ++ rest)
+          → Gets s (itemR left inner s at) x rest
+      all a′ w rest x′ at (parameter {a} {b} {c = p} {d} {x} n i y z) g f h =
+          item-gets left inner at n i y (braces-led (or-none-complete (mayBeEmpty left a x) c o) z g f) (h ∙ regroup4 a b p d (w ++ rest))
+      all a′ w rest x′ at (audit e (emptyAudit {a} {b} {c = p} {d} k y i j)) g f h =
+          item-gets left inner at (audit-name k) noItemID y (empty-led inner (may left a e k) i j g f) (h ∙ simp append-assoc)
 
   -- items of k levels
-  pub items-complete : (k : ℕ) → Complete (ammParameters k) (text "}") s (itemsR k s)
+  items-both : (k : ℕ) → Complete (ammParameters k) (text "}") s (itemsR k s) × Filled (ammParameters k)
   unfolding itemsR
-  items-complete zero = record { solid = λ a t x y. absurd y; reads = λ a w rest x at y. absurd y }
-  items-complete (suc k) = list-complete-all _ s _ (item-complete (ammParameters k) (itemsR k s) (items-complete k))
+  items-both zero = (record { solid = λ a t x y. absurd y; reads = λ a w rest x at y. absurd y }, record { first = λ a t x y. absurd y })
+  items-both (suc k) = (list-complete-all _ s _ (item-complete k (ammParameters k) (itemsR k s) (items-both k .0) (items-both k .1)), items-filled k)
+
+  pub items-complete : (k : ℕ) → Complete (ammParameters k) (text "}") s (itemsR k s)
+  items-complete k = items-both k .0
 
 -- ---- sound
+
+-- what stands in braces that may be empty
+data OrNone {A : Type 0} (empty : Bool) (X : List ℕ → List A → Type 0) : List ℕ → List A → Type 0 where
+  filled : {a : List ℕ} {xs : List A} → X a xs → OrNone empty X a xs
+  nothing : empty ≡ true → OrNone empty X [] []
 
 module _ (s : List ℕ) where
   braces-of : {A : Type 0} (X : List ℕ → List A → Type 0) {u a b w c : List ℕ} {xs : List A} {is : Option (List A)}
@@ -225,21 +300,53 @@ module _ (s : List ℕ) where
         split = rw (z .1) (w .split);
       }))))
 
-  pub item-sound : {A : Type 0} (X : List ℕ → List A → Type 0) (inner : ℕ → Read (List A)) → Sound X s inner
-      → Sound (ammParameter X) s (itemR inner s)
+  or-none-sound : {A : Type 0} (empty : Bool) (X : List ℕ → List A → Type 0) (inner : ℕ → Read (List A)) → Sound X s inner
+      → Sound (OrNone empty X) s (orNoneR empty inner s)
+  unfolding orNoneR pick
+  or-none-sound empty X inner c = record {
+    finds = λ xs at e h. whether (empty && isAt s at rightBrace)
+        (λ t. given (got-same xs e (rw t at h)) (λ z. record {
+          bytes = [];
+          white = [];
+          derives = rw (← (z .0)) (nothing (and-parts empty _ t .0));
+          isWhite = noLWSP;
+          split = rw (z .1);
+        }))
+        (λ t. given (c .finds xs at e (rw t at h)) (λ y. record {
+          bytes = y .bytes;
+          white = y .white;
+          derives = filled (y .derives);
+          isWhite = y .isWhite;
+          split = y .split;
+        }));
+  }
+
+  -- with nothing in its braces it is auditDescriptor
+  item-of : {A : Type 0} {left : ℕ} {X : List ℕ → List A → Type 0} {a b c d : List ℕ} {x : Option (List ℕ)} {v : Option Value} {is : Option (List A)}
+      → NAME a → ItemID b x → parmValue c v → Braces (OrNone (mayBeEmpty left a x) X) d is → ammParameter left X (a ++ b ++ c ++ d) (item a x v is)
+  unfolding mayBeEmpty called
+  item-of n i y noBraces = parameter n i y noBraces
+  item-of n i y (withBraces l (filled z) r) = parameter n i y (withBraces l z r)
+  item-of {left} {a} {c} n noItemID y (withBraces {a = b} {c = d} l (nothing t) r) =
+      given (and-parts (eqb left 7) _ t) (λ p. rw (append-nil a, append-nil b, ← append-assoc (a ++ c) b d)
+      (audit (eqb-true left 7 (p .0)) (emptyAudit (spells-keyword AuditToken a (p .1)) y l r)))
+  item-of {left} n (itemID m) y (withBraces l (nothing t) r) = absurd (false≢true (and-parts (eqb left 7) false t .1))
+
+  pub item-sound : {A : Type 0} (left : ℕ) (X : List ℕ → List A → Type 0) (inner : ℕ → Read (List A)) → Sound X s inner
+      → Sound (ammParameter left X) s (itemR left inner s)
   unfolding itemR
-  item-sound X inner c = record {
+  item-sound left X inner c = record {
     finds = λ y at e h.
         bind-got y e (wordR s at) _ h (λ a p m l. bind-got y e (spaced s (secondR s p)) _ l
-        (λ x q n l. bind-got y e (valueR s q) _ l (λ v r o l. bind-got y e (bracesR inner s r) _ l (λ is f g l.
+        (λ x q n l. bind-got y e (valueR s q) _ l (λ v r o l. bind-got y e (bracesR (orNoneR (mayBeEmpty left a x) inner s) s r) _ l (λ is f g l.
         given (got-same y e l) (λ z.
         given (word-got s a at p m) (λ t₁.
         given (second-sound x p q n) (λ t₂.
         given (value-behind v q r (t₂ .isWhite) o) (λ t₃.
-        given (braces-sound X inner c is r e (t₃ .isWhite) (g ∙ ap (got is) (z .1))) (λ t₄. record {
+        given (braces-sound _ _ (or-none-sound (mayBeEmpty left a x) X inner c) is r e (t₃ .isWhite) (g ∙ ap (got is) (z .1))) (λ t₄. record {
           bytes = a ++ t₂ .bytes ++ t₃ .bytes ++ t₄ .bytes;
           white = t₄ .white;
-          derives = rw (← (z .0)) (parameter (t₁ .0) (t₂ .derives) (t₃ .derives) (t₄ .derives));
+          derives = rw (← (z .0)) (item-of (t₁ .0) (t₂ .derives) (t₃ .derives) (t₄ .derives));
           isWhite = t₄ .isWhite;
           split = t₁ .1 ∙ rw (t₂ .split, t₃ .split, t₄ .split) (simp append-assoc);
         })))))))));
@@ -248,4 +355,4 @@ module _ (s : List ℕ) where
   pub items-sound : (k : ℕ) → Sound (ammParameters k) s (itemsR k s)
   unfolding itemsR
   items-sound zero = record { finds = λ x at e h. absurd (fault-got x e h) }
-  items-sound (suc k) = list-sound-all _ s _ (item-sound (ammParameters k) (itemsR k s) (items-sound k))
+  items-sound (suc k) = list-sound-all _ s _ (item-sound k (ammParameters k) (itemsR k s) (items-sound k))

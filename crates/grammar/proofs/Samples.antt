@@ -4,8 +4,8 @@ use mathlib.Core.Bool.{true, false}
 use mathlib.Core.List.{[], _∷_}
 use mathlib.Core.Option.{none, some}
 use Rattle.base.specs.Bytes.{text}
-use Rattle.megaco.specs.Tree.{quoted, item, command, action, transaction}
-use Rattle.megaco.specs.declared.Context.the-variants.{Numbered, Choose}
+use Rattle.megaco.specs.Tree.{plain, quoted, item, command, action, transaction}
+use Rattle.megaco.specs.declared.Context.the-variants.{Null, Numbered, Choose}
 use Rattle.megaco.specs.declared.Property.the-variants.{Priority, Emergency}
 use Rattle.megaco.proofs.Opened.{opened}
 use Rattle.grammar.specs.Grammar.{megacoMessage}
@@ -27,6 +27,21 @@ spaced-line : megacoMessage (text " MEGACO/01\t<gw.example>:2944 ; from\r\nTrans
     ∷ action (Numbered 1) (Priority 3 ∷ Emergency ∷ []) [] ∷ []) ∷ [])
 unfolding opened
 spaced-line = sound _ _ refl
+
+-- "Audit/AT may have empty braces, at level 1 of any command": white space between them, a value before them; not at level 2, nor any other word
+empty-audit : megacoMessage (text "!/1 [10.0.0.1] T=1{C=-{S=L/1/1{AT{},audit=1{ ;none\n}}}}") 1
+    (transaction 1 (action Null [] (command false false (text "S") (text "L/1/1") (some (
+    item (text "AT") none none (some []) ∷ item (text "audit") none (some (plain (text "1"))) (some []) ∷ [])) ∷ []) ∷ []) ∷ [])
+unfolding opened
+empty-audit = sound _ _ refl
+
+inner-audit : Fault403 (text "!/1 [10.0.0.1] T=1{C=-{MF=L/1/1{M{AT{}}}}}") 1
+unfolding opened
+inner-audit = fault-403 _ 1 .0 refl
+
+empty-media : Fault403 (text "!/1 [10.0.0.1] T=1{C=-{MF=L/1/1{M{}}}}") 1
+unfolding opened
+empty-media = fault-403 _ 1 .0 refl
 
 -- "T=1{}"
 empty-braces : Fault403 (text "!/1 [10.0.0.1] T=1{}") 1

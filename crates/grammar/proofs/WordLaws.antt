@@ -16,7 +16,7 @@ use Rattle.megaco.specs.White.{after}
 use Rattle.megaco.specs.Keywords.{Forms, forms, formsOf, spelt, spells}
 use Rattle.megaco.specs.Tokens.{letterAt, rowAt, wordAt, keywordAt}
 use Rattle.megaco.specs.declared.Token.{Token}
-use Rattle.megaco.specs.declared.Token.the-variants.{TransToken, CtxToken, PriorityToken, EmergencyToken}
+use Rattle.megaco.specs.declared.Token.the-variants.{AuditToken, TransToken, CtxToken, PriorityToken, EmergencyToken}
 use Rattle.megaco.specs.declared.Class.{Class}
 use Rattle.megaco.specs.declared.Class.the-variants.{WordByte}
 use Rattle.megaco.specs.declared.Parsed.the-variants.{Next}
@@ -194,3 +194,7 @@ priority-name x = spelling-name x refl
 pub emergency-name : {a : List ℕ} → Keyword EmergencyToken a → NAME a
 unfolding formsOf every pick isLetter
 emergency-name x = spelling-name x refl
+
+pub audit-name : {a : List ℕ} → Keyword AuditToken a → NAME a
+unfolding formsOf every pick isLetter
+audit-name x = spelling-name x refl

@@ -13,7 +13,7 @@ use Rattle.base.specs.Bytes.{text}
 use Rattle.megaco.specs.Bytes.{equal, comma, leftBrace, rightBrace, slash, colon, dot, quote, semicolon, dash, dollar, star, capital, capitals}
 use Rattle.grammar.specs.Characters.{Keyword, ALPHA, DIGIT, AlphaDigitOr, SafeChar, WSP, QuotedChar, CommentChar, Many}
 use Rattle.megaco.specs.Tree.{Value, plain, quoted, ItemOf, item, Item, Items, Command, command, Action, action, Transaction, transaction}
-use Rattle.megaco.specs.declared.Token.the-variants.{MegacopToken, TransToken, CtxToken, PriorityToken, EmergencyToken}
+use Rattle.megaco.specs.declared.Token.the-variants.{AuditToken, MegacopToken, TransToken, CtxToken, PriorityToken, EmergencyToken}
 use Rattle.megaco.specs.declared.Context.{Context}
 use Rattle.megaco.specs.declared.Context.the-variants.{Null, Numbered, Choose, All}
 use Rattle.megaco.specs.declared.Property.{Property}
@@ -161,15 +161,23 @@ pub data Braces {A : Type 0} (X : List ℕ → List A → Type 0) : List ℕ →
   noBraces : Braces X [] none
   withBraces : {a b c : List ℕ} {xs : List A} → LBRKT a → X b xs → RBRKT c → Braces X (a ++ b ++ c) (some xs)
 
--- ammParameter, and what may stand in one: "Item: word, optional `/` word, optional `=` value, optional `{` items `}`"
-pub data ammParameter {A : Type 0} (inner : List ℕ → List A → Type 0) : List ℕ → ItemOf A → Type 0 where
+-- auditDescriptor = AuditToken LBRKT [ auditItem *(COMMA auditItem) ] RBRKT, where nothing stands in its braces: "Audit/AT may have empty braces".
+-- With items in them it is a parameter like any other; a value is read before them, as in any other
+pub data auditDescriptor {A : Type 0} : List ℕ → ItemOf A → Type 0 where
+  emptyAudit : {a b c d : List ℕ} {v : Option Value} → Keyword AuditToken a → parmValue b v → LBRKT c → RBRKT d
+      → auditDescriptor (a ++ b ++ c ++ d) (item a none v (some []))
+
+-- ammParameter, and what may stand in one: "Item: word, optional `/` word, optional `=` value, optional `{` items `}`"; where seven levels are left
+-- (level 1), auditDescriptor: "at level 1 of any command, document 01's one exception"
+pub data ammParameter {A : Type 0} (left : ℕ) (inner : List ℕ → List A → Type 0) : List ℕ → ItemOf A → Type 0 where
   parameter : {a b c d : List ℕ} {x : Option (List ℕ)} {v : Option Value} {is : Option (List A)}
-      → NAME a → ItemID b x → parmValue c v → Braces inner d is → ammParameter inner (a ++ b ++ c ++ d) (item a x v is)
+      → NAME a → ItemID b x → parmValue c v → Braces inner d is → ammParameter left inner (a ++ b ++ c ++ d) (item a x v is)
+  audit : {a : List ℕ} {x : ItemOf A} → left ≡ 7 → auditDescriptor a x → ammParameter left inner a x
 
 -- ammParameter *(COMMA ammParameter), of k levels: "the command's own are level 1, and level 9 is a fault"
 abbrev pub ammParameters : (k : ℕ) → List ℕ → List (Item k) → Type 0
 ammParameters zero a is = ⊥
-ammParameters (suc k) a is = Commas (ammParameter (ammParameters k)) a is
+ammParameters (suc k) a is = Commas (ammParameter k (ammParameters k)) a is
 
 -- ["O-"], ["W-"]: "`O-`, `W-` .. ignore letter case"
 pub data Prefix (letter : ℕ) : List ℕ → Bool → Type 0 where

@@ -9,7 +9,7 @@ use Rattle.base.specs.Pick.{pick}
 use Rattle.base.specs.Lists.{isAt}
 use Rattle.megaco.specs.Bytes.{comma, rightBrace}
 use Rattle.megaco.specs.Tree.{plain, ItemOf}
-use Rattle.megaco.specs.Items.{modeGiven, stateGiven, propertyToken, valueGiven, setValue, propertyItems, topItems, unchanged, isSubtract, judgeItems}
+use Rattle.megaco.specs.Items.{modeGiven, stateGiven, propertyToken, valueGiven, setValue, propertyItems, itemsIn, topItems, auditItems, auditGiven, unchanged, mediaGiven, noItems, judgeItems}
 use Rattle.megaco.specs.declared.Parsed.the-variants.{Next, Fault}
 use Rattle.megaco.specs.declared.Token.{Token}
 use Rattle.megaco.specs.declared.Given.{Given}
@@ -19,6 +19,7 @@ use Rattle.megaco.specs.declared.Judged.the-variants.{Wrong, Right}
 use Rattle.megaco.specs.declared.Checked.{Checked}
 use Rattle.megaco.specs.declared.Checked.the-variants.{Passes, Fails}
 use Rattle.megaco.specs.declared.Op.{Op}
+use Rattle.megaco.specs.declared.Op.the-variants.{Add, Modify, Subtract, Move, AuditValue}
 use Rattle.megaco.specs.declared.Kind.{Kind}
 use Rattle.megaco.specs.declared.Kind.the-variants.{InControl, InState}
 use Rattle.megaco.specs.declared.Values.{Values}
@@ -28,6 +29,7 @@ use Rattle.parts.specs.declared.ItemPlaces.{ItemPlaces}
 use Rattle.parts.specs.declared.CommandPlaces.{CommandPlaces}
 use Rattle.parts.specs.Found.{itemsFrom, commandEndFrom}
 use Rattle.items.specs.declared.JudgedItems.{JudgedItems}
+use Rattle.items.proofs.ListLaws.{audit-given}
 use Rattle.items.specs.Judging.{calledBy, valueBy, nextAt, itemChecked, judgedBy, kindOf, Known, closedBy}
 
 -- ---- values
@@ -46,11 +48,11 @@ module _ (k : Kind) (g : Given) (vs : Values) where
   unfolding setValue
   set-none e = rw e
 
-  pub set-mode : (x : ℕ) → g ≡ To x → k ≡ InControl → Right (record { mode = g; state = vs .state }) ≡ setValue k g vs
+  pub set-mode : (x : ℕ) → g ≡ To x → k ≡ InControl → Right (record { mode = g; state = vs .state; audited = vs .audited }) ≡ setValue k g vs
   unfolding setValue
   set-mode x e h = rw (e, h)
 
-  pub set-state : (x : ℕ) → g ≡ To x → k ≡ InState → Right (record { mode = vs .mode; state = g }) ≡ setValue k g vs
+  pub set-state : (x : ℕ) → g ≡ To x → k ≡ InState → Right (record { mode = vs .mode; state = g; audited = vs .audited }) ≡ setValue k g vs
   unfolding setValue
   set-state x e h = rw (e, h)
 
@@ -111,18 +113,51 @@ module _ (s : List ℕ) (x y : JudgedItems) (h : y ≡ closedBy s x) where
 
 -- ---- a command's items
 
-module _ (s : List ℕ) (p : CommandPlaces) (op : Op) where
-  pub judge-subtract : (x : Bool) → p .braces ≡ true → x ≡ isSubtract op → x ≡ true → Wrong 447 ≡ judgeItems op (itemsFrom s p)
-  unfolding judgeItems itemsFrom pick
-  judge-subtract x b f t = rw (b, ← f, t)
+module _ (s : List ℕ) (p : CommandPlaces) where
+  pub media-all : (vs : Values) (r : Judged) → p .braces ≡ true → vs ≡ unchanged → r ≡ topItems (itemsAt 8 s (p .inside) .tree) false vs → r ≡ mediaGiven (itemsFrom s p)
+  unfolding mediaGiven itemsFrom pick
+  media-all vs r b u e = rw b (e ∙ rw u)
 
-  pub judge-all : (x : Bool) (r : Judged) → p .braces ≡ true → x ≡ isSubtract op → x ≡ false → r ≡ topItems (itemsAt 8 s (p .inside) .tree) false unchanged → r ≡ judgeItems op (itemsFrom s p)
-  unfolding judgeItems itemsFrom pick
-  judge-all x r b f t e = rw (b, ← f, t) e
+  pub media-none : (vs : Values) → p .braces ≡ false → vs ≡ unchanged → Right vs ≡ mediaGiven (itemsFrom s p)
+  unfolding mediaGiven itemsFrom pick
+  media-none vs b e = rw (b, e)
 
-  pub judge-none : p .braces ≡ false → Right unchanged ≡ judgeItems op (itemsFrom s p)
-  unfolding judgeItems itemsFrom pick
-  judge-none b = rw b
+  pub none-wrong : p .braces ≡ true → Wrong 447 ≡ noItems (itemsFrom s p)
+  unfolding noItems itemsFrom pick
+  none-wrong b = rw b
+
+  pub none-right : (vs : Values) → p .braces ≡ false → vs ≡ unchanged → Right vs ≡ noItems (itemsFrom s p)
+  unfolding noItems itemsFrom pick
+  none-right vs b e = rw (b, e)
+
+  pub audit-none : p .braces ≡ false → Wrong 442 ≡ auditGiven (itemsIn (itemsFrom s p))
+  unfolding auditGiven itemsIn itemsFrom pick
+  audit-none b = rw b
+
+  pub audit-all : (vs : Values) (r : Judged) → p .braces ≡ true → vs ≡ unchanged → r ≡ auditItems (itemsAt 8 s (p .inside) .tree) false vs → r ≡ auditGiven (itemsIn (itemsFrom s p))
+  unfolding itemsIn itemsFrom pick
+  audit-all vs r b u e = rw b (e ∙ ap (λ (us : Values). auditItems (itemsAt 8 s (p .inside) .tree) false us) u ∙ sym (audit-given s (p .inside)))
+
+  module _ (op : Op) (r : Judged) where
+    pub of-add : op ≡ Add → r ≡ mediaGiven (itemsFrom s p) → r ≡ judgeItems op (itemsFrom s p)
+    unfolding judgeItems
+    of-add e h = rw e h
+
+    pub of-modify : op ≡ Modify → r ≡ mediaGiven (itemsFrom s p) → r ≡ judgeItems op (itemsFrom s p)
+    unfolding judgeItems
+    of-modify e h = rw e h
+
+    pub of-subtract : op ≡ Subtract → r ≡ noItems (itemsFrom s p) → r ≡ judgeItems op (itemsFrom s p)
+    unfolding judgeItems
+    of-subtract e h = rw e h
+
+    pub of-move : op ≡ Move → r ≡ mediaGiven (itemsFrom s p) → r ≡ judgeItems op (itemsFrom s p)
+    unfolding judgeItems
+    of-move e h = rw e h
+
+    pub of-audit : op ≡ AuditValue → r ≡ auditGiven (itemsIn (itemsFrom s p)) → r ≡ judgeItems op (itemsFrom s p)
+    unfolding judgeItems
+    of-audit e h = rw e h
 
   pub judge-known : (y : JudgedItems) → p .braces ≡ true → Known (pastSign rightBrace s (itemsAt 8 s (p .inside) .end)) y → Known (commandEndFrom s p) y
   unfolding commandEndFrom pick

@@ -10,10 +10,10 @@ use Rattle.base.specs.Lists.{isAt}
 use Rattle.megaco.specs.Bytes.{comma}
 use Rattle.megaco.specs.Tree.{ItemOf, item, Item}
 use Rattle.megaco.specs.Reading.{unlimited}
-use Rattle.megaco.specs.Items.{onward, called, descriptorShape, propertyShape, propertyToken, valueGiven, setValue, propertyItems, itemsIn, mediaItems, topItems}
+use Rattle.megaco.specs.Items.{onward, called, descriptorShape, propertyShape, propertyToken, valueGiven, setValue, propertyItems, itemsIn, mediaItems, topItems, auditing, bareShape, auditedItems, auditItems, auditGiven, unchanged}
 use Rattle.megaco.specs.declared.Parsed.{Parsed}
 use Rattle.megaco.specs.declared.Parsed.the-variants.{Next, Fault}
-use Rattle.megaco.specs.declared.Token.the-variants.{MediaToken, LocalControlToken}
+use Rattle.megaco.specs.declared.Token.the-variants.{AuditToken, MediaToken, LocalControlToken}
 use Rattle.megaco.specs.declared.Judged.{Judged}
 use Rattle.megaco.specs.declared.Judged.the-variants.{Wrong, Right}
 use Rattle.megaco.specs.declared.Kind.{Kind}
@@ -53,7 +53,7 @@ turn-by code false false false j f = refl
 turn-by code false false true (Wrong c) f = refl
 turn-by code false false true (Right vs) f = refl
 
--- ---- the three lists
+-- ---- the lists
 
 -- one that stands is a repetition behind it
 abbrev pub stands : {A : Type 0} → A → Bool → Bool
@@ -77,13 +77,21 @@ media-turn (item w x v is) xs stood vs =
     rw (by-kind c (stood .control) (stood .state) inside more, by-kind c (stood .control) (stood .state) inside stop)
     (turn-by 444 _ _ (descriptorShape v is) (inside (kindOf c)) (more (c || stood .control) (not c || stood .state)))
 
+audited-turn : {A : Type 0} (x : ItemOf A) (xs : List (ItemOf A)) (seen : Bool) (vs : Values) → auditedItems (x ∷ xs) seen vs ≡ onward (auditedItems (x ∷ []) seen vs) (λ us. auditedItems xs true us)
+unfolding auditedItems onward
+audited-turn (item w x v is) xs seen vs = turn-by 444 (not (called MediaToken w x)) seen (bareShape v is) (Right auditing) _
+
+audit-turn : {A : Type 0} (x : ItemOf (ItemOf A)) (xs : List (ItemOf (ItemOf A))) (seen : Bool) (vs : Values) → auditItems (x ∷ xs) seen vs ≡ onward (auditItems (x ∷ []) seen vs) (λ us. auditItems xs true us)
+unfolding auditItems
+audit-turn (item w x v is) xs seen vs = turn-by 447 (not (called AuditToken w x)) seen (descriptorShape v is) (auditedItems (itemsIn is) false vs) _
+
 -- ---- the items from a place on, of which n were judged before
 
 unfoldable pub itemsLeft : {A : Type 0} → (ℕ → A) → (ℕ → ℕ) → List ℕ → ℕ → ℕ → List A
 itemsLeft one end s n i = listOf one end s (length s + 1 - n) i
 
 abbrev pub levelLeft : (k : ℕ) → List ℕ → ℕ → ℕ → List (Item (suc k))
-levelLeft k s n i = itemsLeft (λ j. itemAt (itemsAt k s) s j .tree) (λ j. itemAt (itemsAt k s) s j .end) s n i
+levelLeft k s n i = itemsLeft (λ j. itemAt k (itemsAt k s) s j .tree) (λ j. itemAt k (itemsAt k s) s j .end) s n i
 
 module _ {A : Type 0} (one : ℕ → A) (end : ℕ → ℕ) (s : List ℕ) (n i : ℕ) where
   left-none : length s < n → itemsLeft one end s n i ≡ []
@@ -140,6 +148,26 @@ module _ (s : List ℕ) (at : ℕ) (vs : Values) where
   unfolding topItems
   top-starts = starts 7 topItems stands (λ seen vs. refl) top-turn s at false vs
 
+  pub audited-starts : auditedItems (itemsAt 7 s at .tree) false vs ≡ judgeAll auditedItems stands (levelLeft 6 s 0 at) false vs
+  unfolding auditedItems
+  audited-starts = starts 6 auditedItems stands (λ seen vs. refl) audited-turn s at false vs
+
+  pub audit-starts : auditItems (itemsAt 8 s at .tree) false vs ≡ judgeAll auditItems stands (levelLeft 7 s 0 at) false vs
+  unfolding auditItems
+  audit-starts = starts 7 auditItems stands (λ seen vs. refl) audit-turn s at false vs
+
+-- braces hold an item at least
+items-left : (k : ℕ) (s : List ℕ) (at : ℕ) → itemsAt (suc k) s at .tree ≡ levelLeft k s 0 at
+unfolding itemsAt itemsLeft unlimited
+items-left k s at = let z : length s + 1 - 0 ≡ length s + 1 = omega arith in rw z
+
+given-some : {A : Type 0} (l : List (ItemOf (ItemOf A))) (x : ItemOf (ItemOf A)) (xs : List (ItemOf (ItemOf A))) → l ≡ x ∷ xs → auditGiven l ≡ auditItems l false unchanged
+unfolding auditGiven
+given-some l x xs e = rw e
+
+pub audit-given : (s : List ℕ) (at : ℕ) → auditGiven (itemsAt 8 s at .tree) ≡ auditItems (itemsAt 8 s at .tree) false unchanged
+audit-given s at = given-some (itemsAt 8 s at .tree) _ _ (items-left 7 s at ∙ left-some (λ j. itemAt 7 (itemsAt 7 s) s j .tree) (λ j. itemAt 7 (itemsAt 7 s) s j .end) s 0 at (omega arith))
+
 -- ---- a list from the place that was reached: q is the verdict on all
 
 module _ {A S : Type 0} (f : List A → S → Values → Judged) (next : A → S → S) (one : ℕ → A) (end : ℕ → ℕ) (s : List ℕ) (n i : ℕ) (stood : S) (vs : Values) (q : Judged)
@@ -167,7 +195,7 @@ module _ {A S : Type 0} (f : List A → S → Values → Judged) (next : A → S
 
 -- ---- where it ends: q is the end of all
 
-pub items-begin : (k : ℕ) (s : List ℕ) (at : ℕ) → itemsAt (suc k) s at .end ≡ listEnd (λ j. itemAt (itemsAt k s) s j .end) s (length s + 1 - 0) at
+pub items-begin : (k : ℕ) (s : List ℕ) (at : ℕ) → itemsAt (suc k) s at .end ≡ listEnd (λ j. itemAt k (itemsAt k s) s j .end) s (length s + 1 - 0) at
 unfolding itemsAt unlimited
 items-begin k s at = let z : length s + 1 - 0 ≡ length s + 1 = omega arith in rw z
 

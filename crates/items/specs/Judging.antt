@@ -1,7 +1,7 @@
 -- What is judged of one item, told by its parts (crate `parts`): the definition with the tests of the code.
 use Prim.Native.Nat.{ℕ, _≤_}
 use mathlib.Core.Path.{_≡_}
-use mathlib.Core.Bool.{Bool, false, not, _&&_, _||_}
+use mathlib.Core.Bool.{Bool, true, false, not, _&&_, _||_}
 use mathlib.Core.List.{List}
 use mathlib.Core.Option.{some}
 use lib.ListN.{length}
@@ -10,11 +10,11 @@ use Rattle.base.specs.Lists.{isAt}
 use Rattle.megaco.specs.Bytes.{comma, rightBrace}
 use Rattle.megaco.specs.Keywords.{isToken, spells}
 use Rattle.megaco.specs.Tree.{plain}
-use Rattle.megaco.specs.Items.{propertyToken, valueGiven, setValue, propertyItems, mediaItems}
+use Rattle.megaco.specs.Items.{propertyToken, valueGiven, setValue, propertyItems, mediaItems, auditing, auditedItems}
 use Rattle.megaco.specs.declared.Parsed.{Parsed}
 use Rattle.megaco.specs.declared.Parsed.the-variants.{Next, Fault}
 use Rattle.megaco.specs.declared.Token.{Token}
-use Rattle.megaco.specs.declared.Token.the-variants.{MediaToken, LocalControlToken, TerminationStateToken, InactiveToken, SendonlyToken, RecvonlyToken, SendrecvToken, LoopbackToken, InSvcToken, OutOfSvcToken, TestToken}
+use Rattle.megaco.specs.declared.Token.the-variants.{AuditToken, MediaToken, LocalControlToken, TerminationStateToken, InactiveToken, SendonlyToken, RecvonlyToken, SendrecvToken, LoopbackToken, InSvcToken, OutOfSvcToken, TestToken}
 use Rattle.megaco.specs.declared.Given.{Given}
 use Rattle.megaco.specs.declared.Given.the-variants.{Keep, To}
 use Rattle.megaco.specs.declared.Judged.{Judged}
@@ -25,7 +25,7 @@ use Rattle.megaco.specs.declared.Kind.{Kind}
 use Rattle.megaco.specs.declared.Kind.the-variants.{InControl, InState}
 use Rattle.megaco.specs.declared.Values.{Values}
 use Rattle.syntax.specs.Production.{pastSign}
-use Rattle.syntax.specs.Places.{itemsAt}
+use Rattle.syntax.specs.Places.{orNoneAt, itemsAt}
 use Rattle.parts.specs.declared.ItemPlaces.{ItemPlaces}
 use Rattle.parts.specs.Found.{bytesOf}
 use Rattle.items.specs.declared.Descriptors.{Descriptors}
@@ -111,3 +111,14 @@ mediaBy called stood vs s p =
 
 unfoldable pub topBy : Bool → Values → List ℕ → ItemPlaces → Judged
 topBy seen vs s p = judgedBy (itemChecked 444 (calledBy MediaToken s p) seen (descriptorShapeBy p)) (mediaItems (itemsAt 7 s (p .inside) .tree) false false vs)
+
+-- in Audit Media stands bare
+abbrev pub bareShapeBy : ItemPlaces → Bool
+bareShapeBy p = not (p .value .given) && not (p .braces)
+
+unfoldable pub auditedBy : Bool → List ℕ → ItemPlaces → Judged
+auditedBy seen s p = judgedBy (itemChecked 444 (calledBy MediaToken s p) seen (bareShapeBy p)) (Right auditing)
+
+-- at the top Audit, in whose braces items may stand or nothing
+unfoldable pub auditBy : Bool → Values → List ℕ → ItemPlaces → Judged
+auditBy seen vs s p = judgedBy (itemChecked 447 (calledBy AuditToken s p) seen (descriptorShapeBy p)) (auditedItems (orNoneAt true (itemsAt 7 s) s (p .inside) .tree) false vs)

@@ -1,14 +1,14 @@
 // A command's items judged in reading order (document 01, test 3): the first code, or the values given.
 ghost use mathlib.Core.Path.{_≡_};
-ghost use mathlib.Core.Bool.{false};
+ghost use mathlib.Core.Bool.{true, false};
 ghost use mathlib.Core.Option.{some};
 ghost use Rattle.megaco.specs.Tree.{plain};
-ghost use Rattle.megaco.specs.Items.{modeGiven, stateGiven, propertyToken, valueGiven, setValue, propertyItems, mediaItems, topItems, judgeItems};
+ghost use Rattle.megaco.specs.Items.{modeGiven, stateGiven, propertyToken, valueGiven, setValue, propertyItems, itemsIn, mediaItems, topItems, auditedItems, auditItems, auditGiven, unchanged, mediaGiven, noItems, judgeItems};
 ghost use Rattle.megaco.specs.Bytes.{rightBrace};
 ghost use Rattle.syntax.specs.Production.{pastSign};
-ghost use Rattle.syntax.specs.Places.{itemsAt};
+ghost use Rattle.syntax.specs.Places.{orNoneAt, itemsAt};
 ghost use Rattle.parts.specs.Found.{itemsFrom, commandEndFrom};
-ghost use Rattle.items.specs.Judging.{Lies, modeBy, stateBy, calledBy, itemChecked, calledIn, kindOf, stoodAfter, valueBy, nextAt, propertyBy, mediaBy, topBy, Known, closedBy};
+ghost use Rattle.items.specs.Judging.{Lies, modeBy, stateBy, calledBy, itemChecked, calledIn, kindOf, stoodAfter, valueBy, nextAt, propertyBy, mediaBy, topBy, auditedBy, auditBy, Known, closedBy};
 use megaco::Checked;
 use megaco::Given;
 use megaco::Judged;
@@ -114,10 +114,12 @@ fn set_value(k: Kind, g: Given, values: Values) -> Judged
             Kind::InControl => Judged::Right(Values {
                 mode: g,
                 state: state,
+                audited: values.audited,
             }),
             Kind::InState => Judged::Right(Values {
                 mode: mode,
                 state: g,
+                audited: values.audited,
             }),
         },
     }
@@ -374,6 +376,120 @@ fn top_items(s: &[u8], at: usize, values: Values) -> JudgedItems
     }
 }
 
+// ---- in Audit
+
+fn audited_item(s: &[u8], p: ItemPlaces, seen: bool) -> Judged
+    requires { ⌜ Lies (now s) p ⌝ }
+    ensures { λ r. ⌜ r ≡ auditedBy seen (now (s .entry)) p ⌝ }
+{
+    let v = p.value;
+    let known = item_called(s, p, Token::MediaToken);
+    let checked = check_item(444, known, seen, !v.given & !p.braces);
+    match checked {
+        Checked::Passes => Judged::Right(Values {
+            mode: Given::Keep,
+            state: Given::Keep,
+            audited: true,
+        }),
+        Checked::Fails(code) => Judged::Wrong(code),
+    }
+}
+
+fn audited_items(s: &[u8], at: usize, values: Values) -> JudgedItems
+    ensures { λ r. ⌜ (r .judged ≡ auditedItems (itemsAt 7 (now (s .entry)) at .tree) false values) × Known (itemsAt 7 (now (s .entry)) at .end) r ⌝ }
+{
+    let mut i = at;
+    let mut n = 0;
+    let mut seen = false;
+    let mut vs = values;
+    while n <= s.len() {
+        n += 1;
+        let p = parts::item_places(s, i);
+        let j = audited_item(s, p, seen);
+        let Judged::Right(us) = j else {
+            return JudgedItems { judged: j, end: 0 };
+        };
+        let v = p.value;
+        let e = v.end;
+        let x = next_item(s, e);
+        let Parsed::Next(u) = x else {
+            return JudgedItems { judged: j, end: e };
+        };
+        i = u;
+        vs = us;
+        seen = true;
+    }
+    JudgedItems {
+        judged: Judged::Right(vs),
+        end: i,
+    }
+}
+
+// What stands in Audit's braces: items, or nothing.
+fn audit_inside(s: &[u8], at: usize, values: Values) -> JudgedItems
+    ensures { λ r. ⌜ (r .judged ≡ auditedItems (orNoneAt true (itemsAt 7 (now (s .entry))) (now (s .entry)) at .tree) false values) × Known (orNoneAt true (itemsAt 7 (now (s .entry))) (now (s .entry)) at .end) r ⌝ }
+{
+    if text::is_at(s, at, 0x7d) {
+        return JudgedItems {
+            judged: Judged::Right(values),
+            end: at,
+        };
+    }
+    audited_items(s, at, values)
+}
+
+// ---- at the top of AuditValue
+
+fn audit_item(s: &[u8], p: ItemPlaces, seen: bool, values: Values) -> JudgedItems
+    requires { ⌜ Lies (now s) p ⌝ }
+    ensures { λ r. ⌜ (r .judged ≡ auditBy seen values (now (s .entry)) p) × Known (pastSign rightBrace (now (s .entry)) (orNoneAt true (itemsAt 7 (now (s .entry))) (now (s .entry)) (p .inside) .end)) r ⌝ }
+{
+    let v = p.value;
+    let known = item_called(s, p, Token::AuditToken);
+    let checked = check_item(447, known, seen, !v.given & p.braces);
+    match checked {
+        Checked::Passes => {
+            let inside = p.inside;
+            let x = audit_inside(s, inside, values);
+            closed(s, x)
+        }
+        Checked::Fails(code) => JudgedItems {
+            judged: Judged::Wrong(code),
+            end: 0,
+        },
+    }
+}
+
+fn audit_items(s: &[u8], at: usize, values: Values) -> JudgedItems
+    ensures { λ r. ⌜ (r .judged ≡ auditItems (itemsAt 8 (now (s .entry)) at .tree) false values) × Known (itemsAt 8 (now (s .entry)) at .end) r ⌝ }
+{
+    let mut i = at;
+    let mut n = 0;
+    let mut seen = false;
+    let mut vs = values;
+    while n <= s.len() {
+        n += 1;
+        let p = parts::item_places(s, i);
+        let y = audit_item(s, p, seen, vs);
+        let j = y.judged;
+        let Judged::Right(us) = j else {
+            return JudgedItems { judged: j, end: 0 };
+        };
+        let e = y.end;
+        let x = next_item(s, e);
+        let Parsed::Next(u) = x else {
+            return y;
+        };
+        i = u;
+        vs = us;
+        seen = true;
+    }
+    JudgedItems {
+        judged: Judged::Right(vs),
+        end: i,
+    }
+}
+
 // ---- a command
 
 // Where a command ends: its items tell it, unless something is wrong with them.
@@ -388,21 +504,23 @@ fn end_of_command(s: &[u8], p: CommandPlaces, x: JudgedItems) -> usize
     }
 }
 
-// A command's items by themselves.
-fn judge_inside(s: &[u8], p: CommandPlaces, op: Op) -> JudgedItems
-    ensures { λ r. ⌜ (r .judged ≡ judgeItems op (itemsFrom (now (s .entry)) p)) × Known (commandEndFrom (now (s .entry)) p) r ⌝ }
+// No value is given, and none audited.
+fn unchanged() -> Values
+    ensures { λ r. ⌜ r ≡ unchanged ⌝ }
 {
-    let none = Values {
+    Values {
         mode: Given::Keep,
         state: Given::Keep,
-    };
+        audited: false,
+    }
+}
+
+// The items of Add, Modify and Move.
+fn judge_media(s: &[u8], p: CommandPlaces) -> JudgedItems
+    ensures { λ r. ⌜ (r .judged ≡ mediaGiven (itemsFrom (now (s .entry)) p)) × Known (commandEndFrom (now (s .entry)) p) r ⌝ }
+{
+    let none = unchanged();
     if p.braces {
-        if aims::is_subtract(op) {
-            return JudgedItems {
-                judged: Judged::Wrong(447),
-                end: 0,
-            };
-        }
         let inside = p.inside;
         let x = top_items(s, inside, none);
         return closed(s, x);
@@ -410,6 +528,50 @@ fn judge_inside(s: &[u8], p: CommandPlaces, op: Op) -> JudgedItems
     JudgedItems {
         judged: Judged::Right(none),
         end: p.end,
+    }
+}
+
+// The items of Subtract.
+fn judge_none(s: &[u8], p: CommandPlaces) -> JudgedItems
+    ensures { λ r. ⌜ (r .judged ≡ noItems (itemsFrom (now (s .entry)) p)) × Known (commandEndFrom (now (s .entry)) p) r ⌝ }
+{
+    if p.braces {
+        return JudgedItems {
+            judged: Judged::Wrong(447),
+            end: 0,
+        };
+    }
+    JudgedItems {
+        judged: Judged::Right(unchanged()),
+        end: p.end,
+    }
+}
+
+// The items of AuditValue.
+fn judge_audit(s: &[u8], p: CommandPlaces) -> JudgedItems
+    ensures { λ r. ⌜ (r .judged ≡ auditGiven (itemsIn (itemsFrom (now (s .entry)) p))) × Known (commandEndFrom (now (s .entry)) p) r ⌝ }
+{
+    if p.braces {
+        let inside = p.inside;
+        let x = audit_items(s, inside, unchanged());
+        return closed(s, x);
+    }
+    JudgedItems {
+        judged: Judged::Wrong(442),
+        end: 0,
+    }
+}
+
+// A command's items by themselves.
+fn judge_inside(s: &[u8], p: CommandPlaces, op: Op) -> JudgedItems
+    ensures { λ r. ⌜ (r .judged ≡ judgeItems op (itemsFrom (now (s .entry)) p)) × Known (commandEndFrom (now (s .entry)) p) r ⌝ }
+{
+    match op {
+        Op::Add => judge_media(s, p),
+        Op::Modify => judge_media(s, p),
+        Op::Subtract => judge_none(s, p),
+        Op::Move => judge_media(s, p),
+        Op::AuditValue => judge_audit(s, p),
     }
 }
 

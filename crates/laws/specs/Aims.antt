@@ -11,13 +11,13 @@ use native.Mathlib.Omega.{arith}
 use Rattle.base.specs.Lists.{lowestAbsent}
 use Rattle.megaco.specs.declared.Context.{Context}
 use Rattle.megaco.specs.declared.Op.{Op}
-use Rattle.megaco.specs.declared.Op.the-variants.{Add, Modify, Subtract, Move}
+use Rattle.megaco.specs.declared.Op.the-variants.{Add, Modify, Subtract, Move, AuditValue}
 use Rattle.megaco.specs.declared.Range.{Range}
 use Rattle.megaco.specs.declared.Name.{Name}
 use Rattle.megaco.specs.declared.Name.the-variants.{Termination, Root, Chosen, Unchosen, Wildcard, Unmatched, Unknown}
 use Rattle.megaco.specs.Table.{channels, ephemerals, terminations, words, fitted, ctx, get, contextWords, places, exists, freeEphemeral}
 use Rattle.megaco.specs.Names.{within, lineName, ephemeralName, plainName, lineRange, wildcardName, capitalName, nameOf, inRange}
-use Rattle.megaco.specs.Running.{wanted, matchesFrom, matches, Aim, misses, gateway, meets, isAdd, isModify, aimRoot, aimFree, aimMatches, aim}
+use Rattle.megaco.specs.Running.{wanted, matchesFrom, matches, Aim, misses, gateway, meets, isAdd, inPlace, aimRoot, aimFree, aimMatches, aim}
 use Rattle.base.proofs.TestLaws.{clash, and-both, pick-of}
 use Rattle.laws.specs.Counting.{lowest}
 use Rattle.laws.specs.Sound.{context-words, context-at, places-long}
@@ -60,7 +60,7 @@ name-low n x =
 
 pub record Meant (op : Op) (t : List ℕ) (i : ℕ) : Type 0 where
   pub small : i < terminations (fitted t)
-  pub there : isModify op ≡ true → exists (fitted t) i (get t (ctx i)) ≡ true
+  pub there : inPlace op ≡ true → exists (fitted t) i (get t (ctx i)) ≡ true
 
 pub data Each (P : ℕ → Type 0) : List ℕ → Type 0 where
   no-more : Each P []
@@ -91,13 +91,14 @@ root-meant : (op : Op) (t : List ℕ) (at : Context) (items : Bool) → Aims op 
 unfolding aimRoot
 root-meant op t at items = pick-of (Aims op t) _ (λ _. nobody) (λ _. pick-of (Aims op t) _ (λ _. nobody) (λ _. pick-of (Aims op t) _ (λ _. nobody) (λ _. itself)))
 
--- an Add is no Modify
-add-only : (op : Op) → not (isAdd op) ≡ false → isModify op ≡ true → ⊥
-unfolding isAdd isModify
+-- an Add does not leave a termination where it stands
+add-only : (op : Op) → not (isAdd op) ≡ false → inPlace op ≡ true → ⊥
+unfolding isAdd inPlace
 add-only Add e h = clash (sym h)
 add-only Modify e h = clash e
 add-only Subtract e h = clash e
 add-only Move e h = clash e
+add-only AuditValue e h = clash e
 
 free-meant : (op : Op) (t : List ℕ) → length t ≡ words (fitted t) → not (isAdd op) ≡ false → Aims op t (aimFree (fitted t) (freeEphemeral t))
 unfolding aimFree freeEphemeral

@@ -11,7 +11,7 @@ use Rattle.base.specs.Pick.{pick}
 use Rattle.megaco.specs.declared.Context.{Context}
 use Rattle.megaco.specs.declared.Context.the-variants.{Numbered, Choose}
 use Rattle.megaco.specs.declared.Op.{Op}
-use Rattle.megaco.specs.declared.Op.the-variants.{Add, Modify, Subtract, Move}
+use Rattle.megaco.specs.declared.Op.the-variants.{Add, Modify, Subtract, Move, AuditValue}
 use Rattle.megaco.specs.declared.Checked.{Checked}
 use Rattle.megaco.specs.declared.Values.{Values}
 use Rattle.megaco.specs.declared.Seen.{Seen}
@@ -19,7 +19,7 @@ use Rattle.megaco.specs.declared.View.{View}
 use Rattle.megaco.specs.Table.{lineTerminations, terminations, contexts, fitted, most, prop, rec, used, ctx, cell, get, Write, write, apply, recordWords, isEphemeral, exists, known, members, freeContext}
 use Rattle.megaco.specs.Items.{update}
 use Rattle.megaco.specs.State.{State, wrote}
-use Rattle.megaco.specs.Running.{unseen, seen, numberOf, freeAt, look, isChoose, target, roomChecks, checks, joining, leaving, placed, marking, added, subtracted, changes, settled, isModify, Effect, concluded, effect, tries}
+use Rattle.megaco.specs.Running.{unseen, seen, numberOf, freeAt, look, isChoose, target, roomChecks, checks, joining, leaving, placed, marking, added, subtracted, changes, settled, inPlace, Effect, concluded, effect, tries}
 use Rattle.base.proofs.TestLaws.{clash, and-both, both-and, pick-of}
 use Rattle.laws.specs.Passed.{Passed, judged}
 use Rattle.laws.specs.Slots.{fitted-apply}
@@ -93,6 +93,7 @@ Ready Add at t = Joins at t
 Ready Modify at t = Unit {0}
 Ready Subtract at t = Stands at
 Ready Move at t = Joins at t
+Ready AuditValue at t = Unit {0}
 
 -- a record that a context may have
 pub record Present (g : ℕ) : Type 0 where
@@ -278,7 +279,7 @@ moved-away at i x t W T h p n e = by (isChoose at) refl
     by false c = n (sym e ∙ T .named c)
 
 -- a termination that joins
-arrives : (op : Op) (at : Context) (given d i y : ℕ) (t : List ℕ) (last mark : Bool) (ws : List Write) → isModify op ≡ false
+arrives : (op : Op) (at : Context) (given d i y : ℕ) (t : List ℕ) (last mark : Bool) (ws : List Write) → inPlace op ≡ false
     → ((c : Context) (u : List ℕ) → Joins c u → Ready op c u) → Whole t → Joins at t → Target at t (target at (look at i t))
     → Moves (fitted t) (isChoose at) last mark given d i (target at (look at i t)) y ws → Goes t (isChoose at) last mark given d i (target at (look at i t)) y
     → Leaves op (settled at (look at i t)) t (apply ws t)
@@ -299,7 +300,7 @@ no-line n i e h = clash (sym (le-leb (lineTerminations n) i h) ∙ e)
 -- a termination that goes to null
 departs : (c given i : ℕ) (t : List ℕ) → Whole t → 0 < c → i < terminations (fitted t) → get t (ctx i) ≡ numberOf (Numbered c)
     → Leaves Subtract (settled (Numbered c) (look (Numbered c) i t)) t (apply (leaving (look (Numbered c) i t) (marking (fitted t) i 0 (placed i 0 (subtracted (fitted t) i (get t (cell (prop i))))))) t)
-unfolding look numberOf settled isChoose isModify pick
+unfolding look numberOf settled isChoose inPlace pick
 departs c given i t W h k e =
     let w : ℕ = get t (cell (prop i)) in
     let d : ℕ = get t (ctx i) in
@@ -327,7 +328,7 @@ departs c given i t W h k e =
 
 pub attempt-sound : (op : Op) (at : Context) (given i : ℕ) (vs : Values) (t : List ℕ) → Whole t → Ready op at t → Meant op t i → Present given → Fair vs
     → Passed (checks op at (look at i t)) → Leaves op (settled at (look at i t)) t (apply (changes op at given i vs (look at i t)) t)
-unfolding changes look isModify
+unfolding changes look inPlace apply
 attempt-sound Add at given i vs t W j M G F p =
     let v : View = look at i t in
     let w : ℕ = added (fitted t) i (get t (cell (prop i))) in
@@ -358,6 +359,7 @@ attempt-sound Move at given i vs t W j M G F p =
     (joining-moves at false given d i (update vs w) v t _ T (placed-moves (fitted t) given d i (target at v) (update vs w) (M .small))))
     (joined at given d i (target at v) (update vs w) t (leb (seen d t .members) 1) false T G (M .small) refl (moved-away at i (target at v) t W T (M .small) b (q .1))
     (update-sound vs w F (W .word i (M .small))) (λ z. ap (λ (m : ℕ). leb m 1) (here-low i t W (M .small) z)) (λ _ _. b))
+attempt-sound AuditValue at given i vs t W j M G F p = record { whole = W; ready = tt; meant = λ k m. m }
 
 -- ---- the attempts of a command
 

@@ -10,14 +10,13 @@ use native.Mathlib.Omega.{arith}
 use Rattle.megaco.specs.declared.Context.{Context}
 use Rattle.megaco.specs.declared.Context.the-variants.{Null, Numbered, Choose, All}
 use Rattle.megaco.specs.declared.Op.{Op}
-use Rattle.megaco.specs.declared.Op.the-variants.{Add, Modify, Subtract, Move}
+use Rattle.megaco.specs.declared.Op.the-variants.{Add, Modify, Subtract, Move, AuditValue}
 use Rattle.megaco.specs.declared.Values.{Values}
 use Rattle.megaco.specs.Tree.{Command, Transaction, Message}
 use Rattle.megaco.specs.Table.{contexts, fitted, rec, cell, get, sound}
 use Rattle.megaco.specs.State.{State}
 use Rattle.megaco.specs.Names.{nameOf}
-use Rattle.megaco.specs.Items.{isSubtract}
-use Rattle.megaco.specs.Running.{Step, Course, step, seen, numberOf, missed, Aim, misses, gateway, meets, isNull, isModify, aimed, barred, lost, runCommand, runTransaction, runTransactions, runMessage}
+use Rattle.megaco.specs.Running.{Step, Course, step, seen, numberOf, missed, Aim, misses, gateway, meets, isNull, isSubtract, inPlace, aimed, barred, lost, runCommand, runTransaction, runTransactions, runMessage}
 use Rattle.megaco.specs.Call.{call}
 use Rattle.base.proofs.TestLaws.{clash}
 use Rattle.laws.specs.Sound.{Whole, sound-whole, whole-sound}
@@ -31,7 +30,7 @@ use Rattle.laws.specs.Runs.{Keeps, Kept, command-keeps, step-keeps, tran
 ready-there : (c : ℕ) (t : List ℕ) → eqb (seen c t .held) 0 ≡ false → (0 < c) × (c ≤ contexts) × (0 < get t (cell (rec c)))
 ready-there c t l = seen-there c t (omega (arith, eqb-false (seen c t .held) 0 l))
 
-ready-join : (op : Op) (at : Context) (t : List ℕ) → isModify op ≡ false → barred op at ≡ false → lost op at (seen (numberOf at) t .held) ≡ false → Joins at t
+ready-join : (op : Op) (at : Context) (t : List ℕ) → inPlace op ≡ false → barred op at ≡ false → lost op at (seen (numberOf at) t .held) ≡ false → Joins at t
 unfolding barred isNull lost numberOf
 ready-join op Null t n b l = absurd (clash (rw n at b))
 ready-join op (Numbered c) t n b l = let k = ready-there c t l in there (k .0) (k .1) (k .2)
@@ -39,18 +38,19 @@ ready-join op Choose t n b l = anew
 ready-join op All t n b l = absurd (clash l)
 
 ready-leave : (at : Context) (t : List ℕ) → barred Subtract at ≡ false → lost Subtract at (seen (numberOf at) t .held) ≡ false → Stands at
-unfolding barred isNull isModify isSubtract lost numberOf
+unfolding barred isNull inPlace isSubtract lost numberOf
 ready-leave Null t b l = absurd (clash b)
 ready-leave (Numbered c) t b l = stands (ready-there c t l .0)
 ready-leave Choose t b l = absurd (clash l)
 ready-leave All t b l = absurd (clash l)
 
 pub ready : (op : Op) (at : Context) (t : List ℕ) → barred op at ≡ false → lost op at (seen (numberOf at) t .held) ≡ false → Ready op at t
-unfolding isModify
+unfolding inPlace
 ready Add at t b l = ready-join Add at t refl b l
 ready Modify at t b l = tt
 ready Subtract at t b l = ready-leave at t b l
 ready Move at t b l = ready-join Move at t refl b l
+ready AuditValue at t b l = tt
 
 aimed-sound : (op : Op) (name : List ℕ) (given : ℕ) (vs : Values) (a : Aim) (at : Context) (st : State) → Whole (st .table) → Aims op (st .table) a → Present given → Fair vs
     → Ready op at (st .table) → Whole (aimed op name given vs a at st .state .table)

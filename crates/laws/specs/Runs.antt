@@ -18,7 +18,7 @@ use Rattle.megaco.specs.State.{State, wrote}
 use Rattle.megaco.specs.Names.{nameOf}
 use Rattle.megaco.specs.Items.{given?}
 use Rattle.megaco.specs.Reply.{Acted}
-use Rattle.megaco.specs.Running.{seen, numberOf, look, Effect, effect, Outcome, tries, missed, actionError, Aim, misses, gateway, meets, aim, aimed, opOf, barred, lost, named, tested, unlessOptional, ordered, runCommand, started, Step, start, order, steps, progress, Course, course, begin, advance, proceed, step, run, fresh, runTransaction, runTransactions, runMessage}
+use Rattle.megaco.specs.Running.{seen, numberOf, look, Effect, effect, Outcome, tries, missed, actionError, Aim, misses, gateway, meets, aim, aimed, opOf, barred, lost, notForRoot, named, tested, unlessOptional, ordered, runCommand, started, Step, start, order, steps, progress, Course, course, begin, advance, proceed, step, run, fresh, runTransaction, runTransactions, runMessage}
 use Rattle.megaco.specs.Reading.{messageR}
 use Rattle.megaco.specs.Call.{Called, written, replied, taken, call}
 use Rattle.base.proofs.TestLaws.{pick-of}
@@ -46,7 +46,7 @@ module _ (P : State → Type 0) (G : ℕ → Type 0) (K : Keeps P G) where
       → lost op at (seen (numberOf at) (st .table) .held) ≡ false → P (named op name given items j at st .state)
   unfolding named missed
   named-keeps op name given items (Wrong code) at st p g f b l = p
-  named-keeps op name given items (Right vs) at st p g (right f) b l = K .orders op name given vs items at st p g f b l
+  named-keeps op name given items (Right vs) at st p g (right f) b l = K .orders op name given vs (notForRoot op items vs) at st p g f b l
 
   tested-keeps : (op : Op) (name : List ℕ) (items : Items) (given : ℕ) (at : Context) (st : State) → P st → G given → barred op at ≡ false
       → P (tested op name items given at st .state)

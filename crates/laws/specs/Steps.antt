@@ -12,7 +12,7 @@ use Rattle.megaco.specs.Names.{nameOf}
 use Rattle.megaco.specs.Items.{judgeItems, given?}
 use Rattle.megaco.specs.Reply.{Report, Acted}
 use Rattle.megaco.specs.Running.{seen, numberOf, look, Effect, effect, Outcome, outcome, tries, missed, actionError, Aim, misses, gateway, meets, aimRoot, aim, aimed, opOf, barred, lost}
-use Rattle.megaco.specs.Running.{named, tested, unlessOptional, ordered, runCommand, started, Step, start, order, Progress, progress, Course, course, begin, advance, proceed, step}
+use Rattle.megaco.specs.Running.{notForRoot, named, tested, unlessOptional, ordered, runCommand, started, Step, start, order, Progress, progress, Course, course, begin, advance, proceed, step}
 use Rattle.megaco.specs.declared.Context.{Context}
 use Rattle.megaco.specs.declared.Op.{Op}
 use Rattle.megaco.specs.declared.Name.{Name}
@@ -168,8 +168,8 @@ module _ (lines : ℕ) (N K : ℕ → Type 0) where
       unfolding named
       local-named items (Wrong code) m = local-missed st op name code w s
       local-named items (Right vs) m =
-          local-reads st (λ u. nameOf (fitted (u .table)) name) (λ n u. aimed op name given vs (aim op w items n (u .table)) w u) (λ u a. ap (λ (k : ℕ). nameOf k name) (fitted-same (st .table) (u .table) (a .long)))
-          (local-aimed items vs (nameOf (fitted (st .table)) name) (subst (λ (k : ℕ). Means (nameOf k name)) (sym fit) m))
+          local-reads st (λ u. nameOf (fitted (u .table)) name) (λ n u. aimed op name given vs (aim op w (notForRoot op items vs) n (u .table)) w u) (λ u a. ap (λ (k : ℕ). nameOf k name) (fitted-same (st .table) (u .table) (a .long)))
+          (local-aimed (notForRoot op items vs) vs (nameOf (fitted (st .table)) name) (subst (λ (k : ℕ). Means (nameOf k name)) (sym fit) m))
 
     local-tested : (op : Op) (name : List ℕ) (items : Items) (given : ℕ) (w : Context) → Seat lines N K w → barred op w ≡ false → Means (nameOf lines name)
         → Local (λ u. tested op name items given w u) st

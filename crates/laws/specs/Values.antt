@@ -11,10 +11,11 @@ use Rattle.megaco.specs.declared.Judged.the-variants.{Wrong, Right}
 use Rattle.megaco.specs.declared.Kind.{Kind}
 use Rattle.megaco.specs.declared.Kind.the-variants.{InControl, InState}
 use Rattle.megaco.specs.declared.Op.{Op}
+use Rattle.megaco.specs.declared.Op.the-variants.{Add, Modify, Subtract, Move, AuditValue}
 use Rattle.megaco.specs.declared.Values.{Values}
 use Rattle.megaco.specs.Tree.{Value, plain, quoted, ItemOf, item, Items}
 use Rattle.megaco.specs.Table.{modeOf, stateOf}
-use Rattle.megaco.specs.Items.{change, update, onward, modeGiven, stateGiven, valueGiven, setValue, propertyItems, itemsIn, mediaItems, topItems, unchanged, isSubtract, judgeItems}
+use Rattle.megaco.specs.Items.{change, update, onward, modeGiven, stateGiven, valueGiven, setValue, propertyItems, itemsIn, mediaItems, topItems, auditing, auditedItems, auditItems, auditGiven, unchanged, mediaGiven, noItems, judgeItems}
 use Rattle.base.proofs.TestLaws.{pick-of}
 use Rattle.laws.specs.Sound.{SoundWord}
 
@@ -101,7 +102,43 @@ module _ {A : Type 0} where
 unchanged-fair : Fair unchanged
 unchanged-fair = omega arith
 
+auditing-fair : Fair auditing
+auditing-fair = omega arith
+
+module _ {A : Type 0} where
+  audited-fair : (is : List (ItemOf A)) (seen : Bool) (vs : Values) → Fair vs → FairItems (auditedItems is seen vs)
+  unfolding auditedItems
+  audited-fair [] seen vs f = right f
+  audited-fair (item w x v is ∷ rest) seen vs f =
+      pick-of FairItems _ (λ _. wrong) (λ _. pick-of FairItems _ (λ _. wrong) (λ _. pick-of FairItems _
+      (λ _. audited-fair rest true auditing auditing-fair) (λ _. wrong)))
+
+  audit-fair : (is : List (ItemOf (ItemOf A))) (seen : Bool) (vs : Values) → Fair vs → FairItems (auditItems is seen vs)
+  unfolding auditItems
+  audit-fair [] seen vs f = right f
+  audit-fair (item w x v is ∷ rest) seen vs f =
+      pick-of FairItems _ (λ _. wrong) (λ _. pick-of FairItems _ (λ _. wrong) (λ _. pick-of FairItems _
+      (λ _. onward-fair _ _ (audited-fair (itemsIn is) false vs f) (λ us g. audit-fair rest true us g)) (λ _. wrong)))
+
+  given-fair : (is : List (ItemOf (ItemOf A))) → FairItems (auditGiven is)
+  unfolding auditGiven
+  given-fair [] = wrong
+  given-fair (i ∷ is) = audit-fair (i ∷ is) false unchanged unchanged-fair
+
+media-given-fair : (items : Items) → FairItems (mediaGiven items)
+unfolding mediaGiven
+media-given-fair none = right unchanged-fair
+media-given-fair (some is) = top-fair is false unchanged unchanged-fair
+
+none-fair : (items : Items) → FairItems (noItems items)
+unfolding noItems
+none-fair none = right unchanged-fair
+none-fair (some is) = wrong
+
 pub items-fair : (op : Op) (items : Items) → FairItems (judgeItems op items)
 unfolding judgeItems
-items-fair op none = right unchanged-fair
-items-fair op (some is) = pick-of FairItems (isSubtract op) (λ _. wrong) (λ _. top-fair is false unchanged unchanged-fair)
+items-fair Add items = media-given-fair items
+items-fair Modify items = media-given-fair items
+items-fair Subtract items = none-fair items
+items-fair Move items = media-given-fair items
+items-fair AuditValue items = given-fair (itemsIn items)

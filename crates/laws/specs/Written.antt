@@ -9,12 +9,12 @@ use native.Mathlib.Omega.{arith}
 use Rattle.base.specs.Pick.{pick}
 use Rattle.megaco.specs.Table.{lineTerminations, prop, rec, used, ctx, cell, Write, isEphemeral}
 use Rattle.megaco.specs.Running.{seen, numberOf, isChoose, target, checks, joining, leaving, placed, marking, changes, settled, Effect, concluded, effect}
-use Rattle.megaco.specs.Running.{isNull, isModify, barred, lost, anyGiven, startChecks, startWrites, Start, startedBy, started}
+use Rattle.megaco.specs.Running.{isNull, inPlace, barred, lost, anyGiven, startChecks, startWrites, Start, startedBy, started}
 use Rattle.megaco.specs.declared.Context.{Context}
 use Rattle.megaco.specs.declared.Context.the-variants.{Null, Numbered, Choose, All}
 use Rattle.megaco.specs.declared.Property.{Property}
 use Rattle.megaco.specs.declared.Op.{Op}
-use Rattle.megaco.specs.declared.Op.the-variants.{Add, Modify, Subtract, Move}
+use Rattle.megaco.specs.declared.Op.the-variants.{Add, Modify, Subtract, Move, AuditValue}
 use Rattle.megaco.specs.declared.Checked.{Checked}
 use Rattle.megaco.specs.declared.Values.{Values}
 use Rattle.megaco.specs.declared.View.{View}
@@ -40,8 +40,8 @@ module _ (lines : ℕ) (N K : ℕ → Type 0) where
   seat-home op Choose t s e h = absurd s
   seat-home op All t s e h = absurd s
 
-  -- a numbered one, but for a Modify
-  pub seat-above : (op : Op) (w : Context) (t : List ℕ) → Seat lines N K w → isModify op ≡ false → barred op w ≡ false → lost op w (seen (numberOf w) t .held) ≡ false
+  -- a numbered one, but for a Modify or an AuditValue
+  pub seat-above : (op : Op) (w : Context) (t : List ℕ) → Seat lines N K w → inPlace op ≡ false → barred op w ≡ false → lost op w (seen (numberOf w) t .held) ≡ false
       → 0 < numberOf w
   unfolding lost numberOf barred isNull
   seat-above op Null t s x b e = absurd (clash (rw x at b))
@@ -91,10 +91,11 @@ module _ (lines : ℕ) (N K : ℕ → Type 0) where
 
     -- an attempt that passes its tests, in a context that exists
     changes-all : (op : Op) (w : Context) (given i : ℕ) (vs : Values) (v : View) → v .lines ≡ lines → Seat lines N K w → N i → (0 < v .here → K (v .here))
-        → (0 < numberOf w → K (numberOf w)) → (isModify op ≡ false → 0 < numberOf w) → Passed (checks op w v) → AllOurs lines N K (changes op w given i vs v)
-    unfolding checks changes isModify
+        → (0 < numberOf w → K (numberOf w)) → (inPlace op ≡ false → 0 < numberOf w) → Passed (checks op w v) → AllOurs lines N K (changes op w given i vs v)
+    unfolding checks changes inPlace
     changes-all Add w given i vs v f s m h k z p = joining-all w given v _ s (marking-all _ i 1 _ f m (placed-all i _ _ m (target-home w v s k)))
     changes-all Modify w given i vs v f s m h k z p = also (ours-prop i _ m) nothing
+    changes-all AuditValue w given i vs v f s m h k z p = nothing
     changes-all Subtract w given i vs v f s m h k z p =
         let e : v .here ≡ numberOf w = eqb-true (v .here) (numberOf w) (not-false (eqb (v .here) (numberOf w)) (search)) in
         leaving-all v _ (h (rw e (z refl))) (marking-all _ i 0 _ f m (placed-all i 0 _ m (λ y. absurd (omega arith))))
@@ -114,7 +115,7 @@ module _ (lines : ℕ) (N K : ℕ → Type 0) where
     seat-settled All v s = absurd s
 
     pub effect-lies : (op : Op) (wild : Bool) (name : List ℕ) (given : ℕ) (vs : Values) (i : ℕ) (w : Context) (v : View) → v .lines ≡ lines → Seat lines N K w → N i
-        → (0 < v .here → K (v .here)) → (0 < numberOf w → K (numberOf w)) → (isModify op ≡ false → 0 < numberOf w)
+        → (0 < v .here → K (v .here)) → (0 < numberOf w → K (numberOf w)) → (inPlace op ≡ false → 0 < numberOf w)
         → Lies (effect op wild name given vs i w v)
     unfolding effect concluded
     effect-lies op wild name given vs i w v f s m h k z =

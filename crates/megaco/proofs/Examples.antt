@@ -1,6 +1,6 @@
 -- Document 01's fourteen examples ('Proof owed'): the six lines of the session and the eight short cases that begin with `T`, one table of
 -- rows, proved by one computed test over the whole call, bytes to bytes and table to table, for any reply buffer that is long enough. Four rows more
--- stand on one, eight and sixteen lines (document 02, CR 10).
+-- stand on one, eight and sixteen lines (document 02, CR 10), and eight are audits (CR 1).
 use Prim.Native.Nat.{ℕ, _≤_}
 use mathlib.Core.Path.{_≡_, refl, sym, ap, _∙_}
 use mathlib.Core.Bool.{Bool, true, false, not, _&&_, _||_}
@@ -51,6 +51,10 @@ alone = set (set (set moved 248 0) 624 0) 752 0
 abbrev pub ended : List ℕ
 ended = set alone 316 3
 
+-- L/1/5 out of service, and R/1 with it, in test and looped back
+abbrev pub tested : List ℕ
+tested = set (set (set (set ended 316 11) 248 2) 560 20) 752 1
+
 -- ---- the rows
 
 unfoldable pub examples : List Row
@@ -87,6 +91,25 @@ shelves =
     ∷ row 1 (replicate (words 1) 0) (text "!/1 [10.0.0.1] T=1{C=${A=L/1/31,A=$,A=L/2/1}}") (text "!/1 [10.0.0.9] P=1{C=1{A=L/1/31,A=R/1,A=L/2/1{ER=430{}}}}") onOne
     ∷ row 16 (replicate (words 16) 0) (text "!/1 [10.0.0.1] T=1{C=${A=L/16/31,A=$,A=L/17/1}}") (text "!/1 [10.0.0.9] P=1{C=1{A=L/16/31,A=R/1,A=L/17/1{ER=430{}}}}") onSixteen
     ∷ row 16 onSixteen (text "!/1 [10.0.0.1] T=1{C=1{O-MF=L/16/*,O-MF=L/17/*,MF=L/016/31}}") (text "!/1 [10.0.0.9] P=1{C=1{MF=L/16/31,MF=L/17/*{ER=431{}},MF=L/016/31{ER=430{}}}}") onSixteen
+    ∷ []
+
+-- ---- audits (document 02, CR 1): values held, items in their order, ROOT, names and places; the table stays
+
+unfoldable pub audited : List Row
+audited =
+    row 8 fresh (text "!/1 [10.0.0.1] T=1{C=-{AV=L/1/1{AT{M}}}}") (text "!/1 [10.0.0.9] P=1{C=-{AV=L/1/1{M{TS{SI=IV},O{MO=IN}}}}}") fresh
+    ∷ row 8 tested (text "!/1 [10.0.0.1] T=1{C=2{AuditValue=l/1/5{Audit{Media}},AV=*{AT{M}}}}")
+    (text "!/1 [10.0.0.9] P=1{C=2{AV=L/1/5{M{TS{SI=OS},O{MO=SR}}},AV=L/1/5{M{TS{SI=OS},O{MO=SR}}},AV=R/1{M{TS{SI=TE},O{MO=LB}}}}}") tested
+    ∷ row 8 ended (text "!/1 [10.0.0.1] T=1{C=2{O-AV=L/1/5{M},O-AV=L/1/5{M,AT{M}},O-AV=L/1/5{AT{M},AT},O-AV=L/1/5{AT{M,M=1}},O-AV=L/1/5{AT},O-AV=L/1/5{AT=1{M}},O-AV=L/1/5}}")
+    (text "!/1 [10.0.0.9] P=1{C=2{AV=L/1/5{ER=447{}},AV=L/1/5{ER=447{}},AV=L/1/5{ER=448{}},AV=L/1/5{ER=448{}},AV=L/1/5{ER=442{}},AV=L/1/5{ER=442{}},AV=L/1/5{ER=442{}}}}") ended
+    ∷ row 8 ended (text "!/1 [10.0.0.1] T=1{C=2{O-AV=L/1/5{AT{M{O}}},O-AV=L/1/5{AT{M=1}},O-AV=L/1/5{AT{TS,M=1}},O-AV=L/1/5{AT{M/x}},O-AV=foo,O-MF=L/1/5{AT{M}},S=L/1/5{AT{M}}}}")
+    (text "!/1 [10.0.0.9] P=1{C=2{AV=L/1/5{ER=442{}},AV=L/1/5{ER=442{}},AV=L/1/5{ER=444{}},AV=L/1/5{ER=444{}},AV=foo{ER=442{}},MF=L/1/5{ER=444{}},S=L/1/5{ER=447{}}}}") ended
+    ∷ row 8 ended (text "!/1 [10.0.0.1] T=1{C=-{O-AV=ROOT{AT{M}},O-AV=root,O-AV=${AT{M}},O-AV=R/*{AT{M}},O-AV=R/1{AT{M}},O-AV=L/1/5{AT{M}}},C=2{O-AV=ROOT{AT{M}}},C=3{O-AV=*{AT{M}}},C=${AV=L/1/1{AT{M}}}}")
+    (text "!/1 [10.0.0.9] P=1{C=-{AV=ROOT{ER=447{}},AV=root{ER=442{}},AV=${ER=410{}},AV=R/*{ER=431{}},AV=R/1{ER=430{}},AV=L/1/5{ER=435{}}},C=2{AV=ROOT{ER=435{}}},C=3{AV=*{ER=411{}}},C=${AV=L/1/1{ER=411{}}}}") ended
+    ∷ row 8 ended (text "!/1 [10.0.0.1] T=1{C=-{O-AV=ROOT{AT{}},AV=L/1/1{AT{ }}},C=2{O-AV=ROOT{AT{}},O-AV=*{Audit{}},O-AV=L/1/5{AT=1{}},O-AV=L/1/5{AT{},AT{}},O-MF=L/1/5{AT{}},O-S=L/1/5{AT{}},AV=L/1/1{AT{}}}}")
+    (text "!/1 [10.0.0.9] P=1{C=-{AV=ROOT,AV=L/1/1},C=2{AV=ROOT{ER=435{}},AV=L/1/5,AV=L/1/5{ER=442{}},AV=L/1/5{ER=448{}},MF=L/1/5{ER=444{}},S=L/1/5{ER=447{}},AV=L/1/1{ER=435{}}}}") ended
+    ∷ row 8 fresh (text "!/1 [10.0.0.1] T=1{C=-{AV=*{AT{}}}}") (text "!/1 [10.0.0.9] P=1{ER=533{}}") fresh
+    ∷ row 8 fresh (text "!/1 [10.0.0.1] T=1{C=-{O-W-AV=*{AT{M}}}}") (text "!/1 [10.0.0.9] P=1{C=-{ER=443{}}}") fresh
     ∷ []
 
 -- ---- the test of a row, and what it tells
@@ -177,3 +200,12 @@ shelves-hold = rows-answer shelves shelves-compute
 -- "Word 4 is then 2, word 316 is 3, word 625 is 1, all others 0"
 pub session-ends : ended ≡ set (set (set (replicate 754 0) 4 2) 316 3) 625 1
 session-ends = refl
+
+-- audits
+audited-compute : all-hold audited ≡ true
+unfolding audited all-hold holds admitted fitting fits computed opened
+audited-compute = refl
+
+pub audited-hold : Hold audited
+unfolding audited
+audited-hold = rows-answer audited audited-compute

@@ -9,7 +9,7 @@ use Rattle.base.specs.Lists.{same}
 use Rattle.base.specs.Bytes.{text}
 use Rattle.megaco.specs.Bytes.{capitals}
 use Rattle.megaco.specs.declared.Token.{Token}
-use Rattle.megaco.specs.declared.Token.the-variants.{AddToken, CtxToken, EmergencyToken, ErrorToken, InactiveToken, InSvcToken, LocalControlToken, LoopbackToken, MediaToken, MegacopToken, ModeToken, ModifyToken, MoveToken, OutOfSvcToken, PriorityToken, RecvonlyToken, ReplyToken, SendonlyToken, SendrecvToken, ServiceStatesToken, SubtractToken, TerminationStateToken, TestToken, TransToken}
+use Rattle.megaco.specs.declared.Token.the-variants.{AddToken, AuditToken, AuditValueToken, CtxToken, EmergencyToken, ErrorToken, InactiveToken, InSvcToken, LocalControlToken, LoopbackToken, MediaToken, MegacopToken, ModeToken, ModifyToken, MoveToken, OutOfSvcToken, PriorityToken, RecvonlyToken, ReplyToken, SendonlyToken, SendrecvToken, ServiceStatesToken, SubtractToken, TerminationStateToken, TestToken, TransToken}
 
 pub data Row : Type 0 where
   row : (meaning : Token) (long short : List ℕ) → Row
@@ -18,6 +18,8 @@ pub data Row : Type 0 where
 abbrev pub page : List Row
 page =
     row AddToken (text "ADD") (text "A")
+    ∷ row AuditToken (text "AUDIT") (text "AT")
+    ∷ row AuditValueToken (text "AUDITVALUE") (text "AV")
     ∷ row CtxToken (text "CONTEXT") (text "C")
     ∷ row EmergencyToken (text "EMERGENCY") (text "EG")
     ∷ row ErrorToken (text "ERROR") (text "ER")
@@ -71,6 +73,8 @@ numberOf SubtractToken = 20
 numberOf TerminationStateToken = 21
 numberOf TestToken = 22
 numberOf TransToken = 23
+numberOf AuditToken = 24
+numberOf AuditValueToken = 25
 
 unfoldable pub isToken : Token → Token → Bool
 isToken j k = eqb (numberOf j) (numberOf k)

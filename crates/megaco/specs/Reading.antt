@@ -10,8 +10,9 @@ use Rattle.base.specs.Lists.{isAt, part}
 use Rattle.megaco.specs.Bytes.{equal, comma, leftBrace, rightBrace, slash, quote, dash, dollar, star, capital}
 use Rattle.megaco.specs.White.{after, whiteAt, sepAt}
 use Rattle.megaco.specs.Keywords.{spells}
+use Rattle.megaco.specs.Items.{called}
 use Rattle.megaco.specs.declared.Token.{Token}
-use Rattle.megaco.specs.declared.Token.the-variants.{MegacopToken, TransToken, CtxToken, PriorityToken, EmergencyToken}
+use Rattle.megaco.specs.declared.Token.the-variants.{AuditToken, MegacopToken, TransToken, CtxToken, PriorityToken, EmergencyToken}
 use Rattle.megaco.specs.Tokens.{markAt, signAt, rowAt, wordAt, keywordAt, terminationAt, numberAt, valueAt, mIdAt}
 use Rattle.megaco.specs.Tree.{Value, plain, quoted, ItemOf, item, Item, Command, command, Action, action, Transaction, transaction, Message, wellFormed, fault400, fault403, fault406}
 use Rattle.megaco.specs.declared.Parsed.{Parsed}
@@ -92,17 +93,26 @@ bracesR inner s at =
     let given = skip (signAt leftBrace s at) (λ p. bind (inner p) (λ is q. skip (signAt rightBrace s q) (got (some is)))) in
     pick (isAt s at leftBrace) given (got none at)
 
-unfoldable pub itemR : {A : Type 0} → (ℕ → Read (List A)) → List ℕ → ℕ → Read (ItemOf A)
-itemR inner s at =
+-- "Audit/AT may have empty braces, at level 1 of any command, document 01's one exception": at level 1 seven levels are left
+unfoldable pub mayBeEmpty : ℕ → List ℕ → Option (List ℕ) → Bool
+mayBeEmpty left w x = eqb left 7 && called AuditToken w x
+
+-- what stands in braces: items, or nothing where they may be empty
+unfoldable pub orNoneR : {A : Type 0} → Bool → (ℕ → Read (List A)) → List ℕ → ℕ → Read (List A)
+orNoneR empty inner s at = let items = inner at in pick (empty && isAt s at rightBrace) (got [] at) items
+
+-- an item, where so many more levels are left
+unfoldable pub itemR : {A : Type 0} → ℕ → (ℕ → Read (List A)) → List ℕ → ℕ → Read (ItemOf A)
+itemR left inner s at =
     bind (wordR s at) (λ w p.
     bind (spaced s (secondR s p)) (λ x q.
     bind (valueR s q) (λ v r.
-    bind (bracesR inner s r) (λ is e. got (item w x v is) e))))
+    bind (bracesR (orNoneR (mayBeEmpty left w x) inner s) s r) (λ is e. got (item w x v is) e))))
 
 -- "Items are one or more, joined by commas", of k levels
 unfoldable pub itemsR : (k : ℕ) → List ℕ → ℕ → Read (List (Item k))
 itemsR zero s at = fault
-itemsR (suc k) s at = listR (itemR (itemsR k s) s) s (unlimited s) at
+itemsR (suc k) s at = listR (itemR k (itemsR k s) s) s (unlimited s) at
 
 -- ---- commands
 -- `O-` or `W-` stands here, in either letter case

@@ -8,19 +8,19 @@ use lib.Dec.{ltb, leb, eqb}
 use Rattle.base.specs.Pick.{pick}
 use Rattle.base.specs.Bytes.{text, _then_}
 use Rattle.megaco.specs.Keywords.{spells}
-use Rattle.megaco.specs.declared.Token.the-variants.{AddToken, ModifyToken, SubtractToken, MoveToken}
+use Rattle.megaco.specs.declared.Token.the-variants.{AddToken, ModifyToken, SubtractToken, MoveToken, AuditValueToken}
 use Rattle.megaco.specs.Tree.{Items, Command, command, Action, action, Transaction, transaction, Message, wellFormed, fault400, fault403, fault406}
-use Rattle.megaco.specs.Table.{prop, rec, used, ctx, cell, Write, write, get, most, lineTerminations, fitted, contextWords, isEphemeral, exists, known, members, freeContext, freeEphemeral, stateOf, priorityOf, emergencyOf}
+use Rattle.megaco.specs.Table.{prop, rec, used, ctx, cell, Write, write, get, most, lineTerminations, fitted, contextWords, isEphemeral, exists, known, members, freeContext, freeEphemeral, modeOf, stateOf, priorityOf, emergencyOf}
 use Rattle.megaco.specs.State.{State, wrote}
 use Rattle.megaco.specs.Names.{inRange, nameOf, nameText}
-use Rattle.megaco.specs.Items.{update, isSubtract, judgeItems, given?}
-use Rattle.megaco.specs.Reply.{nothing, Report, done, refused, failed, standing, Acted, errorText, replyText, transactionText}
+use Rattle.megaco.specs.Items.{update, judgeItems, given?}
+use Rattle.megaco.specs.Reply.{Detail, nothing, media, Report, done, refused, failed, standing, Acted, errorText, replyText, transactionText}
 use Rattle.megaco.specs.declared.Context.{Context}
 use Rattle.megaco.specs.declared.Context.the-variants.{Null, Numbered, Choose, All}
 use Rattle.megaco.specs.declared.Property.{Property}
 use Rattle.megaco.specs.declared.Property.the-variants.{Priority, Emergency}
 use Rattle.megaco.specs.declared.Op.{Op}
-use Rattle.megaco.specs.declared.Op.the-variants.{Add, Modify, Subtract, Move}
+use Rattle.megaco.specs.declared.Op.the-variants.{Add, Modify, Subtract, Move, AuditValue}
 use Rattle.megaco.specs.declared.Range.{Range}
 use Rattle.megaco.specs.declared.Name.{Name}
 use Rattle.megaco.specs.declared.Name.the-variants.{Termination, Root, Chosen, Unchosen, Wildcard, Unmatched, Unknown}
@@ -72,13 +72,14 @@ unfoldable pub roomChecks : Context → View → List Check
 roomChecks at v = check (isChoose at && eqb (v .free) 0) 412 ∷ check (leb most (v .there .members)) 434 ∷ []
 
 -- "Add: 433 if not in null. Modify, Subtract: 435 if not in the action's context. Move: 435 from null, 433 if already in the target"
--- and document 02, request 2, by clause 7.2.4: "503 (house), after Move's 435 and 433, before 412", where "the state held before the command's own
+-- and document 02, of AuditValue: "Tests and wildcards are as for Modify"; of Move, request 2, by clause 7.2.4: "503 (house), after Move's 435 and 433, before 412", where "the state held before the command's own
 -- items" is 1, OutOfService; "Test state may still move"
 unfoldable pub checks : Op → Context → View → List Check
 checks Add at v = check (not (eqb (v .here) 0)) 433 ∷ roomChecks at v
 checks Modify at v = check (not (eqb (v .here) (numberOf at))) 435 ∷ []
 checks Subtract at v = check (not (eqb (v .here) (numberOf at))) 435 ∷ []
 checks Move at v = check (eqb (v .here) 0) 435 ∷ check (eqb (v .here) (numberOf at)) 433 ∷ check (eqb (stateOf (v .word)) 1) 503 ∷ roomChecks at v
+checks AuditValue at v = check (not (eqb (v .here) (numberOf at))) 435 ∷ []
 
 -- the context that an attempt joins: `$` comes to be, with the record given
 unfoldable pub joining : Context → ℕ → View → List Write → List Write
@@ -103,12 +104,13 @@ added n i word = pick (isEphemeral n i) 0 word
 unfoldable pub subtracted : ℕ → ℕ → ℕ → ℕ
 subtracted n i word = pick (isEphemeral n i) 0 (8 * stateOf word)
 
--- "Add, Modify and Move then set the values given"
+-- "Add, Modify and Move then set the values given"; of AuditValue, document 02: "The table stays"
 unfoldable pub changes : Op → Context → ℕ → ℕ → Values → View → List Write
 changes Add at given i vs v = joining at given v (marking (v .lines) i 1 (placed i (target at v) (update vs (added (v .lines) i (v .word)))))
 changes Modify at given i vs v = write (cell (prop i)) (update vs (v .word)) ∷ []
 changes Subtract at given i vs v = leaving v (marking (v .lines) i 0 (placed i 0 (subtracted (v .lines) i (v .word))))
 changes Move at given i vs v = leaving v (joining at given v (placed i (target at v) (update vs (v .word))))
+changes AuditValue at given i vs v = []
 
 -- `$` "becomes .. the lowest number absent before that attempt, and stays that number for the rest of the action"
 unfoldable pub settled : Context → View → Context
@@ -121,10 +123,14 @@ pub record Effect : Type 0 where
   pub at : Context
   pub good : Bool
 
+-- what a success tells: where the items audit them, "the values held"
+unfoldable pub told : Bool → ℕ → Detail
+told audited word = pick audited (media (stateOf word) (modeOf word)) nothing
+
 -- "A success, and an attempt of a wildcard, bears the full name with capital letters; other failures the bytes received"
 unfoldable pub concluded : Op → Bool → List ℕ → ℕ → Values → ℕ → Context → View → Checked → Effect
 concluded op wild name given vs i at v Passes =
-    record { writes = changes op at given i vs v; report = done op (nameText (v .lines) i) nothing; at = settled at v; good = true }
+    record { writes = changes op at given i vs v; report = done op (nameText (v .lines) i) (told (vs .audited) (v .word)); at = settled at v; good = true }
 concluded op wild name given vs i at v (Fails code) =
     record { writes = []; report = refused op (pick wild (nameText (v .lines) i) name) code; at = at; good = false }
 
@@ -160,7 +166,7 @@ actionError code at st = outcome st (failed code ∷ []) at false
 
 -- "for Add, those in null; for Modify and Subtract, those in the action's context; for Move, those in a non-null context other than the target"
 unfoldable pub wanted : Op → ℕ → ℕ → Bool
-wanted op c word = elim op [ Add ↦ eqb word 0 | Modify ↦ eqb word c | Subtract ↦ eqb word c | Move ↦ not (eqb word 0) && not (eqb word c) ]
+wanted op c word = elim op [ Add ↦ eqb word 0 | Modify ↦ eqb word c | Subtract ↦ eqb word c | Move ↦ not (eqb word 0) && not (eqb word c) | AuditValue ↦ eqb word c ]
 
 -- "A wildcard matches existing terminations only", "tried in ascending number": from number i on, with the rest of the context words
 unfoldable pub matchesFrom : ℕ → Op → ℕ → Range → ℕ → List ℕ → List ℕ
@@ -178,17 +184,25 @@ pub data Aim : Type 0 where
   meets : (wild : Bool) → List ℕ → Aim
 
 unfoldable pub isAdd : Op → Bool
-isAdd = elim [ Add ↦ true | Modify ↦ false | Subtract ↦ false | Move ↦ false ]
+isAdd = elim [ Add ↦ true | Modify ↦ false | Subtract ↦ false | Move ↦ false | AuditValue ↦ false ]
 
-unfoldable pub isModify : Op → Bool
-isModify = elim [ Add ↦ false | Modify ↦ true | Subtract ↦ false | Move ↦ false ]
+unfoldable pub isSubtract : Op → Bool
+isSubtract = elim [ Add ↦ false | Modify ↦ false | Subtract ↦ true | Move ↦ false | AuditValue ↦ false ]
+
+-- the commands that leave a termination where it stands: Modify, and AuditValue, its tests being "as for Modify"
+unfoldable pub inPlace : Op → Bool
+inPlace = elim [ Add ↦ false | Modify ↦ true | Subtract ↦ false | Move ↦ false | AuditValue ↦ true ]
 
 unfoldable pub isNull : Context → Bool
 isNull = elim [ Null ↦ true | Numbered c ↦ false | Choose ↦ false | All ↦ false ]
 
+-- what ROOT may not have: any item; of AuditValue Media alone ("ROOT in `-` may have empty braces", "447 for ROOT with Media")
+unfoldable pub notForRoot : Op → Bool → Values → Bool
+notForRoot op items vs = elim op [ Add ↦ items | Modify ↦ items | Subtract ↦ items | Move ↦ items | AuditValue ↦ vs .audited ]
+
 -- "`ROOT`: 410 unless Modify; 435 outside `-`; 447 with items"
 unfoldable pub aimRoot : Op → Context → Bool → Aim
-aimRoot op at items = pick (not (isModify op)) (misses 410) (pick (not (isNull at)) (misses 435) (pick items (misses 447) gateway))
+aimRoot op at items = pick (not (inPlace op)) (misses 410) (pick (not (isNull at)) (misses 435) (pick items (misses 447) gateway))
 
 -- "choose the lowest absent ephemeral, 432 if none"
 unfoldable pub aimFree : ℕ → ℕ → Aim
@@ -222,20 +236,21 @@ opOf false word =
     pick (spells AddToken word) (some Add)
     (pick (spells ModifyToken word) (some Modify)
     (pick (spells SubtractToken word) (some Subtract)
-    (pick (spells MoveToken word) (some Move) none)))
+    (pick (spells MoveToken word) (some Move)
+    (pick (spells AuditValueToken word) (some AuditValue) none))))
 
 -- "421 Add, Subtract or Move in `-`"
 unfoldable pub barred : Op → Context → Bool
-barred op at = isNull at && not (isModify op)
+barred op at = isNull at && not (inPlace op)
 
 -- "411: the context does not exist now .., or `$` not yet a number for Modify and Subtract"; no command comes to run in `*`
 unfoldable pub lost : Op → Context → ℕ → Bool
-lost op at held = elim at [ Null ↦ false | Numbered c ↦ eqb held 0 | Choose ↦ isModify op || isSubtract op | All ↦ true ]
+lost op at held = elim at [ Null ↦ false | Numbered c ↦ eqb held 0 | Choose ↦ inPlace op || isSubtract op | All ↦ true ]
 
 -- test 4 after test 3
 unfoldable pub named : Op → List ℕ → ℕ → Bool → Judged → Context → State → Outcome
 named op name given items (Wrong code) at st = missed op name code at st
-named op name given items (Right vs) at st = aimed op name given vs (aim op at items (nameOf (fitted (st .table)) name) (st .table)) at st
+named op name given items (Right vs) at st = aimed op name given vs (aim op at (notForRoot op items vs) (nameOf (fitted (st .table)) name) (st .table)) at st
 
 -- tests 2 to 6
 unfoldable pub tested : Op → List ℕ → Items → ℕ → Context → State → Outcome

@@ -24,6 +24,8 @@ pub enum Class {
 // Keywords, under Annex B.2's names and in its order.
 pub enum Token {
     AddToken,
+    AuditToken,
+    AuditValueToken,
     CtxToken,
     EmergencyToken,
     ErrorToken,
@@ -69,6 +71,7 @@ pub enum Op {
     Modify,
     Subtract,
     Move,
+    AuditValue,
 }
 
 // What a wildcard ranges over: `*`, `L/*`, `R/*`, `L/l/*`.
@@ -97,10 +100,11 @@ pub enum Given {
     To(u32),
 }
 
-// The mode and the state that a command's items give.
+// What a command's items ask: the mode and the state that they give, and whether they audit both.
 pub struct Values {
     pub mode: Given,
     pub state: Given,
+    pub audited: bool,
 }
 
 // A command's items: the first code in reading order, or the values given.

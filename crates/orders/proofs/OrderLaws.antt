@@ -9,7 +9,7 @@ use Rattle.base.specs.Pick.{pick}
 use Rattle.megaco.specs.Table.{fitted, known, rec, cell, get, contexts}
 use Rattle.megaco.specs.State.{State, state}
 use Rattle.megaco.specs.Names.{nameOf}
-use Rattle.megaco.specs.Running.{seen, numberOf, opOf, missed, aim, aimed, named}
+use Rattle.megaco.specs.Running.{seen, numberOf, opOf, missed, aim, aimed, notForRoot, named}
 use Rattle.megaco.specs.Keywords.{isToken, meaningOf}
 use Rattle.megaco.proofs.Meanings.{spells-means, spells-none}
 use Rattle.text.proofs.RowLaws.{told-some, told-none}
@@ -17,10 +17,10 @@ use Rattle.text.specs.Page.{told}
 use Rattle.text.specs.declared.keywords.Meaning.{Meaning}
 use Rattle.text.specs.declared.keywords.Meaning.the-variants.{Of, Nothing}
 use Rattle.megaco.specs.declared.Token.{Token}
-use Rattle.megaco.specs.declared.Token.the-variants.{AddToken, ModifyToken, SubtractToken, MoveToken}
+use Rattle.megaco.specs.declared.Token.the-variants.{AddToken, ModifyToken, SubtractToken, MoveToken, AuditValueToken}
 use Rattle.megaco.specs.declared.Context.{Context}
 use Rattle.megaco.specs.declared.Op.{Op}
-use Rattle.megaco.specs.declared.Op.the-variants.{Add, Modify, Subtract, Move}
+use Rattle.megaco.specs.declared.Op.the-variants.{Add, Modify, Subtract, Move, AuditValue}
 use Rattle.megaco.specs.declared.Judged.{Judged}
 use Rattle.megaco.specs.declared.Judged.the-variants.{Wrong, Right}
 use Rattle.megaco.specs.declared.Values.{Values}
@@ -42,29 +42,32 @@ pub op-wild : (wild : Bool) (w : List ℕ) → wild ≡ true → foundOf Unbuilt
 unfolding opOf foundOf
 op-wild wild w e = rw e
 
-op-any : (k : Token) → foundOf (opBy k) ≡ pick (isToken AddToken k) (some Add) (pick (isToken ModifyToken k) (some Modify) (pick (isToken SubtractToken k) (some Subtract) (pick (isToken MoveToken k) (some Move) none)))
+op-any : (k : Token)
+    → foundOf (opBy k) ≡ pick (isToken AddToken k) (some Add) (pick (isToken ModifyToken k) (some Modify) (pick (isToken SubtractToken k) (some Subtract) (pick (isToken MoveToken k) (some Move) (pick (isToken AuditValueToken k) (some AuditValue) none))))
 unfolding foundOf opBy pick
-op-any k = by (isToken AddToken k) (isToken ModifyToken k) (isToken SubtractToken k) (isToken MoveToken k)
+op-any k = by (isToken AddToken k) (isToken ModifyToken k) (isToken SubtractToken k) (isToken MoveToken k) (isToken AuditValueToken k)
   where
-    by : (a m s v : Bool) → foundOf (pick a (Built Add) (pick m (Built Modify) (pick s (Built Subtract) (pick v (Built Move) Unbuilt)))) ≡ pick a (some Add) (pick m (some Modify) (pick s (some Subtract) (pick v (some Move) none)))
-    by true m s v = refl
-    by false true s v = refl
-    by false false true v = refl
-    by false false false true = refl
-    by false false false false = refl
+    by : (a m s v u : Bool)
+        → foundOf (pick a (Built Add) (pick m (Built Modify) (pick s (Built Subtract) (pick v (Built Move) (pick u (Built AuditValue) Unbuilt))))) ≡ pick a (some Add) (pick m (some Modify) (pick s (some Subtract) (pick v (some Move) (pick u (some AuditValue) none))))
+    by true m s v u = refl
+    by false true s v u = refl
+    by false false true v u = refl
+    by false false false true u = refl
+    by false false false false true = refl
+    by false false false false false = refl
 
 module _ (wild : Bool) (w : List ℕ) (m : Meaning) (e : wild ≡ false) (h : told m ≡ meaningOf w) where
   pub op-of-token : (k : Token) (r : Found) → m ≡ Of k → r ≡ opBy k → foundOf r ≡ opOf wild w
   unfolding opOf
   op-of-token k r g q =
       let z : meaningOf w ≡ some k = told-some w m k h g in
-      rw (e, q, spells-means AddToken k w z, spells-means ModifyToken k w z, spells-means SubtractToken k w z, spells-means MoveToken k w z) (op-any k)
+      rw (e, q, spells-means AddToken k w z, spells-means ModifyToken k w z, spells-means SubtractToken k w z, spells-means MoveToken k w z, spells-means AuditValueToken k w z) (op-any k)
 
   pub op-of-none : m ≡ Nothing → foundOf Unbuilt ≡ opOf wild w
   unfolding opOf foundOf pick
   op-of-none g =
       let z : meaningOf w ≡ none = told-none w m h g in
-      rw (e, spells-none AddToken w z, spells-none ModifyToken w z, spells-none SubtractToken w z, spells-none MoveToken w z)
+      rw (e, spells-none AddToken w z, spells-none ModifyToken w z, spells-none SubtractToken w z, spells-none MoveToken w z, spells-none AuditValueToken w z)
 
 -- ---- the record of the action's context
 
@@ -89,12 +92,12 @@ module _ (at : Context) (t : List ℕ) (n : ℕ) (e : n ≡ numberOf at) where
 -- ---- a command's tests
 
 module _ (op : Op) (name : List ℕ) (items : Bool) (given : ℕ) (at : Context) (first : Bool) (t o : List ℕ) (p : ℕ) (t′ : State) (o′ : List ℕ) where
-  pub named-aims : (vs : Values) (k : ℕ) (n : Name) (x : Target) (w : Went) → k ≡ fitted t → n ≡ nameOf k name → x ≡ targetOf op at items n t
+  pub named-aims : (vs : Values) (k : ℕ) (n : Name) (b : Bool) (x : Target) (w : Went) → k ≡ fitted t → n ≡ nameOf k name → b ≡ notForRoot op items vs → x ≡ targetOf op at b n t
       → Did (aimed op name given vs (aimOf x op at t) at (state t)) first o p t′ o′ w → Did (named op name given items (Right vs) at (state t)) first o p t′ o′ w
   unfolding named
-  named-aims vs k n x w l e f d =
+  named-aims vs k n b x w l e g f d =
       subst (λ (a : Rattle.megaco.specs.Running.Aim). Did (aimed op name given vs a at (state t)) first o p t′ o′ w)
-      (ap (λ (y : Target). aimOf y op at t) f ∙ target-is op at t items n ∙ ap (λ (m : Name). aim op at items m t) (e ∙ ap (λ (j : ℕ). nameOf j name) l)) d
+      (ap (λ (y : Target). aimOf y op at t) f ∙ target-is op at t b n ∙ ap (λ (m : Name). aim op at b m t) (e ∙ ap (λ (j : ℕ). nameOf j name) l) ∙ ap (λ (z : Bool). aim op at z (nameOf (fitted t) name) t) g) d
 
   pub judged-right : (j : Judged) (vs : Values) (w : Went) → j ≡ Right vs → Did (named op name given items (Right vs) at (state t)) first o p t′ o′ w
       → Did (named op name given items j at (state t)) first o p t′ o′ w

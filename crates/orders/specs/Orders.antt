@@ -7,9 +7,9 @@ use Rattle.megaco.specs.Keywords.{isToken}
 use Rattle.megaco.specs.Running.{seen, numberOf}
 use Rattle.megaco.specs.declared.Context.{Context}
 use Rattle.megaco.specs.declared.Op.{Op}
-use Rattle.megaco.specs.declared.Op.the-variants.{Add, Modify, Subtract, Move}
+use Rattle.megaco.specs.declared.Op.the-variants.{Add, Modify, Subtract, Move, AuditValue}
 use Rattle.megaco.specs.declared.Token.{Token}
-use Rattle.megaco.specs.declared.Token.the-variants.{AddToken, ModifyToken, SubtractToken, MoveToken}
+use Rattle.megaco.specs.declared.Token.the-variants.{AddToken, ModifyToken, SubtractToken, MoveToken, AuditValueToken}
 use Rattle.megaco.specs.declared.Judged.{Judged}
 use Rattle.megaco.specs.declared.Judged.the-variants.{Wrong, Right}
 use Rattle.attempt.specs.Judging.{Fair}
@@ -27,7 +27,8 @@ opBy k =
     pick (isToken AddToken k) (Built Add)
     (pick (isToken ModifyToken k) (Built Modify)
     (pick (isToken SubtractToken k) (Built Subtract)
-    (pick (isToken MoveToken k) (Built Move) Unbuilt)))
+    (pick (isToken MoveToken k) (Built Move)
+    (pick (isToken AuditValueToken k) (Built AuditValue) Unbuilt))))
 
 -- the record of an action's context, 0 if it does not exist
 unfoldable pub heldAt : Context → List ℕ → ℕ

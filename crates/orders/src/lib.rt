@@ -2,7 +2,7 @@
 ghost use mathlib.Core.Path.{_≡_};
 ghost use Rattle.megaco.specs.Table.{Sized};
 ghost use Rattle.megaco.specs.State.{state};
-ghost use Rattle.megaco.specs.Running.{opOf, lost, barred, named};
+ghost use Rattle.megaco.specs.Running.{opOf, lost, barred, notForRoot, named};
 ghost use Rattle.megaco.specs.declared.Judged.the-variants.{Right};
 ghost use Rattle.attempt.specs.Judging.{Fair};
 ghost use Rattle.tries.specs.Contract.{Did};
@@ -31,6 +31,7 @@ fn op_by(k: Token) -> Found
         Token::ModifyToken => Found::Built(Op::Modify),
         Token::SubtractToken => Found::Built(Op::Subtract),
         Token::MoveToken => Found::Built(Op::Move),
+        Token::AuditValueToken => Found::Built(Op::AuditValue),
         _ => Found::Unbuilt,
     }
 }
@@ -56,7 +57,7 @@ pub fn is_lost(op: Op, at: Context, held: u32) -> bool
     match at {
         Context::Null => false,
         Context::Numbered(_) => held == 0,
-        Context::Choose => aims::is_modify(op) | aims::is_subtract(op),
+        Context::Choose => aims::in_place(op) | aims::is_subtract(op),
         Context::All => true,
     }
 }
@@ -65,7 +66,7 @@ pub fn is_lost(op: Op, at: Context, held: u32) -> bool
 pub fn is_barred(op: Op, at: Context) -> bool
     ensures { λ r. ⌜ r ≡ barred op at ⌝ }
 {
-    aims::is_null(at) & !aims::is_modify(op)
+    aims::is_null(at) & !aims::in_place(op)
 }
 
 // The record of the action's context, 0 if it does not exist.
@@ -77,6 +78,19 @@ pub fn held_at(table: &[u32], at: Context) -> u32
         return table::record_of(table, c);
     }
     0
+}
+
+// What ROOT may not have: any item; of AuditValue Media alone.
+fn not_for_root(op: Op, items: bool, values: Values) -> bool
+    ensures { λ r. ⌜ r ≡ notForRoot op items values ⌝ }
+{
+    match op {
+        Op::Add => items,
+        Op::Modify => items,
+        Op::Subtract => items,
+        Op::Move => items,
+        Op::AuditValue => values.audited,
+    }
 }
 
 // Tests 4 to 6.
@@ -94,7 +108,8 @@ fn run_named(
 {
     let n = names::name_of(table::lines(table), name);
     let at = turn.at;
-    let x = aims::target_of(op, at, items, n, table);
+    let b = not_for_root(op, items, values);
+    let x = aims::target_of(op, at, b, n, table);
     tries::run_target(op, name, values, x, turn, table, out)
 }
 

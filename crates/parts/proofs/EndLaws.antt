@@ -64,11 +64,11 @@ pub items-end-none : (s : List ℕ) (k at : ℕ) → k ≡ 0 → at ≡ itemsAt 
 unfolding itemsAt
 items-end-none s k at z = rw z
 
-pub items-end-start : (s : List ℕ) (k at : ℕ) → (k ≡ 0 → ⊥) → itemsAt k s at .end ≡ listEnd (λ j. itemAt (itemsAt (k - 1) s) s j .end) s (length s + 1 - 0) at
+pub items-end-start : (s : List ℕ) (k at : ℕ) → (k ≡ 0 → ⊥) → itemsAt k s at .end ≡ listEnd (λ j. itemAt (k - 1) (itemsAt (k - 1) s) s j .end) s (length s + 1 - 0) at
 unfolding itemsAt unlimited
 items-end-start s k at h = let z : k ≡ suc (k - 1) = omega arith in by k (k - 1) z
   where
-    by : (a b : ℕ) → a ≡ suc b → itemsAt a s at .end ≡ listEnd (λ j. itemAt (itemsAt b s) s j .end) s (length s + 1 - 0) at
+    by : (a b : ℕ) → a ≡ suc b → itemsAt a s at .end ≡ listEnd (λ j. itemAt b (itemsAt b s) s j .end) s (length s + 1 - 0) at
     by a b e = let z : length s + 1 - 0 ≡ length s + 1 = omega arith in rw (e, z)
 
 -- levels left fall

@@ -1,7 +1,7 @@
 -- The parts that are found are those of the tree told by position.
 use Prim.Native.Nat.{ℕ, _+_}
 use mathlib.Core.Path.{_≡_, sym, ap, _∙_}
-use mathlib.Core.Bool.{Bool, true, false}
+use mathlib.Core.Bool.{Bool, true, false, _&&_}
 use mathlib.Core.List.{List}
 use native.Mathlib.Omega.{arith}
 use lib.Dec.{ltb}
@@ -11,12 +11,12 @@ use Rattle.base.specs.Lists.{isAt}
 use Rattle.megaco.specs.Bytes.{equal, leftBrace, rightBrace, slash, quote}
 use Rattle.megaco.specs.Tokens.{rowAt, valueAt, terminationAt}
 use Rattle.megaco.specs.Tree.{plain, quoted}
-use Rattle.megaco.specs.Reading.{Read, valueOf, prefixAt, prefixEnd}
+use Rattle.megaco.specs.Reading.{Read, valueOf, mayBeEmpty, prefixAt, prefixEnd}
 use Rattle.megaco.specs.declared.Parsed.{Parsed}
 use Rattle.megaco.specs.declared.Parsed.the-variants.{Next, Fault}
 use Rattle.megaco.specs.declared.Class.the-variants.{WordByte}
 use Rattle.syntax.specs.declared.Piece.{Piece}
-use Rattle.syntax.specs.Places.{orderStart, orderAt, bracesAt, itemAt, itemsAt, commandAt, secondAt, equalPlace, valueEnd, valueItemAt, headEnd, orderEnd, nameStart, nameEnd, commandHeadEnd}
+use Rattle.syntax.specs.Places.{orderStart, orderAt, bracesAt, auditAt, emptyAt, orNoneAt, itemAt, itemsAt, commandAt, secondAt, equalPlace, valueEnd, valueItemAt, headEnd, orderEnd, nameStart, nameEnd, commandHeadEnd}
 use Rattle.syntax.specs.Pieces.{Holds}
 use Rattle.syntax.specs.Production.{Production, endOf, pastWhite, pastSign, wordEnd}
 use Rattle.parts.specs.declared.ValuePlaces.{ValuePlaces}
@@ -40,9 +40,16 @@ end-by e x y h g = rw (← g) h
 
 -- ---- items: what the parts tell is the tree
 
-pub item-is : {A : Type 0} {q : ℕ → Read (List A)} (inner : (i : ℕ) → Production (q i)) (s : List ℕ) (at : ℕ) (r : ItemPlaces) → OfItem s at r → itemAt inner s at .tree ≡ itemFrom (λ j. inner j .tree) s at r
-unfolding itemAt itemFrom secondAt bracesAt
-item-is inner s at r h = rw (h .word .bytes, h .second, h .braces, h .inside, h .value .tree)
+pub item-is : {A : Type 0} {q : ℕ → Read (List A)} (left : ℕ) (inner : (i : ℕ) → Production (q i)) (s : List ℕ) (at : ℕ) (r : ItemPlaces)
+    → OfItem s at r → itemAt left inner s at .tree ≡ itemFrom (λ j. orNoneAt (emptyAt left s at) inner s j .tree) s at r
+unfolding itemAt itemFrom mayBeEmpty emptyAt auditAt secondAt bracesAt
+item-is left inner s at r h = rw (h .word .bytes, h .second, h .braces, h .inside, h .value .tree)
+
+-- braces that may not be empty hold items
+pub item-filled : {A : Type 0} {q : ℕ → Read (List A)} (left : ℕ) (inner : (i : ℕ) → Production (q i)) (s : List ℕ) (at : ℕ) (r : ItemPlaces)
+    → emptyAt left s at ≡ false → OfItem s at r → itemAt left inner s at .tree ≡ itemFrom (λ j. inner j .tree) s at r
+unfolding itemFrom orNoneAt pick
+item-filled left inner s at r e h = item-is left inner s at r h ∙ rw e
 
 pub command-is : (s : List ℕ) (at : ℕ) (r : CommandPlaces) → OfCommand s at r → commandAt s at .tree ≡ commandFrom s r
 unfolding commandAt orderAt orderStart orderEnd nameStart nameEnd commandHeadEnd commandFrom itemsFrom bracesAt
@@ -51,11 +58,21 @@ command-is s at r h = rw (h .optional, h .wild, h .word .bytes, h .name .bytes, 
 -- ---- ends: with braces, or where the part ends before them
 
 module _ (k : ℕ) (s : List ℕ) (at : ℕ) (r : ItemPlaces) (h : OfItem s at r) where
-  pub item-braced : (x e : ℕ) → r .braces ≡ true → x ≡ itemsAt k s (r .inside) .end → e ≡ pastSign rightBrace s x → e ≡ itemAt (itemsAt k s) s at .end
-  unfolding itemAt bracesAt pick
-  item-braced x e b f g = g ∙ sym (rw (← h .braces, b, ← h .inside, ← f))
+  pub item-closed : (x e : ℕ) → r .braces ≡ true → x ≡ orNoneAt (emptyAt k s at) (itemsAt k s) s (r .inside) .end
+      → e ≡ pastSign rightBrace s x → e ≡ itemAt k (itemsAt k s) s at .end
+  unfolding itemAt mayBeEmpty emptyAt auditAt bracesAt pick
+  item-closed x e b f g = g ∙ sym (rw (← h .braces, b, ← h .inside, ← f))
 
-  pub item-plain : r .braces ≡ false → r .value .end ≡ itemAt (itemsAt k s) s at .end
+  module _ (t : Bool) (m : t ≡ (emptyAt k s at && isAt s (r .inside) rightBrace)) (e : ℕ) (b : r .braces ≡ true) where
+    pub item-empty : t ≡ true → e ≡ pastSign rightBrace s (r .inside) → e ≡ itemAt k (itemsAt k s) s at .end
+    unfolding orNoneAt pick
+    item-empty y g = item-closed (r .inside) e b (rw (← m, y)) g
+
+    pub item-braced : t ≡ false → (x : ℕ) → x ≡ itemsAt k s (r .inside) .end → e ≡ pastSign rightBrace s x → e ≡ itemAt k (itemsAt k s) s at .end
+    unfolding orNoneAt pick
+    item-braced n x f g = item-closed x e b (f ∙ rw (← m, n)) g
+
+  pub item-plain : r .braces ≡ false → r .value .end ≡ itemAt k (itemsAt k s) s at .end
   unfolding itemAt bracesAt headEnd pick
   item-plain b = h .value .end ∙ sym (rw (← (h .braces), b))
 

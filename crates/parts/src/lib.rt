@@ -149,11 +149,14 @@ pub fn item_places(s: &[u8], at: usize) -> ItemPlaces
 
 // The end of an item that may hold `left` levels.
 fn item_end(s: &[u8], left: usize, at: usize) -> usize
-    ensures { λ r. ⌜ r ≡ itemAt (itemsAt left (now (s .entry))) (now (s .entry)) at .end ⌝ }
+    ensures { λ r. ⌜ r ≡ itemAt left (itemsAt left (now (s .entry))) (now (s .entry)) at .end ⌝ }
 {
     let p = item_places(s, at);
     if p.braces {
         let inside = p.inside;
+        if syntax::empty_here(s, left, at, inside) {
+            return past_closing(s, inside);
+        }
         return past_closing(s, items_end(s, left, inside));
     }
     let v = p.value;

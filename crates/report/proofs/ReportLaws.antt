@@ -10,9 +10,12 @@ use Rattle.base.specs.Bytes.{text, decimal, _then_}
 use Rattle.base.specs.Out.{Appended}
 use Rattle.base.proofs.TextLaws.{then-assoc, none-then, then-none}
 use Rattle.base.proofs.OutLaws.{_▸_}
-use Rattle.megaco.specs.Table.{priorityOf, emergencyOf}
+use Rattle.base.specs.Pick.{pick}
+use Rattle.base.proofs.OutLaws.{none}
+use Rattle.megaco.specs.Table.{modeOf, stateOf, priorityOf, emergencyOf}
+use Rattle.megaco.specs.Running.{told}
 use Rattle.megaco.specs.declared.Op.{Op}
-use Rattle.megaco.specs.Reply.{nothing, Report, done, refused, standing, triedText, detailText, codeText, reportText, separator, reportsText}
+use Rattle.megaco.specs.Reply.{Detail, nothing, media, Report, done, refused, standing, triedText, detailText, codeText, reportText, separator, reportsText}
 use Rattle.report.specs.Rows.{emergencyText, firstAfter}
 
 -- a record of at most 16 has no emergency
@@ -26,6 +29,17 @@ pub standing-is : (o : List ℕ) (at held x : ℕ) (o₁ o₂ o₃ : List ℕ) (
     → Appended o₂ q (emergencyText held) o₃ r → Appended o at (reportText (standing held)) o₃ r
 unfolding reportText emergencyText
 standing-is o at held x o₁ o₂ o₃ p q r e f g h = f ▸ (rw e at g) ▸ h
+
+-- ---- what an audit tells
+
+module _ (o : List ℕ) (at word : ℕ) where
+  pub told-media : (audited : Bool) (o′ : List ℕ) (r : ℕ) → audited ≡ true → Appended o at (detailText (media (stateOf word) (modeOf word))) o′ r → Appended o at (detailText (told audited word)) o′ r
+  unfolding told pick
+  told-media audited o′ r e f = rw e f
+
+  pub told-nothing : (audited : Bool) → audited ≡ false → Appended o at (detailText (told audited word)) o at
+  unfolding told pick detailText
+  told-nothing audited e = rw e (none o at)
 
 -- reports after others
 first-false : (xs : List Report) → firstAfter false xs ≡ false
@@ -54,6 +68,12 @@ module _ (o : List ℕ) (at : ℕ) (o₁ o₂ : List ℕ) (p r : ℕ) where
     refused-is code f g =
         subst (λ (b : List ℕ). Appended o at b o₂ r)
         (then-assoc (separator first) (triedText op name) (codeText code) ∙ sym (reports-one first (refused op name code))) (f ▸ g)
+
+    pub told-is : (x : Detail) → Appended o at (separator first then triedText op name) o₁ p → Appended o₁ p (detailText x) o₂ r
+        → Appended o at (reportsText first (done op name x ∷ [])) o₂ r
+    unfolding reportText
+    told-is x f g =
+        subst (λ (b : List ℕ). Appended o at b o₂ r) (then-assoc (separator first) (triedText op name) (detailText x) ∙ sym (reports-one first (done op name x))) (f ▸ g)
 
     pub done-is : Appended o at (separator first then triedText op name) o₂ r → Appended o at (reportsText first (done op name nothing ∷ [])) o₂ r
     unfolding reportText detailText

@@ -4,7 +4,8 @@ ghost use Prim.Native.Nat.{_<_};
 ghost use Rattle.base.specs.Out.{Appended};
 ghost use Rattle.megaco.specs.Table.{priorityOf};
 ghost use Rattle.megaco.specs.Names.{nameText};
-ghost use Rattle.megaco.specs.Reply.{failed, standing, opText, errorText, triedText, codeText, reportText, separator};
+ghost use Rattle.megaco.specs.Reply.{media, failed, standing, opText, errorText, triedText, codeText, reportText, stateText, modeText, serviceStates, localControl, descriptors, detailText, separator};
+ghost use Rattle.megaco.specs.Running.{told};
 ghost use Rattle.report.specs.Rows.{emergencyText};
 use megaco::Op;
 
@@ -38,6 +39,7 @@ fn put_op(out: &mut [u8], at: usize, op: Op) -> usize
         Op::Modify => writer::put_bytes(out, at, b"MF"),
         Op::Subtract => writer::put_byte(out, at, b'S'),
         Op::Move => writer::put_bytes(out, at, b"MV"),
+        Op::AuditValue => writer::put_bytes(out, at, b"AV"),
     }
 }
 
@@ -74,6 +76,83 @@ pub fn put_named(out: &mut [u8], at: usize, op: Op, lines: u32, i: usize) -> usi
     let p = put_op(out, at, op);
     let q = writer::put_byte(out, p, b'=');
     put_name(out, q, lines, i)
+}
+
+// A state's short keyword.
+fn put_state(out: &mut [u8], at: usize, state: u32) -> usize
+    ensures { λ r. ⌜ Appended (now (out .entry)) at (stateText state) (now (out .exit)) r ⌝ }
+{
+    if state == 0 {
+        return writer::put_bytes(out, at, b"IV");
+    }
+    if state == 1 {
+        return writer::put_bytes(out, at, b"OS");
+    }
+    writer::put_bytes(out, at, b"TE")
+}
+
+// A mode's short keyword.
+fn put_mode(out: &mut [u8], at: usize, mode: u32) -> usize
+    ensures { λ r. ⌜ Appended (now (out .entry)) at (modeText mode) (now (out .exit)) r ⌝ }
+{
+    if mode == 0 {
+        return writer::put_bytes(out, at, b"IN");
+    }
+    if mode == 1 {
+        return writer::put_bytes(out, at, b"SO");
+    }
+    if mode == 2 {
+        return writer::put_bytes(out, at, b"RC");
+    }
+    if mode == 3 {
+        return writer::put_bytes(out, at, b"SR");
+    }
+    writer::put_bytes(out, at, b"LB")
+}
+
+// TerminationState with a state.
+fn put_service_states(out: &mut [u8], at: usize, state: u32) -> usize
+    ensures { λ r. ⌜ Appended (now (out .entry)) at (serviceStates state) (now (out .exit)) r ⌝ }
+{
+    let p = writer::put_bytes(out, at, b"TS{SI=");
+    let q = put_state(out, p, state);
+    writer::put_byte(out, q, b'}')
+}
+
+// LocalControl with a mode.
+fn put_local_control(out: &mut [u8], at: usize, mode: u32) -> usize
+    ensures { λ r. ⌜ Appended (now (out .entry)) at (localControl mode) (now (out .exit)) r ⌝ }
+{
+    let p = writer::put_bytes(out, at, b"O{MO=");
+    let q = put_mode(out, p, mode);
+    writer::put_byte(out, q, b'}')
+}
+
+fn put_descriptors(out: &mut [u8], at: usize, state: u32, mode: u32) -> usize
+    ensures { λ r. ⌜ Appended (now (out .entry)) at (descriptors state mode) (now (out .exit)) r ⌝ }
+{
+    let p = put_service_states(out, at, state);
+    let q = writer::put_byte(out, p, b',');
+    put_local_control(out, q, mode)
+}
+
+// The state and the mode of a termination.
+fn put_media(out: &mut [u8], at: usize, state: u32, mode: u32) -> usize
+    ensures { λ r. ⌜ Appended (now (out .entry)) at (detailText (media state mode)) (now (out .exit)) r ⌝ }
+{
+    let p = writer::put_bytes(out, at, b"{M{");
+    let q = put_descriptors(out, p, state, mode);
+    writer::put_bytes(out, q, b"}}")
+}
+
+// What a success tells behind the name.
+pub fn put_told(out: &mut [u8], at: usize, audited: bool, word: u32) -> usize
+    ensures { λ r. ⌜ Appended (now (out .entry)) at (detailText (told audited word)) (now (out .exit)) r ⌝ }
+{
+    if audited {
+        return put_media(out, at, word / 8, word % 8);
+    }
+    at
 }
 
 // An action error.

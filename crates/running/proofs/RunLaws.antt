@@ -14,7 +14,7 @@ use Rattle.megaco.specs.Table.{fitted}
 use Rattle.megaco.specs.Names.{nameOf}
 use Rattle.megaco.specs.Tree.{Items, Command, command}
 use Rattle.megaco.specs.State.{State}
-use Rattle.megaco.specs.Running.{Outcome, outcome, Aim, misses, gateway, meets, tries, missed, actionError, aimRoot, aimFree, aimMatches, matches, aim, aimed, named, tested, unlessOptional, ordered, opOf, runCommand}
+use Rattle.megaco.specs.Running.{Outcome, outcome, Aim, misses, gateway, meets, tries, missed, actionError, aimRoot, aimFree, aimMatches, matches, notForRoot, aim, aimed, named, tested, unlessOptional, ordered, opOf, runCommand}
 use Rattle.megaco.specs.declared.Context.{Context}
 use Rattle.megaco.specs.declared.Op.{Op}
 use Rattle.megaco.specs.declared.Values.{Values}
@@ -66,7 +66,9 @@ aimed-tells op name given vs _ at t somebody = there
 named-tells : (op : Op) (name : List ℕ) (given : ℕ) (items : Bool) (j : Judged) (at : Context) (t : State) → Tells (named op name given items j at t)
 unfolding named missed
 named-tells op name given items (Wrong code) at t = there
-named-tells op name given items (Right vs) at t = aimed-tells op name given vs (aim op at items (nameOf (fitted (t .table)) name) (t .table)) at t (peopled op at items (nameOf (fitted (t .table)) name) (t .table))
+named-tells op name given items (Right vs) at t =
+    let b : Bool = notForRoot op items vs in
+    aimed-tells op name given vs (aim op at b (nameOf (fitted (t .table)) name) (t .table)) at t (peopled op at b (nameOf (fitted (t .table)) name) (t .table))
 
 tested-tells : (op : Op) (name : List ℕ) (items : Items) (given : ℕ) (at : Context) (t : State) → Tells (tested op name items given at t)
 unfolding tested missed

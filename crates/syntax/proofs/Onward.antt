@@ -1,7 +1,7 @@
 -- No reader goes back: what it finds is at or past the place where it began.
 use Prim.Native.Nat.{ℕ, zero, suc, _+_, _-_, _≤_}
 use mathlib.Core.Path.{_≡_, refl}
-use mathlib.Core.Bool.{Bool, false}
+use mathlib.Core.Bool.{Bool, false, _&&_}
 use mathlib.Core.List.{List, [], _∷_}
 use native.Mathlib.Omega.{arith}
 use native.Mathlib.Nat.{le-refl, le-trans, le-add-right}
@@ -24,7 +24,7 @@ use Rattle.megaco.specs.declared.Token.{Token}
 use Rattle.megaco.specs.declared.Token.the-variants.{PriorityToken, EmergencyToken}
 use Rattle.tokens.proofs.TokenLaws.{pick-ind, row-ahead}
 use Rattle.syntax.specs.Production.{Production, numberAfter, spacedAt, joinedAt, listAt}
-use Rattle.syntax.specs.Places.{secondAt, valueItemAt, bracesAt, headAt, itemAt, itemsAt, priorityAt, propertyAt}
+use Rattle.syntax.specs.Places.{secondAt, valueItemAt, bracesAt, headAt, emptyAt, orNoneAt, itemAt, itemsAt, priorityAt, propertyAt}
 
 abbrev pub Onward : ℕ → Parsed → Type 0
 Onward at x = (p : ℕ) → x ≡ Next p → at ≤ p
@@ -137,17 +137,22 @@ module _ {A : Type 0} {r : ℕ → Read (List A)} (inner : (i : ℕ) → Product
       (after-on at (signAt leftBrace s at) _ (sign-past leftBrace s at) (λ p. after-on p (inner p .place) (signAt rightBrace s) (h p) (sign-past rightBrace s)))
       (next-on at at (le-refl at))
 
-  item-over : (at : ℕ) → Onward at (itemAt inner s at .place)
+module _ {A : Type 0} {r : ℕ → Read (List A)} (inner : (i : ℕ) → Production (r i)) (s : List ℕ) (h : (i : ℕ) → Onward i (inner i .place)) where
+  or-none-on : (empty : Bool) (at : ℕ) → Onward at (orNoneAt empty inner s at .place)
+  unfolding orNoneAt
+  or-none-on empty at = pick-on at (empty && isAt s at rightBrace) _ _ (next-on at at (le-refl at)) (h at)
+
+  item-over : (left at : ℕ) → Onward at (itemAt left inner s at .place)
   unfolding itemAt
-  item-over at = after-on at (headAt s at) _ (head-on s at) braces-on
+  item-over left at = after-on at (headAt s at) _ (head-on s at) (braces-on (orNoneAt (emptyAt left s at) inner s) s (or-none-on (emptyAt left s at)))
 
 items-on : (k : ℕ) (s : List ℕ) (at : ℕ) → Onward at (itemsAt k s at .place)
 unfolding itemsAt
 items-on zero s at = fault-on at
-items-on (suc k) s at = list-on _ s (item-over (itemsAt k s) s (items-on k s)) (unlimited s) at
+items-on (suc k) s at = list-on _ s (item-over (itemsAt k s) s (items-on k s) k) (unlimited s) at
 
-pub item-on : (k : ℕ) (s : List ℕ) (at : ℕ) → Onward at (itemAt (itemsAt k s) s at .place)
-item-on k s at = item-over (itemsAt k s) s (items-on k s) at
+pub item-on : (k : ℕ) (s : List ℕ) (at : ℕ) → Onward at (itemAt k (itemsAt k s) s at .place)
+item-on k s at = item-over (itemsAt k s) s (items-on k s) k at
 
 -- ---- properties
 

@@ -3,25 +3,27 @@
 -- the second pass does; where the part does not read, these have no meaning. Places inside a production have names of their own.
 use Prim.Native.Nat.{ℕ, zero, suc, _+_}
 use mathlib.Core.Path.{_≡_, refl, sym}
-use mathlib.Core.Bool.{Bool, true, false}
+use mathlib.Core.Bool.{Bool, true, false, _&&_}
 use mathlib.Core.List.{List, [], _∷_}
-use mathlib.Core.Option.{none, some}
+use mathlib.Core.Option.{Option, none, some}
+use lib.Dec.{eqb}
 use Rattle.base.specs.Pick.{pick}
 use Rattle.base.specs.Lists.{isAt, part}
 use Rattle.megaco.specs.Bytes.{equal, comma, leftBrace, rightBrace, slash, dash, dollar, star}
 use Rattle.megaco.specs.White.{after, whiteAt}
 use Rattle.megaco.specs.Keywords.{spells}
+use Rattle.megaco.specs.Items.{called}
 use Rattle.megaco.specs.Tokens.{markAt, signAt, wordAt, terminationAt, numberAt, valueAt}
 use Rattle.megaco.specs.Tree.{item, Command, command}
-use Rattle.megaco.specs.Reading.{Read, got, listR, unlimited, keyAt, secondR, valueOf, valueR, bracesR, itemR, itemsR, prefixAt, prefixEnd, isProperty, orderR, commandR, contextR, wordHere, propertyR, Body, body, withProperty, propertyThen, bodyR, actionOf, actionR, actionsR}
+use Rattle.megaco.specs.Reading.{Read, got, listR, unlimited, keyAt, secondR, valueOf, valueR, bracesR, mayBeEmpty, orNoneR, itemR, itemsR, prefixAt, prefixEnd, isProperty, orderR, commandR, contextR, wordHere, propertyR, Body, body, withProperty, propertyThen, bodyR, actionOf, actionR, actionsR}
 use Rattle.megaco.specs.declared.Parsed.{Parsed}
 use Rattle.megaco.specs.declared.Parsed.the-variants.{Next, Fault}
 use Rattle.megaco.specs.declared.Number.{Number}
 use Rattle.megaco.specs.declared.Context.the-variants.{Null, Numbered, Choose, All}
 use Rattle.megaco.specs.declared.Property.{Property}
 use Rattle.megaco.specs.declared.Property.the-variants.{Priority, Emergency}
-use Rattle.megaco.specs.declared.Token.the-variants.{CtxToken, PriorityToken, EmergencyToken}
-use Rattle.syntax.specs.Production.{endOf, numberAfter, pastWhite, pastSign, wordEnd, spacedAt, joinedAt, Reads, Production, fault-reads, got-reads, bind-reads, map-reads, skip-reads, after-assoc, faultP, gotP, tokenP, numberP, pickP, unlessP, bindP, mapP, skipP, signP, lastP, closeP, spacedP, behindP, placedP, keywordP, wordP, wordThenP, listP}
+use Rattle.megaco.specs.declared.Token.the-variants.{AuditToken, CtxToken, PriorityToken, EmergencyToken}
+use Rattle.syntax.specs.Production.{endOf, numberAfter, pastWhite, pastSign, wordEnd, spacedAt, joinedAt, Reads, Production, fault-reads, got-reads, bind-reads, map-reads, skip-reads, word-reads, after-assoc, faultP, gotP, tokenP, numberP, pickP, unlessP, bindP, mapP, skipP, signP, lastP, closeP, spacedP, behindP, placedP, keywordP, wordP, wordThenP, listP}
 use Rattle.syntax.specs.declared.Rest.{Rest}
 
 -- ---- items
@@ -59,21 +61,47 @@ unfolding after
 head-cut Fault f g h = refl
 head-cut (Next p) f g h = sym (after-assoc (f p) g h)
 
-unfoldable pub itemAt : {A : Type 0} {r : ℕ → Read (List A)} (inner : (i : ℕ) → Production (r i)) (s : List ℕ) (at : ℕ) → Production (itemR r s at)
-unfolding itemR headAt equalPlace headEnd
-itemAt inner s at =
-    placedP (after (headAt s at) (λ p. bracesAt inner s p .place))
+-- whether the item that begins here is called Audit, and whether its braces may be empty
+unfoldable pub auditAt : List ℕ → ℕ → Bool
+auditAt s at = called AuditToken (part s at (wordEnd s at)) (secondAt s (wordEnd s at) .tree)
+
+unfoldable pub emptyAt : ℕ → List ℕ → ℕ → Bool
+emptyAt left s at = eqb left 7 && auditAt s at
+
+unfoldable pub orNoneAt : {A : Type 0} {r : ℕ → Read (List A)} (empty : Bool) (inner : (i : ℕ) → Production (r i)) (s : List ℕ) (at : ℕ)
+    → Production (orNoneR empty r s at)
+unfolding orNoneR
+orNoneAt empty inner s at = pickP (empty && isAt s at rightBrace) (gotP [] at) (inner at)
+
+-- what follows an item's head may depend on its words
+pub word-cut : (s : List ℕ) (at : ℕ) (h : Option (List ℕ) → ℕ → Parsed)
+    → after (wordAt s at) (λ p. after (spacedAt s (secondAt s p .place)) (λ q. after (valueItemAt s q .place) (h (secondAt s p .tree))))
+    ≡ after (headAt s at) (h (secondAt s (wordEnd s at) .tree))
+unfolding headAt after
+word-cut s at h = by (wordAt s at) (word-reads s at .ends)
+  where
+    by : (x : Parsed) → ((p : ℕ) → x ≡ Next p → wordEnd s at ≡ p)
+        → after x (λ p. after (spacedAt s (secondAt s p .place)) (λ q. after (valueItemAt s q .place) (h (secondAt s p .tree))))
+        ≡ after (after x (λ p. after (spacedAt s (secondAt s p .place)) (λ q. valueItemAt s q .place))) (h (secondAt s (wordEnd s at) .tree))
+    by Fault n = refl
+    by (Next p) n = rw (n p refl) (sym (after-assoc (spacedAt s (secondAt s p .place)) (λ q. valueItemAt s q .place) (h (secondAt s p .tree))))
+
+unfoldable pub itemAt : {A : Type 0} {r : ℕ → Read (List A)} (left : ℕ) (inner : (i : ℕ) → Production (r i)) (s : List ℕ) (at : ℕ)
+    → Production (itemR left r s at)
+unfolding itemR headAt equalPlace headEnd mayBeEmpty auditAt emptyAt
+itemAt left inner s at =
+    placedP (after (headAt s at) (λ p. bracesAt (orNoneAt (emptyAt left s at) inner s) s p .place))
     (bindP (wordP s at) (λ w p.
     bindP (spacedP s (secondAt s p)) (λ x q.
     bindP (valueItemAt s q) (λ v r.
-    mapP (item w x v) (bracesAt inner s r)))))
-    (head-cut (wordAt s at) _ _ _)
+    mapP (item w x v) (bracesAt (orNoneAt (mayBeEmpty left w x) inner s) s r)))))
+    (word-cut s at (λ x p. bracesAt (orNoneAt (mayBeEmpty left (part s at (wordEnd s at)) x) inner s) s p .place))
 
 -- items of k levels
 unfoldable pub itemsAt : (k : ℕ) (s : List ℕ) (at : ℕ) → Production (itemsR k s at)
 unfolding itemsR
 itemsAt zero s at = faultP [] at
-itemsAt (suc k) s at = listP (itemAt (itemsAt k s) s) s (unlimited s) at
+itemsAt (suc k) s at = listP (itemAt k (itemsAt k s) s) s (unlimited s) at
 
 -- ---- commands
 

@@ -1,10 +1,14 @@
 // Reading whole messages: the types of what is found, and the readers of items and commands. Actions and messages are read by the crates above.
 ghost use mathlib.Core.Path.{_≡_};
+ghost use mathlib.Core.Bool.{_&&_, _||_};
 ghost use Prim.Native.Nat.{suc, min};
 ghost use Rattle.megaco.specs.Reading.{prefixEnd, isProperty};
 ghost use Rattle.syntax.specs.Pieces.{Holds};
 ghost use Rattle.syntax.specs.Production.{spacedAt};
-ghost use Rattle.syntax.specs.Places.{secondAt, valueItemAt, bracesAt, headAt, itemAt, itemsAt, orderAt, orderStart, commandHeadAt, commandAt, commandsAt};
+ghost use Rattle.base.specs.Lists.{isAt};
+ghost use Rattle.megaco.specs.Bytes.{rightBrace};
+ghost use Rattle.syntax.specs.Places.{secondAt, valueItemAt, bracesAt, headAt, auditAt, emptyAt, orNoneAt, itemAt, itemsAt, orderAt, orderStart, commandHeadAt, commandAt, commandsAt};
+use megaco::Class;
 use megaco::Parsed;
 use megaco::Token;
 
@@ -101,15 +105,39 @@ fn head(s: &[u8], at: usize) -> Parsed
     item_value(s, q)
 }
 
+// Whether the item that begins here is called Audit: a name with `/` is not.
+fn is_audit(s: &[u8], at: usize) -> bool
+    ensures { λ r. ⌜ r ≡ auditAt (now (s .entry)) at ⌝ }
+{
+    let e = text::row(s, at, Class::WordByte);
+    let word = piece_of(s, at, e);
+    let a = word.from;
+    let b = word.to;
+    !text::is_at(s, e, 0x2f) & text::spells(Token::AuditToken, &s[a..b])
+}
+
+// Whether the braces of the item that begins at `start`, opened before this place, are empty and may be, where `left` more levels are left.
+pub fn empty_here(s: &[u8], left: usize, start: usize, at: usize) -> bool
+    ensures { λ r. ⌜ r ≡ (emptyAt left (now (s .entry)) start && isAt (now (s .entry)) at rightBrace) ⌝ }
+{
+    if left != 7 {
+        return false;
+    }
+    if text::is_at(s, at, 0x7d) {
+        return is_audit(s, start);
+    }
+    false
+}
+
 // One item: its head, and the items in its braces, where `left` more levels may be opened.
 fn item(s: &[u8], left: usize, at: usize) -> Parsed
-    ensures { λ r. ⌜ r ≡ itemAt (itemsAt left (now (s .entry))) (now (s .entry)) at .place ⌝ }
+    ensures { λ r. ⌜ r ≡ itemAt left (itemsAt left (now (s .entry))) (now (s .entry)) at .place ⌝ }
 {
     let h = head(s, at);
     let Parsed::Next(p) = h else {
         return Parsed::Fault;
     };
-    braced_items(s, left, p)
+    braced_items(s, left, at, p)
 }
 
 // Items joined by commas, in each of which `left` more levels may be opened.
@@ -134,9 +162,9 @@ fn items(s: &[u8], left: usize, at: usize) -> Parsed
     }
 }
 
-// Items of at most `left` levels in braces, if they stand here.
-fn braced_items(s: &[u8], left: usize, at: usize) -> Parsed
-    ensures { λ r. ⌜ r ≡ bracesAt (itemsAt left (now (s .entry))) (now (s .entry)) at .place ⌝ }
+// Items of at most `left` levels in braces, if they stand here, or none in those of an item that begins at `start` and may have none.
+fn braced_items(s: &[u8], left: usize, start: usize, at: usize) -> Parsed
+    ensures { λ r. ⌜ r ≡ bracesAt (orNoneAt (emptyAt left (now (s .entry)) start) (itemsAt left (now (s .entry))) (now (s .entry))) (now (s .entry)) at .place ⌝ }
 {
     if text::is_at(s, at, 0x7b) {
         if left == 0 {
@@ -146,6 +174,9 @@ fn braced_items(s: &[u8], left: usize, at: usize) -> Parsed
         let Parsed::Next(p) = o else {
             return Parsed::Fault;
         };
+        if empty_here(s, left, start, p) {
+            return text::sign(s, p, 0x7d);
+        }
         let i = items(s, left - 1, p);
         let Parsed::Next(q) = i else {
             return Parsed::Fault;
@@ -228,7 +259,7 @@ fn command(s: &[u8], at: usize) -> Parsed
     let Parsed::Next(p) = h else {
         return Parsed::Fault;
     };
-    braced_items(s, 8, p)
+    braced_items(s, 8, at, p)
 }
 
 // One to 64 commands.

@@ -19,8 +19,10 @@ pub enum Meaning {
 }
 
 // Annex B.2's tokens in its order. Error and Reply are written only: no reader asks for them.
-pub const KEYWORDS: [Row; 24] = [
+pub const KEYWORDS: [Row; 26] = [
     Row(Token::AddToken, *b"ADD                     ", *b"A "),
+    Row(Token::AuditToken, *b"AUDIT                   ", *b"AT"),
+    Row(Token::AuditValueToken, *b"AUDITVALUE              ", *b"AV"),
     Row(Token::CtxToken, *b"CONTEXT                 ", *b"C "),
     Row(Token::EmergencyToken, *b"EMERGENCY               ", *b"EG"),
     Row(Token::ErrorToken, *b"ERROR                   ", *b"ER"),

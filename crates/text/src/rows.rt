@@ -43,7 +43,9 @@ fn row_at(i: usize) -> Row
         20 => t[20],
         21 => t[21],
         22 => t[22],
-        _ => t[23],
+        23 => t[23],
+        24 => t[24],
+        _ => t[25],
     }
 }
 
@@ -78,29 +80,31 @@ pub fn spells(k: Token, w: &[u8]) -> bool
 {
     match k {
         Token::AddToken => is_either(w, 0, 3, 1),
-        Token::CtxToken => is_either(w, 1, 7, 1),
-        Token::EmergencyToken => is_either(w, 2, 9, 2),
-        Token::ErrorToken => is_either(w, 3, 5, 2),
-        Token::InactiveToken => is_either(w, 4, 8, 2),
-        Token::InSvcToken => is_either(w, 5, 9, 2),
-        Token::LocalControlToken => is_either(w, 6, 12, 1),
-        Token::LoopbackToken => is_either(w, 7, 8, 2),
-        Token::MediaToken => is_either(w, 8, 5, 1),
-        Token::MegacopToken => is_either(w, 9, 6, 1),
-        Token::ModeToken => is_either(w, 10, 4, 2),
-        Token::ModifyToken => is_either(w, 11, 6, 2),
-        Token::MoveToken => is_either(w, 12, 4, 2),
-        Token::OutOfSvcToken => is_either(w, 13, 12, 2),
-        Token::PriorityToken => is_either(w, 14, 8, 2),
-        Token::RecvonlyToken => is_either(w, 15, 11, 2),
-        Token::ReplyToken => is_either(w, 16, 5, 1),
-        Token::SendonlyToken => is_either(w, 17, 8, 2),
-        Token::SendrecvToken => is_either(w, 18, 11, 2),
-        Token::ServiceStatesToken => is_either(w, 19, 13, 2),
-        Token::SubtractToken => is_either(w, 20, 8, 1),
-        Token::TerminationStateToken => is_either(w, 21, 16, 2),
-        Token::TestToken => is_either(w, 22, 4, 2),
-        Token::TransToken => is_either(w, 23, 11, 1),
+        Token::AuditToken => is_either(w, 1, 5, 2),
+        Token::AuditValueToken => is_either(w, 2, 10, 2),
+        Token::CtxToken => is_either(w, 3, 7, 1),
+        Token::EmergencyToken => is_either(w, 4, 9, 2),
+        Token::ErrorToken => is_either(w, 5, 5, 2),
+        Token::InactiveToken => is_either(w, 6, 8, 2),
+        Token::InSvcToken => is_either(w, 7, 9, 2),
+        Token::LocalControlToken => is_either(w, 8, 12, 1),
+        Token::LoopbackToken => is_either(w, 9, 8, 2),
+        Token::MediaToken => is_either(w, 10, 5, 1),
+        Token::MegacopToken => is_either(w, 11, 6, 1),
+        Token::ModeToken => is_either(w, 12, 4, 2),
+        Token::ModifyToken => is_either(w, 13, 6, 2),
+        Token::MoveToken => is_either(w, 14, 4, 2),
+        Token::OutOfSvcToken => is_either(w, 15, 12, 2),
+        Token::PriorityToken => is_either(w, 16, 8, 2),
+        Token::RecvonlyToken => is_either(w, 17, 11, 2),
+        Token::ReplyToken => is_either(w, 18, 5, 1),
+        Token::SendonlyToken => is_either(w, 19, 8, 2),
+        Token::SendrecvToken => is_either(w, 20, 11, 2),
+        Token::ServiceStatesToken => is_either(w, 21, 13, 2),
+        Token::SubtractToken => is_either(w, 22, 8, 1),
+        Token::TerminationStateToken => is_either(w, 23, 16, 2),
+        Token::TestToken => is_either(w, 24, 4, 2),
+        Token::TransToken => is_either(w, 25, 11, 1),
     }
 }
 
@@ -118,8 +122,8 @@ fn of(i: usize) -> Meaning
 fn letters_16(w: &[u8]) -> Meaning
     ensures { λ r. ⌜ told r ≡ meaningLater 16 0 (now (w .entry)) ⌝ }
 {
-    if is_long(w, 21, 16) {
-        return of(21);
+    if is_long(w, 23, 16) {
+        return of(23);
     }
     Meaning::Nothing
 }
@@ -127,8 +131,8 @@ fn letters_16(w: &[u8]) -> Meaning
 fn letters_13(w: &[u8]) -> Meaning
     ensures { λ r. ⌜ told r ≡ meaningLater 13 0 (now (w .entry)) ⌝ }
 {
-    if is_long(w, 19, 13) {
-        return of(19);
+    if is_long(w, 21, 13) {
+        return of(21);
     }
     Meaning::Nothing
 }
@@ -136,11 +140,11 @@ fn letters_13(w: &[u8]) -> Meaning
 fn letters_12(w: &[u8]) -> Meaning
     ensures { λ r. ⌜ told r ≡ meaningLater 12 0 (now (w .entry)) ⌝ }
 {
-    if is_long(w, 6, 12) {
-        return of(6);
+    if is_long(w, 8, 12) {
+        return of(8);
     }
-    if is_long(w, 13, 12) {
-        return of(13);
+    if is_long(w, 15, 12) {
+        return of(15);
     }
     Meaning::Nothing
 }
@@ -148,14 +152,23 @@ fn letters_12(w: &[u8]) -> Meaning
 fn letters_11(w: &[u8]) -> Meaning
     ensures { λ r. ⌜ told r ≡ meaningLater 11 0 (now (w .entry)) ⌝ }
 {
-    if is_long(w, 15, 11) {
-        return of(15);
+    if is_long(w, 17, 11) {
+        return of(17);
     }
-    if is_long(w, 18, 11) {
-        return of(18);
+    if is_long(w, 20, 11) {
+        return of(20);
     }
-    if is_long(w, 23, 11) {
-        return of(23);
+    if is_long(w, 25, 11) {
+        return of(25);
+    }
+    Meaning::Nothing
+}
+
+fn letters_10(w: &[u8]) -> Meaning
+    ensures { λ r. ⌜ told r ≡ meaningLater 10 0 (now (w .entry)) ⌝ }
+{
+    if is_long(w, 2, 10) {
+        return of(2);
     }
     Meaning::Nothing
 }
@@ -163,11 +176,11 @@ fn letters_11(w: &[u8]) -> Meaning
 fn letters_9(w: &[u8]) -> Meaning
     ensures { λ r. ⌜ told r ≡ meaningLater 9 0 (now (w .entry)) ⌝ }
 {
-    if is_long(w, 2, 9) {
-        return of(2);
+    if is_long(w, 4, 9) {
+        return of(4);
     }
-    if is_long(w, 5, 9) {
-        return of(5);
+    if is_long(w, 7, 9) {
+        return of(7);
     }
     Meaning::Nothing
 }
@@ -175,20 +188,20 @@ fn letters_9(w: &[u8]) -> Meaning
 fn letters_8(w: &[u8]) -> Meaning
     ensures { λ r. ⌜ told r ≡ meaningLater 8 0 (now (w .entry)) ⌝ }
 {
-    if is_long(w, 4, 8) {
-        return of(4);
+    if is_long(w, 6, 8) {
+        return of(6);
     }
-    if is_long(w, 7, 8) {
-        return of(7);
+    if is_long(w, 9, 8) {
+        return of(9);
     }
-    if is_long(w, 14, 8) {
-        return of(14);
+    if is_long(w, 16, 8) {
+        return of(16);
     }
-    if is_long(w, 17, 8) {
-        return of(17);
+    if is_long(w, 19, 8) {
+        return of(19);
     }
-    if is_long(w, 20, 8) {
-        return of(20);
+    if is_long(w, 22, 8) {
+        return of(22);
     }
     Meaning::Nothing
 }
@@ -196,8 +209,8 @@ fn letters_8(w: &[u8]) -> Meaning
 fn letters_7(w: &[u8]) -> Meaning
     ensures { λ r. ⌜ told r ≡ meaningLater 7 0 (now (w .entry)) ⌝ }
 {
-    if is_long(w, 1, 7) {
-        return of(1);
+    if is_long(w, 3, 7) {
+        return of(3);
     }
     Meaning::Nothing
 }
@@ -205,11 +218,11 @@ fn letters_7(w: &[u8]) -> Meaning
 fn letters_6(w: &[u8]) -> Meaning
     ensures { λ r. ⌜ told r ≡ meaningLater 6 0 (now (w .entry)) ⌝ }
 {
-    if is_long(w, 9, 6) {
-        return of(9);
-    }
     if is_long(w, 11, 6) {
         return of(11);
+    }
+    if is_long(w, 13, 6) {
+        return of(13);
     }
     Meaning::Nothing
 }
@@ -217,14 +230,17 @@ fn letters_6(w: &[u8]) -> Meaning
 fn letters_5(w: &[u8]) -> Meaning
     ensures { λ r. ⌜ told r ≡ meaningLater 5 0 (now (w .entry)) ⌝ }
 {
-    if is_long(w, 3, 5) {
-        return of(3);
+    if is_long(w, 1, 5) {
+        return of(1);
     }
-    if is_long(w, 8, 5) {
-        return of(8);
+    if is_long(w, 5, 5) {
+        return of(5);
     }
-    if is_long(w, 16, 5) {
-        return of(16);
+    if is_long(w, 10, 5) {
+        return of(10);
+    }
+    if is_long(w, 18, 5) {
+        return of(18);
     }
     Meaning::Nothing
 }
@@ -232,14 +248,14 @@ fn letters_5(w: &[u8]) -> Meaning
 fn letters_4(w: &[u8]) -> Meaning
     ensures { λ r. ⌜ told r ≡ meaningLater 4 0 (now (w .entry)) ⌝ }
 {
-    if is_long(w, 10, 4) {
-        return of(10);
-    }
     if is_long(w, 12, 4) {
         return of(12);
     }
-    if is_long(w, 22, 4) {
-        return of(22);
+    if is_long(w, 14, 4) {
+        return of(14);
+    }
+    if is_long(w, 24, 4) {
+        return of(24);
     }
     Meaning::Nothing
 }
@@ -256,8 +272,14 @@ fn letters_3(w: &[u8]) -> Meaning
 fn letters_2_from_15(w: &[u8]) -> Meaning
     ensures { λ r. ⌜ told r ≡ meaningLater 2 15 (now (w .entry)) ⌝ }
 {
-    if is_short(w, 22, 2) {
-        return of(22);
+    if is_short(w, 21, 2) {
+        return of(21);
+    }
+    if is_short(w, 23, 2) {
+        return of(23);
+    }
+    if is_short(w, 24, 2) {
+        return of(24);
     }
     Meaning::Nothing
 }
@@ -268,17 +290,17 @@ fn letters_2_from_10(w: &[u8]) -> Meaning
     if is_short(w, 15, 2) {
         return of(15);
     }
+    if is_short(w, 16, 2) {
+        return of(16);
+    }
     if is_short(w, 17, 2) {
         return of(17);
-    }
-    if is_short(w, 18, 2) {
-        return of(18);
     }
     if is_short(w, 19, 2) {
         return of(19);
     }
-    if is_short(w, 21, 2) {
-        return of(21);
+    if is_short(w, 20, 2) {
+        return of(20);
     }
     letters_2_from_15(w)
 }
@@ -286,11 +308,11 @@ fn letters_2_from_10(w: &[u8]) -> Meaning
 fn letters_2_from_5(w: &[u8]) -> Meaning
     ensures { λ r. ⌜ told r ≡ meaningLater 2 5 (now (w .entry)) ⌝ }
 {
-    if is_short(w, 10, 2) {
-        return of(10);
+    if is_short(w, 7, 2) {
+        return of(7);
     }
-    if is_short(w, 11, 2) {
-        return of(11);
+    if is_short(w, 9, 2) {
+        return of(9);
     }
     if is_short(w, 12, 2) {
         return of(12);
@@ -307,11 +329,11 @@ fn letters_2_from_5(w: &[u8]) -> Meaning
 fn letters_2(w: &[u8]) -> Meaning
     ensures { λ r. ⌜ told r ≡ meaningLater 2 0 (now (w .entry)) ⌝ }
 {
+    if is_short(w, 1, 2) {
+        return of(1);
+    }
     if is_short(w, 2, 2) {
         return of(2);
-    }
-    if is_short(w, 3, 2) {
-        return of(3);
     }
     if is_short(w, 4, 2) {
         return of(4);
@@ -319,8 +341,8 @@ fn letters_2(w: &[u8]) -> Meaning
     if is_short(w, 5, 2) {
         return of(5);
     }
-    if is_short(w, 7, 2) {
-        return of(7);
+    if is_short(w, 6, 2) {
+        return of(6);
     }
     letters_2_from_5(w)
 }
@@ -328,14 +350,14 @@ fn letters_2(w: &[u8]) -> Meaning
 fn letters_1_from_5(w: &[u8]) -> Meaning
     ensures { λ r. ⌜ told r ≡ meaningLater 1 5 (now (w .entry)) ⌝ }
 {
-    if is_short(w, 16, 1) {
-        return of(16);
+    if is_short(w, 18, 1) {
+        return of(18);
     }
-    if is_short(w, 20, 1) {
-        return of(20);
+    if is_short(w, 22, 1) {
+        return of(22);
     }
-    if is_short(w, 23, 1) {
-        return of(23);
+    if is_short(w, 25, 1) {
+        return of(25);
     }
     Meaning::Nothing
 }
@@ -346,17 +368,17 @@ fn letters_1(w: &[u8]) -> Meaning
     if is_short(w, 0, 1) {
         return of(0);
     }
-    if is_short(w, 1, 1) {
-        return of(1);
-    }
-    if is_short(w, 6, 1) {
-        return of(6);
+    if is_short(w, 3, 1) {
+        return of(3);
     }
     if is_short(w, 8, 1) {
         return of(8);
     }
-    if is_short(w, 9, 1) {
-        return of(9);
+    if is_short(w, 10, 1) {
+        return of(10);
+    }
+    if is_short(w, 11, 1) {
+        return of(11);
     }
     letters_1_from_5(w)
 }
@@ -392,6 +414,9 @@ pub fn meaning_of(w: &[u8]) -> Meaning
     }
     if n == 9 {
         return letters_9(w);
+    }
+    if n == 10 {
+        return letters_10(w);
     }
     if n == 11 {
         return letters_11(w);

@@ -14,10 +14,10 @@ use Rattle.base.specs.Bytes.{text, _then_}
 use Rattle.base.specs.Out.{Appended}
 use Rattle.base.proofs.OutLaws.{_▸_, none, take-put}
 use Rattle.base.proofs.PickLaws.{pick-ind}
-use Rattle.megaco.specs.Reply.{nothing, Report, done, refused, triedText, separator, codeText, reportsText}
+use Rattle.megaco.specs.Reply.{Report, refused, triedText, detailText, separator, codeText, reportsText}
 use Rattle.report.specs.Rows.{firstAfter}
-use Rattle.report.proofs.ReportLaws.{reports-split, refused-is, done-is}
-use Rattle.megaco.specs.Running.{Outcome, outcome, effect, concluded, judge, checks, changes, settled, numberOf, look, tries, wanted, matchesFrom, matches, aimMatches, missed, aimed}
+use Rattle.report.proofs.ReportLaws.{reports-split, refused-is, told-is, done-is}
+use Rattle.megaco.specs.Running.{Outcome, outcome, effect, concluded, judge, checks, changes, settled, told, numberOf, look, tries, wanted, matchesFrom, matches, aimMatches, missed, aimed}
 use Rattle.megaco.specs.Table.{mostLines, terminations, fitted, Sized, contextWords, exists, apply}
 use Rattle.megaco.specs.State.{State, state, wrote}
 use Rattle.megaco.specs.Names.{inRange, nameText}
@@ -155,12 +155,13 @@ module _ (op : Op) (wild : Bool) (name : List ℕ) (given : ℕ) (vs : Values) (
   unfolding tries effect
   tries-one e f = rw (← e, ← f)
 
-  pub attempt-does : (t′ o′ : List ℕ) (n : ℕ) (c : Context) → v ≡ look at i t → x ≡ judge (checks op at v) → x ≡ Passes
-      → t′ ≡ apply (changes op at given i vs v) t → Appended o p (separator first then triedText op (nameText (v .lines) i)) o′ n → c ≡ settled at v
+  pub attempt-does : (t′ o₁ o′ : List ℕ) (q n : ℕ) (c : Context) → v ≡ look at i t → x ≡ judge (checks op at v) → x ≡ Passes
+      → t′ ≡ apply (changes op at given i vs v) t → Appended o p (separator first then triedText op (nameText (v .lines) i)) o₁ q
+      → Appended o₁ q (detailText (told (vs .audited) (v .word))) o′ n → c ≡ settled at v
       → Did (tries op wild name given vs (i ∷ []) at (state t)) first o p (state t′) o′ (went n c true)
   unfolding concluded
-  attempt-does t′ o′ n c e f z g a s =
-      rw (tries-one e f ∙ ap comes z) (record { state = ap state g; text = done-is o p o o′ p n first op (nameText (v .lines) i) a; place = s; going = refl })
+  attempt-does t′ o₁ o′ q n c e f z g a b s =
+      rw (tries-one e f ∙ ap comes z) (record { state = ap state g; text = told-is o p o₁ o′ q n first op (nameText (v .lines) i) (told (vs .audited) (v .word)) a b; place = s; going = refl })
 
   pub attempt-fails : (code : ℕ) (o′ : List ℕ) (n : ℕ) → v ≡ look at i t → x ≡ judge (checks op at v) → x ≡ Fails code
       → Appended o p (reportsText first (refused op (shown (v .lines) wild i name) code ∷ [])) o′ n

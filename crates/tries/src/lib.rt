@@ -116,7 +116,8 @@ fn try_one(
     match checked {
         Checked::Passes => {
             attempt::change(table, op, at, turn.given, i, values, view);
-            let n = put_full(out, turn, op, view.lines, i);
+            let p = put_full(out, turn, op, view.lines, i);
+            let n = report::put_told(out, p, values.audited, view.word);
             let c = attempt::settled(at, view);
             Went {
                 next: n,

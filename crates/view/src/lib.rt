@@ -86,6 +86,7 @@ fn is_wanted(op: Op, c: u32, word: u32) -> bool
         Op::Modify => word == c,
         Op::Subtract => word == c,
         Op::Move => (word != 0) & (word != c),
+        Op::AuditValue => word == c,
     }
 }
 

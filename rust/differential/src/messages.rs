@@ -16,17 +16,20 @@ const DOMAIN: &[u8] = b"abcXYZ0123456789-.";
 
 type Forms = (&'static [u8], &'static [u8]);
 
-const COMMANDS: [Forms; 4] = [
+const COMMANDS: [Forms; 5] = [
     (b"Add", b"A"),
     (b"Modify", b"MF"),
     (b"Subtract", b"S"),
     (b"Move", b"MV"),
+    (b"AuditValue", b"AV"),
 ];
 /// Places in `COMMANDS`.
 const ADD: usize = 0;
 const MODIFY: usize = 1;
 const SUBTRACT: usize = 2;
 const MOVE: usize = 3;
+const AUDIT_VALUE: usize = 4;
+const AUDIT: Forms = (b"Audit", b"AT");
 const MEDIA: Forms = (b"Media", b"M");
 const LOCAL_CONTROL: Forms = (b"LocalControl", b"O");
 const TERMINATION_STATE: Forms = (b"TerminationState", b"TS");
@@ -47,12 +50,13 @@ const MODES: &[Forms] = VALUES.split_at(5).0;
 const STATES: &[Forms] = VALUES.split_at(5).1;
 
 /// Words that stand in the wrong place now and then.
-const OTHERS: [Forms; 10] = [
+const OTHERS: [Forms; 11] = [
     MEDIA,
     LOCAL_CONTROL,
     TERMINATION_STATE,
     MODE,
     SERVICE_STATES,
+    AUDIT,
     (b"Signals", b"SG"),
     (b"AuditValue", b"AV"),
     (b"Notify", b"N"),
@@ -425,8 +429,9 @@ impl<'a> Writer<'a> {
         if self.numbers.one_in(150) {
             self.letters(b"W-");
         }
-        // In null only a Modify is no action error.
+        // In null only a Modify and an AuditValue are no action error.
         let kind = match self.null && !self.numbers.one_in(8) {
+            true if self.numbers.one_in(3) => AUDIT_VALUE,
             true => MODIFY,
             false => self.numbers.under(COMMANDS.len()),
         };
@@ -445,9 +450,11 @@ impl<'a> Writer<'a> {
                 self.sign(b'}');
             }
             1 => self.media(),
+            2..=30 if kind == AUDIT_VALUE => self.audit(),
             // Items do not suit a Subtract.
-            2..=8 if kind != SUBTRACT => self.media(),
-            9..=24 if kind == MODIFY => self.media(),
+            2 => self.audit(),
+            3..=9 if kind != SUBTRACT => self.media(),
+            10..=24 if kind == MODIFY => self.media(),
             _ => {}
         }
     }
@@ -514,7 +521,7 @@ impl<'a> Writer<'a> {
     }
 
     /// A termination that the command can succeed with, if there is one: Add
-    /// one in null, Modify and Subtract one of the action's context,
+    /// one in null, Modify, Subtract and AuditValue one of the action's context,
     /// Move one of another context.
     fn suited(&mut self, kind: usize) -> usize {
         let here = self.context;
@@ -524,7 +531,7 @@ impl<'a> Writer<'a> {
             let stands_in = self.table.get(**termination).copied().unwrap_or(0);
             match kind {
                 ADD => stands_in == 0,
-                MODIFY | SUBTRACT => stands_in == here,
+                MODIFY | SUBTRACT | AUDIT_VALUE => stands_in == here,
                 _ => stands_in != 0 && stands_in != here,
             }
         };
@@ -539,18 +546,21 @@ impl<'a> Writer<'a> {
         self.faults > 0 && self.numbers.one_in(self.faults)
     }
 
-    /// The keyword of an item, or another in its place.
-    fn item_word(&mut self, forms: Forms) {
-        let forms = if self.off() {
+    /// The keyword of an item, or another in its place. Whether it is the keyword and no `/` stands behind it.
+    fn item_word(&mut self, forms: Forms) -> bool {
+        let other = self.off();
+        let forms = if other {
             self.numbers.pick(&OTHERS)
         } else {
             forms
         };
         self.keyword(forms);
-        if self.off() {
+        let second = self.off();
+        if second {
             self.bytes.push(b'/');
             self.word(2);
         }
+        !other && !second
     }
 
     /// `{..}` with Media.
@@ -569,6 +579,37 @@ impl<'a> Writer<'a> {
         if self.off() {
             self.sign(b',');
             self.item_word(MEDIA);
+        }
+        self.sign(b'}');
+    }
+
+    /// `{..}` with Audit, which is empty or holds Media.
+    fn audit(&mut self) {
+        self.sign(b'{');
+        // Empty braces read behind Audit alone.
+        let may_be_empty = self.item_word(AUDIT);
+        if self.off() {
+            self.sign(b'=');
+            self.value();
+        }
+        if !self.off() {
+            self.sign(b'{');
+            if !may_be_empty || self.numbers.one_in(2) {
+                self.item_word(MEDIA);
+                if self.off() {
+                    self.sign(b'=');
+                    self.value();
+                }
+                if self.off() {
+                    self.sign(b',');
+                    self.item_word(MEDIA);
+                }
+            }
+            self.sign(b'}');
+        }
+        if self.off() {
+            self.sign(b',');
+            self.item_word(AUDIT);
         }
         self.sign(b'}');
     }

@@ -371,13 +371,13 @@ fn an_order_that_counts_is_found() {
 #[test]
 fn most_pairs_are_apart() {
     let mut numbers = Numbers::new(3);
-    let pairs: Vec<Pair> = (0..2_000).map(|_| Pair::new(&mut numbers)).collect();
+    let pairs: Vec<Pair> = (0..4_000).map(|_| Pair::new(&mut numbers)).collect();
     let apart: Vec<&Pair> = pairs.iter().filter(|pair| pair.is_apart()).collect();
     let both: Vec<BothChange> = apart
         .iter()
         .filter_map(|pair| pair.run(reference_word).ok())
         .collect();
-    assert!(apart.len() > 1_600, "{} of 2,000", apart.len());
+    assert!(apart.len() > 3_200, "{} of 4,000", apart.len());
     assert!(both.iter().filter(|both| both.table).count() > 200);
     assert!(both.iter().filter(|both| both.map).count() > 20);
 }

@@ -6,7 +6,7 @@
 //! length must stay.
 
 use crate::run::Kind;
-use crate::table::{write_name, write_number, Lines, Record};
+use crate::table::{write_name, write_number, Lines, Record, MODES, STATES};
 use crate::text::ContextId;
 
 /// "If `P=id{..}` would pass 2,048 bytes it becomes `P=id{ER=533{}}`"
@@ -96,17 +96,25 @@ impl Reply {
         self.measure();
     }
 
-    /// An attempt that succeeded: "the short keyword, `=` and name".
-    pub fn done(&mut self, kind: Kind, termination: usize) {
+    /// An attempt that succeeded: "the short keyword, `=` and name", and the
+    /// state and the mode where they were audited.
+    pub fn done(&mut self, kind: Kind, termination: usize, held: Option<(u32, u32)>) {
         if self.open_attempt(kind) {
             write_name(self.lines, termination, &mut self.bytes);
+            if let Some((state, mode)) = held {
+                self.bytes.extend_from_slice(b"{M{TS{SI=");
+                self.bytes.extend_from_slice(STATES[state as usize].1);
+                self.bytes.extend_from_slice(b"},O{MO=");
+                self.bytes.extend_from_slice(MODES[mode as usize].1);
+                self.bytes.extend_from_slice(b"}}}");
+            }
             self.measure();
         }
     }
 
-    /// A Modify of ROOT that succeeded.
-    pub fn done_root(&mut self) {
-        if self.open_attempt(Kind::Modify) {
+    /// A Modify or an AuditValue of ROOT that succeeded.
+    pub fn done_root(&mut self, kind: Kind) {
+        if self.open_attempt(kind) {
             self.bytes.extend_from_slice(b"ROOT");
             self.measure();
         }

@@ -14,6 +14,7 @@ pub enum Kind {
     Modify,
     Subtract,
     Move,
+    AuditValue,
 }
 
 impl Kind {
@@ -26,6 +27,8 @@ impl Kind {
             Some(Kind::Subtract)
         } else if keyword(word, b"Move", b"MV") {
             Some(Kind::Move)
+        } else if keyword(word, b"AuditValue", b"AV") {
+            Some(Kind::AuditValue)
         } else {
             None
         }
@@ -38,6 +41,7 @@ impl Kind {
             Kind::Modify => b"MF",
             Kind::Subtract => b"S",
             Kind::Move => b"MV",
+            Kind::AuditValue => b"AV",
         }
     }
 }
@@ -79,6 +83,13 @@ enum Subject {
     Termination(usize),
     /// The terminations in `Runner::matches`.
     Matches,
+}
+
+/// What a command's items ask: the values to set, and whether Media is audited.
+#[derive(Clone, Copy, Default)]
+struct Request {
+    values: Values,
+    media: bool,
 }
 
 /// The code of an error.
@@ -174,7 +185,9 @@ impl Runner<'_, '_> {
                 return Break(());
             }
         };
-        if matches!(target, Target::Null) && kind != Kind::Modify {
+        // "Tests and wildcards are as for Modify" (document 02, AuditValue).
+        let stays = matches!(kind, Kind::Modify | Kind::AuditValue);
+        if matches!(target, Target::Null) && !stays {
             self.reply.action_error(421);
             return Break(());
         }
@@ -187,7 +200,7 @@ impl Runner<'_, '_> {
 
     /// Makes and reports a command's attempts; tells whether all succeeded.
     fn attempts(&mut self, kind: Kind, command: &Command, target: &mut Target) -> bool {
-        let (subject, values) = match self.judge(kind, command, *target) {
+        let (subject, request) = match self.judge(kind, command, *target) {
             Ok(judged) => judged,
             Err(code) => {
                 self.reply.failed(kind, command.termination, code);
@@ -196,13 +209,13 @@ impl Runner<'_, '_> {
         };
         match subject {
             Subject::Root => {
-                self.reply.done_root();
+                self.reply.done_root(kind);
                 true
             }
             Subject::Termination(termination) => {
-                let outcome = self.attempt(kind, termination, values, target);
+                let outcome = self.attempt(kind, termination, request.values, target);
                 match outcome {
-                    Ok(()) => self.reply.done(kind, termination),
+                    Ok(()) => self.done(kind, termination, request),
                     Err(code) => self.reply.failed(kind, command.termination, code),
                 }
                 outcome.is_ok()
@@ -211,8 +224,8 @@ impl Runner<'_, '_> {
                 let mut all = true;
                 for place in 0..self.matches.len() {
                     let termination = self.matches[place];
-                    match self.attempt(kind, termination, values, target) {
-                        Ok(()) => self.reply.done(kind, termination),
+                    match self.attempt(kind, termination, request.values, target) {
+                        Ok(()) => self.done(kind, termination, request),
                         Err(code) => {
                             self.reply.failed_match(kind, termination, code);
                             all = false;
@@ -224,31 +237,43 @@ impl Runner<'_, '_> {
         }
     }
 
+    /// Reports a success. "`AV=L/1/1{AT{M}}` returns
+    /// `AV=L/1/1{M{TS{SI=IV},O{MO=IN}}}` with the values held".
+    fn done(&mut self, kind: Kind, termination: usize, request: Request) {
+        let held = request.media.then(|| self.table.values_of(termination));
+        self.reply.done(kind, termination, held);
+    }
+
     /// Tests 2 to 4 of a command.
     fn judge(
         &mut self,
         kind: Kind,
         command: &Command,
         target: Target,
-    ) -> Result<(Subject, Values), Code> {
+    ) -> Result<(Subject, Request), Code> {
         // "411: the context does not exist now .., or `$` not yet a number for
         // Modify and Subtract"
         match target {
             Target::Number(number) if self.table.context(number).is_none() => return Err(411),
-            Target::Choose(_) if matches!(kind, Kind::Modify | Kind::Subtract) => return Err(411),
+            Target::Choose(_) if !matches!(kind, Kind::Add | Kind::Move) => return Err(411),
             _ => {}
         }
-        let values = if kind != Kind::Subtract {
-            judge_items(&command.items)?
-        } else if command.items.is_empty() {
-            Values::default()
-        } else {
-            return Err(447);
+        let mut request = Request::default();
+        match kind {
+            Kind::Subtract if command.items.is_empty() => {}
+            Kind::Subtract => return Err(447),
+            Kind::AuditValue => request.media = judge_audit(&command.items)?,
+            Kind::Add | Kind::Modify | Kind::Move => request.values = judge_items(&command.items)?,
+        }
+        // "ROOT in `-` may have empty braces", "447 for ROOT with Media"
+        let bars_root = match kind {
+            Kind::AuditValue => request.media,
+            _ => !command.items.is_empty(),
         };
         let subject = match Name::of(self.table.lines(), command.termination) {
-            Name::Root if kind != Kind::Modify => return Err(410),
+            Name::Root if !matches!(kind, Kind::Modify | Kind::AuditValue) => return Err(410),
             Name::Root if !matches!(target, Target::Null) => return Err(435),
-            Name::Root if !command.items.is_empty() => return Err(447),
+            Name::Root if bars_root => return Err(447),
             Name::Root => Subject::Root,
             Name::Choose | Name::BadChoose if kind != Kind::Add => return Err(410),
             Name::BadChoose => return Err(432),
@@ -268,7 +293,7 @@ impl Runner<'_, '_> {
             }
             Name::Termination(_) | Name::Unknown => return Err(430),
         };
-        Ok((subject, values))
+        Ok((subject, request))
     }
 
     /// "The matches are fixed before the first attempt and tried in ascending
@@ -277,7 +302,8 @@ impl Runner<'_, '_> {
     fn find_matches(&mut self, kind: Kind, range: Range<usize>, target: Target) {
         let target = target.number();
         // Of the terminations in null, the lines alone exist.
-        let in_null = kind == Kind::Add || (kind == Kind::Modify && target == 0);
+        let stays = matches!(kind, Kind::Modify | Kind::AuditValue);
+        let in_null = kind == Kind::Add || (stays && target == 0);
         let end = if in_null {
             range.end.min(self.table.lines().line_terminations())
         } else {
@@ -288,7 +314,7 @@ impl Runner<'_, '_> {
         self.matches.clear();
         match kind {
             Kind::Add => keep(&mut self.matches, numbered, |context| context == 0),
-            Kind::Modify | Kind::Subtract => {
+            Kind::Modify | Kind::Subtract | Kind::AuditValue => {
                 keep(&mut self.matches, numbered, |context| context == target)
             }
             Kind::Move => keep(&mut self.matches, numbered, |context| {
@@ -310,7 +336,7 @@ impl Runner<'_, '_> {
         let here = target.number() as usize;
         match kind {
             Kind::Add if from != 0 => return Err(433),
-            Kind::Modify | Kind::Subtract if from != here => return Err(435),
+            Kind::Modify | Kind::Subtract | Kind::AuditValue if from != here => return Err(435),
             Kind::Move if from == 0 => return Err(435),
             Kind::Move if from == here => return Err(433),
             // "Judge the state held before the command's own items. Test state
@@ -324,6 +350,8 @@ impl Runner<'_, '_> {
                 self.table.subtract(termination);
                 return Ok(());
             }
+            // "The table stays."
+            Kind::AuditValue => return Ok(()),
             Kind::Modify => {}
             Kind::Add | Kind::Move => {
                 // Judged before a Move leaves, so that the number of the
@@ -386,6 +414,38 @@ fn judge_items(items: &[Item]) -> Result<Values, Code> {
         judge_media(&item.items, &mut values)?;
     }
     Ok(values)
+}
+
+/// Test 3 for AuditValue; tells whether Media is audited. "447 for any item on
+/// AV but Audit; 448 for a second Audit or Media; 442 for Audit with a value or
+/// without braces, and Media with either; 444 for any audited item but Media;
+/// 442 for no Audit, last."
+fn judge_audit(items: &[Item]) -> Result<bool, Code> {
+    let mut audit = false;
+    let mut media = false;
+    for item in items {
+        if !names(item, b"Audit", b"AT") {
+            return Err(447);
+        }
+        once(&mut audit)?;
+        if item.value.is_some() || !item.braces {
+            return Err(442);
+        }
+        for audited in &item.items {
+            if !names(audited, b"Media", b"M") {
+                return Err(444);
+            }
+            once(&mut media)?;
+            if audited.value.is_some() || audited.braces {
+                return Err(442);
+            }
+        }
+    }
+    if audit {
+        Ok(media)
+    } else {
+        Err(442)
+    }
 }
 
 fn judge_media(items: &[Item], values: &mut Values) -> Result<(), Code> {

@@ -264,6 +264,12 @@ impl<'t> Table<'t> {
         self.words[self.lines.properties() + termination] / 8
     }
 
+    /// The service state and the mode held.
+    pub fn values_of(&self, termination: usize) -> (u32, u32) {
+        let property = self.words[self.lines.properties() + termination];
+        (property / 8, property % 8)
+    }
+
     /// Sets the property values given and keeps the others.
     pub fn set_values(&mut self, termination: usize, values: Values) {
         let property = &mut self.words[self.lines.properties() + termination];
@@ -285,25 +291,29 @@ impl<'t> Table<'t> {
     }
 }
 
+/// The long and the short form of each mode, by its number.
+pub const MODES: [(&[u8], &[u8]); 5] = [
+    (b"Inactive", b"IN"),
+    (b"SendOnly", b"SO"),
+    (b"ReceiveOnly", b"RC"),
+    (b"SendReceive", b"SR"),
+    (b"Loopback", b"LB"),
+];
+
+/// The long and the short form of each service state, by its number.
+pub const STATES: [(&[u8], &[u8]); 3] = [
+    (b"InService", b"IV"),
+    (b"OutOfService", b"OS"),
+    (b"Test", b"TE"),
+];
+
 /// The mode a value names.
 pub fn mode(value: &[u8]) -> Option<u32> {
-    const MODES: [(&[u8], &[u8]); 5] = [
-        (b"Inactive", b"IN"),
-        (b"SendOnly", b"SO"),
-        (b"ReceiveOnly", b"RC"),
-        (b"SendReceive", b"SR"),
-        (b"Loopback", b"LB"),
-    ];
     place(value, &MODES)
 }
 
 /// The service state a value names.
 pub fn state(value: &[u8]) -> Option<u32> {
-    const STATES: [(&[u8], &[u8]); 3] = [
-        (b"InService", b"IV"),
-        (b"OutOfService", b"OS"),
-        (b"Test", b"TE"),
-    ];
     place(value, &STATES)
 }
 

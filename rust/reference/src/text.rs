@@ -55,7 +55,8 @@ pub struct Item<'m> {
     /// The word after `/`.
     pub second: Option<&'m [u8]>,
     pub value: Option<Value<'m>>,
-    /// Empty for an item without braces, as empty braces are a fault.
+    /// Whether it has braces: those of Audit may be empty.
+    pub braces: bool,
     pub items: Vec<Item<'m>>,
 }
 
@@ -522,13 +523,37 @@ impl<'m> Reader<'m> {
         } else {
             None
         };
-        let items = self.braces(levels - 1)?;
+        self.white()?;
+        let braces = self.peek() == Some(b'{');
+        // "Audit/AT may have empty braces, at level 1 of any command, document
+        // 01's one exception"
+        let audit = levels == LEVELS && second.is_none() && keyword(word, b"Audit", b"AT");
+        let items = if audit && self.empty_braces()? {
+            Vec::new()
+        } else {
+            self.braces(levels - 1)?
+        };
         Ok(Item {
             word,
             second,
             value,
+            braces,
             items,
         })
+    }
+
+    /// Takes braces with nothing but white space inside, if such stand here.
+    fn empty_braces(&mut self) -> Reads<bool> {
+        let start = self.at;
+        if !self.take(b'{') {
+            return Ok(false);
+        }
+        self.white()?;
+        if self.take(b'}') {
+            return Ok(true);
+        }
+        self.at = start;
+        Ok(false)
     }
 
     /// "1 to 64 SafeChar (Annex B), or a quoted string with 0 to 64 of

@@ -1,5 +1,5 @@
 use borrow.Author.Needs.{needs}
-use Rattle.megaco.specs.Items.{isSubtract}
+use Rattle.megaco.specs.Running.{isSubtract}
 use Rattle.aims.proofs.is_subtract.Statement.{statement}
 use Rattle.aims.proofs.is_subtract.Tie as tie
 
@@ -11,7 +11,9 @@ is-subtract-spec =
     (λ c. search needs)
     (λ c. search needs)
     (λ c. search needs)
+    (λ c. search needs)
     (λ c. unfold isSubtract in rw (c .enum-told .given .1))
     (λ c. unfold isSubtract in rw (c .enum-told2 .given .1))
     (λ c. unfold isSubtract in rw (c .enum-told3 .given .1))
-    (λ c. unfold isSubtract in rw (c .enum-told4 .given .1)))
+    (λ c. unfold isSubtract in rw (c .enum-told4 .given .1))
+    (λ c. unfold isSubtract in rw (c .enum-told5 .given .1)))

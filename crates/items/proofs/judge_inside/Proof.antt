@@ -1,6 +1,5 @@
 use borrow.Author.Needs.{needs}
-use mathlib.Core.Path.{refl}
-use Rattle.items.proofs.CallLaws.{known-by, known-wrong, closed-judged, closed-known, judge-subtract, judge-all, judge-none, judge-known, judge-end}
+use Rattle.items.proofs.CallLaws.{of-add, of-modify, of-subtract, of-move, of-audit}
 use Rattle.items.proofs.judge_inside.Statement.{statement}
 use Rattle.items.proofs.judge_inside.Tie as tie
 
@@ -8,9 +7,18 @@ pub judge-inside-spec : {M : Type 1} → statement M
 judge-inside-spec =
     tie.close
     (tie.spec
+    (λ c. search needs)
     (λ c κs. search needs)
-    (λ c. (search judge-subtract, known-wrong _ _ 447 refl))
+    (λ c. search needs)
     (λ c κs. search needs)
+    (λ c. search needs)
     (λ c κs. search needs)
-    (λ c. (search (judge-all, closed-judged), search (judge-known, closed-known)))
-    (λ c. (search judge-none, known-by _ _ (search judge-end))))
+    (λ c. search needs)
+    (λ c κs. search needs)
+    (λ c. search needs)
+    (λ c κs. search needs)
+    (λ c. (search of-add, search needs))
+    (λ c. (search of-modify, search needs))
+    (λ c. (search of-subtract, search needs))
+    (λ c. (search of-move, search needs))
+    (λ c. (search of-audit, search needs)))

@@ -16,7 +16,7 @@ use Rattle.items.proofs.media_items.Tie as tie
 abbrev Inv-loop : tie.InvT-loop
 Inv-loop s at i₀ n₀ stood₀ vs₀ i n stood vs =
     (mediaItems (itemsAt 7 s at .tree) false false vs₀ ≡ judgeAll mediaAll stoodNext (levelLeft 6 s n i) stood vs)
-    × (itemsAt 7 s at .end ≡ listEnd (λ j. itemAt (itemsAt 6 s) s j .end) s (length s + 1 - n) i)
+    × (itemsAt 7 s at .end ≡ listEnd (λ j. itemAt 6 (itemsAt 6 s) s j .end) s (length s + 1 - n) i)
 
 abbrev μ-loop : tie.MeasureT-loop
 μ-loop s at i₀ n₀ stood₀ vs₀ i n stood vs = length s + 1 - n

@@ -16,7 +16,7 @@ use Rattle.items.proofs.property_items.Tie as tie
 abbrev Inv-loop : tie.InvT-loop
 Inv-loop s at k i₀ n₀ seen₀ vs₀ i n seen vs =
     (propertyItems k (itemsAt 6 s at .tree) false vs₀ ≡ judgeAll (propertyItems k) stands (levelLeft 5 s n i) seen vs)
-    × (itemsAt 6 s at .end ≡ listEnd (λ j. itemAt (itemsAt 5 s) s j .end) s (length s + 1 - n) i)
+    × (itemsAt 6 s at .end ≡ listEnd (λ j. itemAt 5 (itemsAt 5 s) s j .end) s (length s + 1 - n) i)
 
 abbrev μ-loop : tie.MeasureT-loop
 μ-loop s at k i₀ n₀ seen₀ vs₀ i n seen vs = length s + 1 - n

@@ -16,7 +16,7 @@ use Rattle.items.proofs.top_items.Tie as tie
 abbrev Inv-loop : tie.InvT-loop
 Inv-loop s at i₀ n₀ seen₀ vs₀ i n seen vs =
     (topItems (itemsAt 8 s at .tree) false vs₀ ≡ judgeAll topItems stands (levelLeft 7 s n i) seen vs)
-    × (itemsAt 8 s at .end ≡ listEnd (λ j. itemAt (itemsAt 7 s) s j .end) s (length s + 1 - n) i)
+    × (itemsAt 8 s at .end ≡ listEnd (λ j. itemAt 7 (itemsAt 7 s) s j .end) s (length s + 1 - n) i)
 
 abbrev μ-loop : tie.MeasureT-loop
 μ-loop s at i₀ n₀ seen₀ vs₀ i n seen vs = length s + 1 - n

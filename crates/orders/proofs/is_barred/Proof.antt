@@ -9,4 +9,4 @@ is-barred-spec =
     (tie.spec
     (λ c κs. search needs)
     (λ c κs. search needs)
-    (λ c. unfold barred in rw (c .before .is-null .ensures, c .is-modify .ensures)))
+    (λ c. unfold barred in rw (c .before .is-null .ensures, c .in-place .ensures)))

@@ -15,5 +15,5 @@ is-lost-spec =
     (λ c. search needs)
     (λ c. unfold lost in rw (c .enum-told .given .1))
     (λ c. unfold lost in rw (c .enum-told2 .given .1))
-    (λ c. unfold lost in rw (c .before .before .enum-told3 .given .1, c .before .is-modify .ensures, c .is-subtract .ensures))
+    (λ c. unfold lost in rw (c .before .before .enum-told3 .given .1, c .before .in-place .ensures, c .is-subtract .ensures))
     (λ c. unfold lost in rw (c .enum-told4 .given .1)))

@@ -8,7 +8,7 @@ use borrow.Fn.Kinds.{In}
 use borrow.Fn.PlainCycle.{Measures, is, falls, and}
 use Rattle.syntax.specs.Production.{listEnd}
 use Rattle.syntax.specs.Places.{itemAt, itemsAt}
-use Rattle.parts.proofs.PlaceLaws.{item-braced, item-plain}
+use Rattle.parts.proofs.PlaceLaws.{item-empty, item-braced, item-plain}
 use Rattle.parts.proofs.EndLaws.{all-end-none, all-end-last, all-end-more, items-end-none, items-end-start, item-falls, items-falls}
 use Rattle.parts.proofs.item_end.Reads as item-end
 use Rattle.parts.proofs.item_end.Kinds as item-end-kinds
@@ -19,6 +19,7 @@ use Rattle.parts.proofs.+item_end+items_end.Lts-items_end as items-end-
 use Rattle.parts.proofs.item_places.Reads as item-places-reads
 use Rattle.parts.proofs.past_closing.Reads as past-closing-reads
 use Rattle.parts.proofs.past_comma.Reads as past-comma-reads
+use Rattle.syntax.proofs.empty_here.Reads as empty-here-reads
 use Rattle.text.proofs.is_at.Reads as is-at-reads
 use Rattle.parts.proofs.+item_end+items_end.{statement}
 use Rattle.parts.proofs.+item_end+items_end.Tie.{close}
@@ -42,7 +43,7 @@ abbrev items-end-below : ℕ → In 1 items-end-kinds.ps
 items-end-below t = and 1 items-end-kinds.ps (falls 1 items-end-kinds.ps _<_ μ-items-end t) items-end.Pre
 
 abbrev Inv-loop : items-end-lts.InvT-loop
-Inv-loop s left at i₀ n₀ i n = itemsAt left s at .end ≡ listEnd (λ j. itemAt (itemsAt (left - 1) s) s j .end) s (length s + 1 - n) i
+Inv-loop s left at i₀ n₀ i n = itemsAt left s at .end ≡ listEnd (λ j. itemAt (left - 1) (itemsAt (left - 1) s) s j .end) s (length s + 1 - n) i
 
 abbrev μ-loop : items-end-lts.MeasureT-loop
 μ-loop s left at i₀ n₀ i n = length s + 1 - n
@@ -51,10 +52,13 @@ pub +item-end+items-end-spec : {M : Type 1} → statement M
 +item-end+items-end-spec =
     close μ-item-end μ-items-end
     (λ t. item-end-lts.spec
-    (item-places-reads.Asked, item-places-reads.Learnt, items-end-below t, items-end.Post, past-closing-reads.Asked, past-closing-reads.Learnt)
+    (item-places-reads.Asked, item-places-reads.Learnt, empty-here-reads.Asked, empty-here-reads.Learnt, past-closing-reads.Asked, past-closing-reads.Learnt, items-end-below t, items-end.Post)
     (item-end-at t)
     item-end.Post
     (λ c κs. search needs)
+    (λ c κs. search needs)
+    (λ c κs. search needs)
+    (λ c. search item-empty)
     (λ c κs. (search item-falls, tt))
     (λ c κs. search needs)
     (λ c. search item-braced)

@@ -7,8 +7,9 @@ use lib.ListN.{length}
 use borrow.Fn.Kinds.{In}
 use borrow.Fn.PlainCycle.{Measures, is, falls, and}
 use Rattle.syntax.specs.Places.{bracesAt, itemAt, itemsAt}
+use Rattle.syntax.proofs.empty_here.Reads as empty-here-reads
 use Rattle.syntax.proofs.ListLaws.{steps, goes-fault, goes-last, goes-cut}
-use Rattle.syntax.proofs.ItemLaws.{GoesOn, items-level, braces-deep, item-falls, braces-falls, items-start, items-falls, items-less, items-past, items-more}
+use Rattle.syntax.proofs.ItemLaws.{GoesOn, items-level, braces-empty, braces-deep, item-falls, braces-falls, items-start, items-falls, items-less, items-past, items-more}
 use Rattle.syntax.proofs.braced_items.Reads as braced-items
 use Rattle.syntax.proofs.braced_items.Kinds as braced-items-kinds
 use Rattle.syntax.proofs.+braced_items+item+items.Lts-braced_items as braced-items-lts
@@ -26,7 +27,7 @@ use Rattle.syntax.proofs.+braced_items+item+items.{statement}
 use Rattle.syntax.proofs.+braced_items+item+items.Tie.{close}
 
 abbrev μ-braced-items : Measures 1 braced-items-kinds.ps ℕ
-μ-braced-items κs a = 3 * (a .1 .0 + (length (a .0 .now) - a .1 .1 .0))
+μ-braced-items κs a = 3 * (a .1 .0 + (length (a .0 .now) - a .1 .1 .1 .0))
 
 abbrev μ-item : Measures 1 item-kinds.ps ℕ
 μ-item κs a = 3 * (a .1 .0 + (length (a .0 .now) - a .1 .1 .0)) + 1
@@ -62,7 +63,7 @@ pub +braced-items+item+items-spec : {M : Type 1} → statement M
 +braced-items+item+items-spec =
     close μ-braced-items μ-item μ-items
     (λ t. braced-items-lts.spec
-    (is-at-reads.Asked, is-at-reads.Learnt, white-reads.Asked, white-reads.Learnt, items-below t, items.Post, sign-reads.Asked, sign-reads.Learnt)
+    (is-at-reads.Asked, is-at-reads.Learnt, white-reads.Asked, white-reads.Learnt, empty-here-reads.Asked, empty-here-reads.Learnt, sign-reads.Asked, sign-reads.Learnt, items-below t, items.Post)
     (braced-items-at t)
     braced-items.Post
     (λ c κs. search needs)
@@ -72,6 +73,9 @@ pub +braced-items+item+items-spec : {M : Type 1} → statement M
     (λ c. search needs)
     (λ c. search needs)
     (λ c. unfold bracesAt in search steps depth 9)
+    (λ c κs. search needs)
+    (λ c κs. search needs)
+    (λ c. search braces-empty)
     (λ c. search needs)
     (λ c κs. (search braces-falls, tt))
     (λ c. search needs)

@@ -1,5 +1,6 @@
 use Rattle.syntax.specs.Places.{commandAt}
 use Rattle.syntax.proofs.ListLaws.{steps}
+use Rattle.syntax.proofs.ItemLaws.{braces-own}
 use borrow.Author.Needs.{needs}
 use Rattle.syntax.proofs.command.Statement.{statement}
 use Rattle.syntax.proofs.command.Tie as tie
@@ -13,4 +14,4 @@ command-spec =
     (λ c. search needs)
     (λ c. unfold commandAt in search steps depth 9)
     (λ c κs. search needs)
-    (λ c. unfold commandAt in search steps depth 9))
+    (λ c. unfold commandAt in search (steps, braces-own) depth 9))

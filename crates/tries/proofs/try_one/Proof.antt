@@ -13,6 +13,7 @@ try-one-spec =
     (λ c κs. search needs)
     (λ c κs. search look-lines)
     (λ c κs. search needs)
+    (λ c κs. search needs)
     (λ c. search needs)
     (λ c κs. search look-lines)
     (λ c. search needs)

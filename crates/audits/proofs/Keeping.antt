@@ -1,0 +1,119 @@
+-- An audit leaves the state as it is.
+use Prim.Native.Nat.{ℕ}
+use mathlib.Core.Path.{_≡_, refl, sym, ap, _∙_, subst}
+use mathlib.Core.Bool.{Bool, true, false}
+use mathlib.Core.List.{List, [], _∷_}
+use mathlib.Core.Option.{Option, none, some}
+use Rattle.base.specs.Pick.{pick}
+use Rattle.base.proofs.TestLaws.{pick-of}
+use Rattle.megaco.specs.Tree.{Items, Command, command, Action, action, transaction}
+use Rattle.megaco.specs.Table.{Write, apply}
+use Rattle.megaco.specs.State.{State, wrote}
+use Rattle.megaco.specs.Reply.{Acted}
+use Rattle.megaco.specs.Running.{judge, checks, changes, seen, numberOf, look, concluded, effect, Effect, Outcome, tries, missed, actionError, Aim, misses, gateway, meets, aimed, opOf, barred, lost, named, tested, unlessOptional, ordered, runCommand, startChecks, startWrites, anyGiven, over15, startedBy, started, Step, start, order, orders, noCommands, steps, Course, course, begin, advance, proceed, step, run, fresh, runTransaction}
+use Rattle.megaco.specs.declared.Context.{Context}
+use Rattle.megaco.specs.declared.Context.the-variants.{Null, Numbered, Choose, All}
+use Rattle.megaco.specs.declared.Op.{Op}
+use Rattle.megaco.specs.declared.Op.the-variants.{AuditValue}
+use Rattle.megaco.specs.declared.Judged.{Judged}
+use Rattle.megaco.specs.declared.Judged.the-variants.{Wrong, Right}
+use Rattle.megaco.specs.declared.Checked.{Checked}
+use Rattle.megaco.specs.declared.Checked.the-variants.{Passes, Fails}
+use Rattle.megaco.specs.declared.Values.{Values}
+use Rattle.megaco.specs.declared.Seen.{Seen}
+use Rattle.megaco.specs.declared.View.{View}
+use Rattle.audits.specs.Audits.{IsAudit, Stays, Audits, OnlyAudits, TransactionStays, no-more, more}
+
+-- ---- a command
+
+module _ (wild : Bool) (name : List ℕ) (given : ℕ) (vs : Values) where
+  no-writes : (i : ℕ) (at : Context) (v : View) → effect AuditValue wild name given vs i at v .writes ≡ []
+  unfolding effect concluded changes
+  no-writes i at v = by (judge (checks AuditValue at v))
+    where
+      by : (x : Checked) → concluded AuditValue wild name given vs i at v x .writes ≡ []
+      by Passes = refl
+      by (Fails code) = refl
+
+  pub effect-keeps : (i : ℕ) (at : Context) (st : State) → wrote (effect AuditValue wild name given vs i at (look at i (st .table)) .writes) st ≡ st
+  unfolding apply
+  effect-keeps i at st = ap (λ (ws : List Write). wrote ws st) (no-writes i at (look at i (st .table)))
+
+  tries-keep : (is : List ℕ) (at : Context) (st : State) → tries AuditValue wild name given vs is at st .state ≡ st
+  unfolding tries
+  tries-keep [] at st = refl
+  tries-keep (i ∷ is) at st = tries-keep is _ _ ∙ effect-keeps i at st
+
+aimed-keeps : (name : List ℕ) (given : ℕ) (vs : Values) (a : Aim) (at : Context) (st : State) → aimed AuditValue name given vs a at st .state ≡ st
+unfolding aimed missed
+aimed-keeps name given vs (misses code) at st = refl
+aimed-keeps name given vs gateway at st = refl
+aimed-keeps name given vs (meets wild is) at st = tries-keep wild name given vs is at st
+
+named-keeps : (name : List ℕ) (given : ℕ) (items : Bool) (j : Judged) (at : Context) (st : State) → named AuditValue name given items j at st .state ≡ st
+unfolding named missed
+named-keeps name given items (Wrong code) at st = refl
+named-keeps name given items (Right vs) at st = aimed-keeps name given vs _ at st
+
+ordered-keeps : (o : Bool) (name : List ℕ) (items : Items) (given : ℕ) (at : Context) (st : State) → ordered o (some AuditValue) name items given at st .state ≡ st
+unfolding ordered actionError unlessOptional tested missed
+ordered-keeps o name items given at st =
+    pick-of (λ (x : Outcome). x .state ≡ st) (barred AuditValue at) (λ _. refl)
+    (λ _. pick-of (λ (x : Outcome). x .state ≡ st) (lost AuditValue at (seen (numberOf at) (st .table) .held)) (λ _. refl) (λ _. named-keeps name given _ _ at st))
+
+pub stays : Stays
+unfolding runCommand
+stays (command o w word name items) e given at st =
+    subst (λ (op : Option Op). ordered o op name items given at st .state ≡ st) (sym e) (ordered-keeps o name items given at st)
+
+-- ---- a transaction
+
+-- an action's start without properties, and an audit
+data Still : List Step → Type 0 where
+  ends : Still []
+  starts : {c : Context} {alone : Bool} {ss : List Step} → Still ss → Still (start c [] alone ∷ ss)
+  audits : {c : Command} {ss : List Step} → IsAudit c → Still ss → Still (order c ∷ ss)
+
+still-start : (c : Context) (alone : Bool) (there : Seen) → started c [] alone there .writes ≡ []
+unfolding started startedBy startWrites anyGiven pick
+still-start c alone there = by c (judge (startChecks c [] alone there))
+  where
+    by : (d : Context) (x : Checked) → startedBy d [] alone there x .writes ≡ []
+    by Null Passes = refl
+    by (Numbered n) Passes = refl
+    by Choose Passes = refl
+    by All Passes = refl
+    by d (Fails code) = refl
+
+start-keeps : (c : Context) (alone : Bool) (st : State) (acts : List Acted) → proceed (start c [] alone) st acts .state ≡ st
+unfolding proceed begin apply
+start-keeps c alone st acts = ap (λ (ws : List Write). wrote ws st) (still-start c alone (seen (numberOf c) (st .table)))
+
+audit-keeps : (c : Command) → IsAudit c → (st : State) (acts : List Acted) → proceed (order c) st acts .state ≡ st
+unfolding proceed advance
+audit-keeps c e st [] = refl
+audit-keeps c e st (a ∷ acts) = stays c e (a .given) (a .at) st
+
+step-keeps : (s : Step) (x : Course) → proceed s (x .state) (x .progress .acts) .state ≡ x .state → step s x .state ≡ x .state
+unfolding step
+step-keeps s x h = pick-of (λ (y : Course). y .state ≡ x .state) (x .progress .going) (λ _. h) (λ _. refl)
+
+run-keeps : (ss : List Step) → Still ss → (x : Course) → run ss x .state ≡ x .state
+unfolding run
+run-keeps _ ends x = refl
+run-keeps _ (starts {c} {alone} {ss} h) x = run-keeps ss h _ ∙ step-keeps (start c [] alone) x (start-keeps c alone (x .state) (x .progress .acts))
+run-keeps _ (audits {c} {ss} e h) x = run-keeps ss h _ ∙ step-keeps (order c) x (audit-keeps c e (x .state) (x .progress .acts))
+
+orders-still : (cs : List Command) (rest : List Step) → Audits cs → Still rest → Still (orders cs rest)
+unfolding orders
+orders-still _ rest no-more h = h
+orders-still _ rest (more {c} {cs} e k) h = audits e (orders-still cs rest k h)
+
+steps-still : (acts : List Action) → OnlyAudits acts → Still (steps acts)
+unfolding steps
+steps-still _ no-more = ends
+steps-still _ (more {c} {cs} {acts} k h) = starts (orders-still cs (steps acts) k (steps-still acts h))
+
+pub transaction-stays : TransactionStays
+unfolding runTransaction
+transaction-stays id acts h st = run-keeps (steps acts) (steps-still acts h) (course st fresh)

@@ -1,0 +1,130 @@
+-- What audits report: of each termination what the table holds.
+use Prim.Native.Nat.{ℕ}
+use mathlib.Core.Path.{_≡_, refl, sym, ap, ap₂, _∙_, subst}
+use mathlib.Core.Bool.{Bool, true, false, not}
+use mathlib.Core.List.{List, [], _∷_}
+use mathlib.Core.Option.{Option, some}
+use lib.Dec.{eqb}
+use borrow.Author.Tests.{eqb-true, eq-eqb}
+use Rattle.base.specs.Pick.{pick}
+use Rattle.base.specs.Bytes.{text}
+use Rattle.base.proofs.TestLaws.{pick-of, clash}
+use Rattle.megaco.specs.Tree.{Items, Command, command}
+use Rattle.megaco.specs.Table.{fitted, ctx, cell, prop, get, exists}
+use Rattle.megaco.specs.State.{State, wrote}
+use Rattle.megaco.specs.Names.{nameOf, nameText}
+use Rattle.megaco.specs.Items.{given?, judgeItems}
+use Rattle.megaco.specs.Reply.{nothing, Report, done, refused, failed}
+use Rattle.megaco.specs.Running.{Check, check, judge, checks, seen, numberOf, look, isChoose, settled, told, concluded, effect, Effect, Outcome, tries, missed, actionError, Aim, misses, gateway, meets, isNull, isSubtract, inPlace, notForRoot, aim, aimed, opOf, barred, lost, named, tested, unlessOptional, ordered, runCommand}
+use Rattle.megaco.specs.declared.Context.{Context}
+use Rattle.megaco.specs.declared.Context.the-variants.{Null, Numbered, Choose, All}
+use Rattle.megaco.specs.declared.Op.{Op}
+use Rattle.megaco.specs.declared.Op.the-variants.{AuditValue}
+use Rattle.megaco.specs.declared.Name.{Name}
+use Rattle.megaco.specs.declared.Name.the-variants.{Termination}
+use Rattle.megaco.specs.declared.Judged.{Judged}
+use Rattle.megaco.specs.declared.Judged.the-variants.{Wrong, Right}
+use Rattle.megaco.specs.declared.Checked.{Checked}
+use Rattle.megaco.specs.declared.Checked.the-variants.{Passes, Fails}
+use Rattle.megaco.specs.declared.Values.{Values}
+use Rattle.audits.specs.Audits.{IsAudit, heldReport, Honest, of-one, of-root, of-none, of-action, AllHonest, no-more, more, ReportsHeld, ReportsNamed, reportsOf}
+use Rattle.audits.proofs.Keeping.{effect-keeps}
+
+-- ---- one attempt
+
+-- a context in which audits come to be tried: null or a number
+pub settled-place : (at : Context) (held : ℕ) → lost AuditValue at held ≡ false → isChoose at ≡ false
+unfolding lost isChoose inPlace isSubtract
+settled-place Null held e = refl
+settled-place (Numbered c) held e = refl
+settled-place Choose held e = absurd (clash e)
+settled-place All held e = absurd (clash e)
+
+module _ (wild : Bool) (name : List ℕ) (given : ℕ) (vs : Values) where
+  -- what an attempt reports, by where the termination stands
+  abbrev pub reported : Context → List ℕ → ℕ → Bool → Report
+  reported at t i b = pick b (heldReport vs t i) (refused AuditValue (pick wild (nameText (fitted t) i) name) 435)
+
+  effect-reports : (i : ℕ) (at : Context) (t : List ℕ) → effect AuditValue wild name given vs i at (look at i t) .report ≡ reported at t i (eqb (get t (ctx i)) (numberOf at))
+  unfolding effect checks judge look
+  effect-reports i at t = by (eqb (get t (ctx i)) (numberOf at))
+    where
+      by : (b : Bool) → concluded AuditValue wild name given vs i at (look at i t) (pick (not b) (Fails 435) Passes) .report ≡ reported at t i b
+      by true = unfold concluded pick in refl
+      by false = unfold concluded pick in refl
+
+  effect-at : (i : ℕ) (at : Context) (t : List ℕ) → isChoose at ≡ false → effect AuditValue wild name given vs i at (look at i t) .at ≡ at
+  unfolding effect
+  effect-at i at t n = by (judge (checks AuditValue at (look at i t)))
+    where
+      by : (x : Checked) → concluded AuditValue wild name given vs i at (look at i t) x .at ≡ at
+      by Passes = unfold concluded settled pick in rw n
+      by (Fails code) = unfold concluded in refl
+
+  pub tries-report : (is : List ℕ) (at : Context) (st : State) → isChoose at ≡ false
+      → tries AuditValue wild name given vs is at st .reports ≡ reportsOf (λ i. reported at (st .table) i (eqb (get (st .table) (ctx i)) (numberOf at))) is
+  unfolding tries
+  tries-report [] at st n = refl
+  tries-report (i ∷ is) at st n =
+      let e : Effect = effect AuditValue wild name given vs i at (look at i (st .table)) in
+      let r : Context → State → List Report = λ c u. tries AuditValue wild name given vs is c u .reports in
+      let same : r (e .at) (wrote (e .writes) st) ≡ r at st = ap₂ r (effect-at i at (st .table) n) (effect-keeps wild name given vs i at st) in
+      ap₂ (λ (x : Report) (xs : List Report). x ∷ xs) (effect-reports i at (st .table)) (same ∙ tries-report is at st n)
+
+  -- ---- all are honest
+
+  one-honest : (at : Context) (t : List ℕ) (i : ℕ) (b : Bool) → eqb (get t (ctx i)) (numberOf at) ≡ b → Honest at t (reported at t i b)
+  unfolding pick
+  one-honest at t i true e = of-one vs i (eqb-true (get t (ctx i)) (numberOf at) e)
+  one-honest at t i false e = of-none _ 435
+
+  all-honest : (at : Context) (t : List ℕ) (is : List ℕ) → AllHonest at t (reportsOf (λ i. reported at t i (eqb (get t (ctx i)) (numberOf at))) is)
+  all-honest at t [] = no-more
+  all-honest at t (i ∷ is) = more (one-honest at t i (eqb (get t (ctx i)) (numberOf at)) refl) (all-honest at t is)
+
+aimed-honest : (name : List ℕ) (given : ℕ) (vs : Values) (a : Aim) (at : Context) (st : State) → isChoose at ≡ false → AllHonest at (st .table) (aimed AuditValue name given vs a at st .reports)
+unfolding aimed missed
+aimed-honest name given vs (misses code) at st n = more (of-none name code) no-more
+aimed-honest name given vs gateway at st n = more of-root no-more
+aimed-honest name given vs (meets wild is) at st n =
+    subst (AllHonest at (st .table)) (sym (tries-report wild name given vs is at st n)) (all-honest wild name given vs at (st .table) is)
+
+named-honest : (name : List ℕ) (given : ℕ) (items : Bool) (j : Judged) (at : Context) (st : State) → isChoose at ≡ false → AllHonest at (st .table) (named AuditValue name given items j at st .reports)
+unfolding named missed
+named-honest name given items (Wrong code) at st n = more (of-none name code) no-more
+named-honest name given items (Right vs) at st n = aimed-honest name given vs _ at st n
+
+ordered-honest : (o : Bool) (name : List ℕ) (items : Items) (given : ℕ) (at : Context) (st : State) → AllHonest at (st .table) (ordered o (some AuditValue) name items given at st .reports)
+unfolding ordered actionError unlessOptional tested missed
+ordered-honest o name items given at st =
+    pick-of (λ (x : Outcome). AllHonest at (st .table) (x .reports)) (barred AuditValue at) (λ _. more (of-action 421) no-more)
+    (λ _. pick-of (λ (x : Outcome). AllHonest at (st .table) (x .reports)) (lost AuditValue at (seen (numberOf at) (st .table) .held)) (λ _. more (of-none name 411) no-more)
+    (λ l. named-honest name given _ _ at st (settled-place at _ l)))
+
+pub reports-held : ReportsHeld
+unfolding runCommand
+reports-held (command o w word name items) e given at st =
+    subst (λ (op : Option Op). AllHonest at (st .table) (ordered o op name items given at st .reports)) (sym e) (ordered-honest o name items given at st)
+
+-- ---- a command that comes to its attempts
+
+never-barred : (at : Context) → barred AuditValue at ≡ false
+unfolding barred isNull inPlace
+never-barred Null = refl
+never-barred (Numbered c) = refl
+never-barred Choose = refl
+never-barred All = refl
+
+-- tests 1 to 3 passed
+pub aims : (o w : Bool) (word name : List ℕ) (items : Items) (vs : Values) (given : ℕ) (at : Context) (st : State) → opOf w word ≡ some AuditValue
+    → lost AuditValue at (seen (numberOf at) (st .table) .held) ≡ false → judgeItems AuditValue items ≡ Right vs
+    → runCommand (command o w word name items) given at st .reports
+    ≡ aimed AuditValue name given vs (aim AuditValue at (notForRoot AuditValue (given? items) vs) (nameOf (fitted (st .table)) name) (st .table)) at st .reports
+unfolding runCommand ordered tested named unlessOptional pick
+aims o w word name items vs given at st e l j = rw (e, never-barred at, l, j)
+
+pub reports-named : ReportsNamed
+unfolding aim aimed pick
+reports-named o w word name items vs given at st i e l j n x h =
+    aims o w word name items vs given at st e l j
+    ∙ rw (n, x) (tries-report false name given vs (i ∷ []) at st (settled-place at _ l) ∙ rw (eq-eqb (get (st .table) (ctx i)) (numberOf at) h))

@@ -1,0 +1,1 @@
+// What an audit may be trusted with (specs/), and the proofs (proofs/). No code stands here.
