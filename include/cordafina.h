@@ -35,7 +35,7 @@
  * by a program that was compiled with an older header. All zero stays the fresh
  * table.
  */
-#define CORDAFINA_VERSION 2
+#define CORDAFINA_VERSION 3
 
 /*
  * Stack that a call of any function here uses at most, but for the plain digit
