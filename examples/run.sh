@@ -48,6 +48,14 @@ if [ "$declared" != "$defined" ] || [ -n "$wanted" ]; then
 fi
 echo "examples: the archive has the" $(echo "$declared" | wc -l) "functions that the headers declare"
 
+# Who hears whom, as the header shows it.
+cc -std=c99 -O2 $warnings -I include tests/flows.c "$archive" -o "$out/flows"
+"$out/flows"
+if command -v c++ > /dev/null; then
+    c++ -std=c++11 -O2 $warnings -I include -x c++ tests/flows.c -x none "$archive" -o "$out/flows"
+    "$out/flows"
+fi
+
 # Stack: held to what the headers say.
 cc -std=c99 -O2 $warnings -I include tests/stack.c "$archive" -o "$out/stack"
 "$out/stack" rust/bench/mix tests/sessions/*.in

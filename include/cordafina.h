@@ -1,6 +1,6 @@
 /*
  * The Megaco trunk gateway, for C99 and C++: the call, the contexts as text, two
- * questions about the ephemerals in use, and digit maps.
+ * questions about the ephemerals in use, who hears whom, and digit maps.
  *
  * A call takes the count of lines that the shelf has, one H.248.1 (Megaco) text
  * message and a table that the caller lends, runs the message on the table, and
@@ -35,13 +35,13 @@
  * by a program that was compiled with an older header. All zero stays the fresh
  * table.
  */
-#define CORDAFINA_VERSION 3
+#define CORDAFINA_VERSION 4
 
 /*
  * Stack that a call of any function here uses at most, but for the plain digit
  * matcher. Measured and rounded up: tests/stack.c runs each function on a painted
- * stack, on some 2,600 messages, and fails if one takes more. The deepest was
- * 8,816 bytes. It does not grow with a message: items nest 8 levels, a number is
+ * stack, on some 2,700 messages, and fails if one takes more. The deepest was
+ * 8,848 bytes. It does not grow with a message: items nest 8 levels, a number is
  * written in 10 digits, and nothing else calls itself.
  */
 #define CORDAFINA_STACK_BYTES 12288
@@ -52,6 +52,8 @@
 #define CORDAFINA_CHANNELS 31
 #define CORDAFINA_EPHEMERALS 64
 #define CORDAFINA_CONTEXTS 128
+/* The most terminations of a context. */
+#define CORDAFINA_MEMBERS 8
 
 /*
  * The table of n lines, N = 31n + 64 being the terminations. All zero is the
@@ -65,6 +67,9 @@
  *   2N .. 2N + 127              contexts 1..128: 0 if absent, else 1 + priority + 16 * emergency
  *   2N + 128, 2N + 129          the map of the ephemerals, low half first: bit k - 1 is set
  *                               exactly when R/k exists
+ *   2N + 130 .. 2N + 385        the flows of contexts 1..128, two words each, low half first:
+ *                               bit 8i + j is set when member i flows to member j (j hears i),
+ *                               the members counted from 0 in ascending number; all others 0
  *
  * Modes: 0 Inactive, 1 SendOnly, 2 ReceiveOnly, 3 SendReceive, 4 Loopback.
  * States: 0 InService, 1 OutOfService, 2 Test.
@@ -80,8 +85,10 @@
 #define CORDAFINA_RECORDS(n) (2 * CORDAFINA_TERMINATIONS(n))
 /* Where the map of the ephemerals starts. */
 #define CORDAFINA_MAP(n) (CORDAFINA_RECORDS(n) + 128)
-/* Words of a table: exactly so many, 754 for eight lines. */
-#define CORDAFINA_TABLE_WORDS(n) (CORDAFINA_MAP(n) + 2)
+/* Where the flows start, by twice the context number less 1. */
+#define CORDAFINA_FLOWS(n) (CORDAFINA_MAP(n) + 2)
+/* Words of a table: exactly so many, 1010 for eight lines. */
+#define CORDAFINA_TABLE_WORDS(n) (CORDAFINA_FLOWS(n) + 256)
 
 /* A termination's mode and state, from its properties. */
 #define CORDAFINA_MODE(properties) ((properties) % 8)
@@ -97,6 +104,8 @@
 /* A context's priority and emergency, from its record, which is not 0. */
 #define CORDAFINA_PRIORITY(record) (((record) - 1) % 16)
 #define CORDAFINA_EMERGENCY(record) ((record) > 16)
+/* From a context's flows, as cordafina_flows gives them: 1 if member i flows to member j (j hears i), else 0. */
+#define CORDAFINA_FLOW(flows, i, j) ((int)((flows) >> (8 * (i) + (j)) & 1))
 
 /* Bytes of a reply buffer: at least so many. No reply is longer. */
 #define CORDAFINA_REPLY_BYTES 16640
@@ -203,6 +212,44 @@ static inline uint64_t cordafina_map(uint32_t lines, const uint32_t *table)
 {
     const uint32_t *map = table + CORDAFINA_MAP(lines);
     return map[0] | (uint64_t)map[1] << 32;
+}
+
+/*
+ * The flows of a context in a table of so many lines, as one number: bit 8i + j is
+ * set when member i flows to member j, the members counted from 0 in ascending
+ * number. 0 for a number outside 1 to 128, and where nobody flows to anybody.
+ */
+static inline uint64_t cordafina_flows(uint32_t lines, const uint32_t *table, uint32_t context)
+{
+    const uint32_t *flows = table + CORDAFINA_FLOWS(lines);
+    if (context < 1 || context > CORDAFINA_CONTEXTS) {
+        return 0;
+    }
+    return flows[2 * context - 2] | (uint64_t)flows[2 * context - 1] << 32;
+}
+
+/*
+ * Whether one termination hears another: 1 if both stand in one context and the
+ * speaker flows to the listener, else 0. Each is given by its number, as
+ * CORDAFINA_LINE and CORDAFINA_EPHEMERAL tell it; none hears itself.
+ */
+static inline int cordafina_hears(uint32_t lines, const uint32_t *table, size_t listener, size_t speaker)
+{
+    unsigned i = 0, j = 0;
+    size_t number;
+    if (listener >= CORDAFINA_TERMINATIONS(lines) || speaker >= CORDAFINA_TERMINATIONS(lines)
+        || table[listener] != table[speaker]) {
+        return 0;
+    }
+    for (number = 0; number < speaker; number++) {
+        i += table[number] == table[speaker];
+    }
+    for (number = 0; number < listener; number++) {
+        j += table[number] == table[speaker];
+    }
+    /* A sound table has no more than eight in a context; null has. */
+    return i < CORDAFINA_MEMBERS && j < CORDAFINA_MEMBERS
+           && CORDAFINA_FLOW(cordafina_flows(lines, table, table[speaker]), i, j);
 }
 
 /* The length in a result of cordafina_answer or cordafina_contexts; 0 for a call turned down. */

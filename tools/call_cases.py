@@ -1,10 +1,8 @@
 #!/usr/bin/env python3
 """The calls that crates/calls_run reads, and what each must answer: writes its stdin and its stdout from recorded calls.
 
-usage, from the root: tools/call_cases.py [--early EARLIER.jsonl..] CALLS.jsonl
+usage, from the root: tools/call_cases.py CALLS.jsonl
 
-EARLIER: calls recorded before the table had the map of the ephemerals, before a termination out of service was barred from Move, and before
-AuditValue: the map is worked out for them, and those in which such a Move or an audit could come are left out, told by their number.
 
 Takes the rows at a boundary first, then rows that show a code, a refusal, a report or a kind that few before them show, as
 tools/evaluate.py does, and adds the calls of SESSION and SINGLE, which stand in this file: document 01 gives their replies and
@@ -24,7 +22,7 @@ import re
 import sys
 
 OWN, HEAD = b"[10.0.0.9]", b"!/1 [10.0.0.1] "
-LINES, WORDS, BUFFER = 8, 754, 16640
+LINES, WORDS, BUFFER = 8, 1010, 16640
 FEW = 12          # how many rows are to show the same thing
 LONGEST = 300     # bytes of a message, boundaries aside
 ROOM = 800000     # bytes of the input
@@ -35,31 +33,14 @@ def words(row):
     return WORDS + 62 * (row.get("lines", LINES) - LINES)
 
 
-def grown(row):
-    """A row recorded before the table had a map, with the map worked out; None where its size has come to mean another thing."""
-    lines = row.get("lines", LINES)
-    if row["table_len"] != words(row) - 2:
-        return None if row["table_len"] == words(row) else row
-    row["table_len"] += 2
-    for name in ("table", "after"):
-        held = dict(map(tuple, row[name]))
-        used = sum(1 << k for k in range(64) if held.get(31 * lines + k))
-        row[name] = sorted({**held, **{62 * lines + 256 + h: v for h, v in enumerate(divmod(used, 2 ** 32)[::-1]) if v}}.items())
-    return row
-
-
-def may_be_barred(row):
-    """Whether a Move of a row recorded before 503 may meet it: one went through, was refused after 433 or is hidden by 533, and some
-    termination is out of service, or may be put there."""
-    message, reply, states = bytes.fromhex(row["message"]).upper(), bytes.fromhex(row["reply"]), 31 * row.get("lines", LINES) + 64
-    moved = re.search(rb"MV=[^{},]+(?:[,}]|\{ER=(?:412|434))", reply) or (b"ER=533" in reply and (b"MV" in message or b"MOVE" in message))
-    out = b"OS" in message or b"OUTOFSERVICE" in message or any(v // 8 == 1 for i, v in row["table"] if states <= i < 2 * states)
-    return bool(moved and out)
-
-
-def may_audit(row):
-    """Whether a row recorded before AuditValue may meet it, or Audit's empty braces: one of their words stands in the message."""
-    return bool(re.search(rb"\b(?:AV|AUDITVALUE|AT|AUDIT)\b", bytes.fromhex(row["message"]).upper()))
+def flowing(held, lines=LINES):
+    """A table with the flows of each context in which every member hears every other."""
+    ends, members = 31 * lines + 64, collections.Counter(v for i, v in held.items() if i < 31 * lines + 64 and v)
+    flows = {}
+    for c, m in members.items():
+        bits = sum(1 << 8 * i + j for i in range(m) for j in range(m) if i != j)
+        flows.update({2 * ends + 130 + 2 * (c - 1) + h: v for h, v in enumerate((bits % 2 ** 32, bits >> 32)) if v})
+    return {**held, **flows}
 
 
 def runs(pairs):
@@ -165,7 +146,7 @@ SINGLE = [
 
 def row(message, reply, before, after):
     return {"kind": "document 01", "message": (HEAD + message).hex(), "own": OWN.hex(), "lines": LINES, "table_len": WORDS, "buf": BUFFER, "refusal": 0,
-            "reply": (b"!/1 " + OWN + b" " + reply).hex(), "table": sorted(before.items()), "after": sorted((before if after is None else after).items())}
+            "reply": (b"!/1 " + OWN + b" " + reply).hex(), "table": sorted(flowing(before).items()), "after": sorted(flowing(before if after is None else after).items())}
 
 
 def own_rows():
@@ -179,8 +160,9 @@ def own_rows():
 def last(n):
     """The last channel of n lines and the first ephemeral come into a new context."""
     ends, name = 31 * n + 64, b"L/%d/31" % n
-    made = row(b"T=1{C=${A=%s,A=$}}" % name, b"P=1{C=1{A=%s,A=R/1}}" % name, {}, {31 * n - 1: 1, 31 * n: 1, 2 * ends: 1, 2 * ends + 128: 1})
-    return {**made, "lines": n, "table_len": WORDS + 62 * (n - LINES)}
+    made = row(b"T=1{C=${A=%s,A=$}}" % name, b"P=1{C=1{A=%s,A=R/1}}" % name, {}, {})
+    after = flowing({31 * n - 1: 1, 31 * n: 1, 2 * ends: 1, 2 * ends + 128: 1}, n)
+    return {**made, "lines": n, "table_len": WORDS + 62 * (n - LINES), "after": sorted(after.items())}
 
 
 # ---- the choice
@@ -195,6 +177,9 @@ def marks(r):
     found |= {("report", c.decode()) for c in re.findall(rb"[{,]([A-Z]+=[A-Z$*])", reply)}
     found |= {("failed", c) for c in re.findall(rb"([A-Z]+)=[^{},]+\{ER=(\d+)", reply)}
     found |= {("wildcard", c.upper()) for c in re.findall(rb"=([A-Za-z]/(?:[0-9]+/)?\*|\*)(?=[{},])", message)}
+    if re.search(rb"\b(TP|TOPOLOGY)\b", message.upper()):
+        found |= {("topology", lines)} | {("topology", c.decode()) for c in re.findall(rb"C=[^{},]+\{ER=(\d+)", reply) + re.findall(rb"PR=\d+", reply)[:1]}
+        found |= {("direction", c.decode()) for c in re.findall(rb"\b(IS|OW|BW|ISOLATE|ONEWAY|BOTHWAY)\b", message.upper())}
     ends = 31 * lines + 64
     found.add(("contexts", sum(1 for i in words if 2 * ends <= i < 2 * ends + 128) // 32))
     found.add(("ephemerals", sum(1 for i in words if 31 * lines <= i < ends) // 16))
@@ -220,12 +205,7 @@ def choose(rows, room):
 
 
 def main():
-    early = sys.argv[2:] if sys.argv[1] == "--early" else []
-    rows = [json.loads(line) for line in open(sys.argv[-1])]
-    before = [r for name in early[:-1] for r in map(grown, map(json.loads, open(name))) if r]
-    kept = [r for r in before if not may_be_barred(r) and not may_audit(r)]
-    print(len(before) - len(kept), "of", len(before), "earlier calls left out")
-    rows += kept
+    rows = [json.loads(line) for line in open(sys.argv[1])]
     own = own_rows()
     taken = own + choose(rows, ROOM - sum(len(record(r)) for r in own))
     crate = os.path.join("crates", "calls_run")
@@ -234,7 +214,7 @@ def main():
     with open(os.path.join(crate, "stdout"), "wb") as f:
         f.write(b"".join(told(k, r) for k, r in enumerate(taken, 1)))
     shown = collections.Counter(m for r in taken for m in marks(r))
-    for what in ("code", "refusal", "report", "wildcard", "lines", "table", "buffer"):
+    for what in ("code", "refusal", "topology", "direction", "report", "wildcard", "lines", "table", "buffer"):
         print(what, " ".join("%s:%d" % (c.decode() if isinstance(c, bytes) else c, n) for (k, c), n in sorted(shown.items(), key=str) if k == what))
     every = {m for r in rows for m in marks(r)}
     print(len(taken), "calls; shown by no call:", sorted(map(str, every - set(shown))))

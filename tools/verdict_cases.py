@@ -5,7 +5,8 @@ usage, from the root: tools/verdict_cases.py
 
 The verdicts stand in this file. They were written down from the sentences of document 01 and then compared, on the written
 stdin, with the reader of the reference in plain Rust (rust/reference/src/text.rs), which shares nothing with the program and
-reads messages of any length: the two agree on every message, one slip of the writer put right. None was taken from the program.
+reads messages of any length: the two agree on every message, one slip of the writer put right. None was taken from the program. Those on
+topology were written down from the sentences of document 02 alone.
 
 Input, for each message: a line of 48 bytes (five digits, the number of its bytes; a space; what it shows), its bytes, a line end.
 Output, for each message: its number, what it shows, the verdict. What it shows begins with the place in the message.
@@ -74,6 +75,11 @@ def action(x):
 def inside(x):
     """Between an action's braces."""
     return action(b"C=1{" + x + b"}")
+
+
+def triples(x):
+    """Between the braces of a topology."""
+    return inside(b"TP{" + x + b"}")
 
 
 def term(x):
@@ -168,6 +174,20 @@ put(f403(1), inside, b"PR=000001", b"PR=100000", b"PR=", b"PR", b"PR=x", b"PR=-1
     b"PR=L/1/1", b"EG=1", b"EG=$", b"EG{}", b"EG{m}", b"EG,", b"EG EG", b"A=$,PR=1", b"A=$,EG", b"PR=1,A=$,EG", b"O-EG", b"W-EG", b"O-PR=1",
     b"W-PR=1", b"O-W-PR=1", b"O-PR=L/1/1", b"EG/1")
 put(GOOD, inside, ("200 properties", b",".join([b"PR=1,EG"] * 100)), ("100 properties, then 64 commands", b"EG," * 100 + b",".join([b"A=$"] * 64)))
+
+# ---- topology
+
+put(GOOD, inside, b"TP{a,b,BW}", b"Topology{a,b,BW}", b"tp{a,b,bw}", b"TP {a,b,BW}", b"TP;c\n{ a,b,BW}", b"TP{a,b,BW} ,A=$", b"PR=1,TP{a,b,BW},EG",
+    b"TP{a,b,BW},TP{a,b,IS}", b"TPX=$", b"T=$", b"IS=$")
+put(f403(1), inside, b"TP", b"TP=1", b"TP=$", b"TP=a,b,BW", b"TP={a,b,BW}", b"TP{a,b,BW}{c,d,BW}", b"O-TP{a,b,BW}", b"W-TP{a,b,BW}", b"O-TP=$",
+    b"A=$,TP{a,b,BW}", b"TP{a,b,BW}A=$", b"TP{a,b,BW} EG", b"TP/x{a,b,BW}", b"TP{a,b,BW", b"TP a,b,BW", b"Topologies{a,b,BW}", b"TP{a,b,BW},")
+put(GOOD, triples, b"L/1/1,L/1/2,IS", b"a,b,OW", b"a,b,BW", b"a,b,Isolate", b"a,b,oNEWAY", b"a,b,BothWay", b"a,b,IS,c,d,BW", b"*,$,BW", b"$,*,OW",
+    b"ROOT,*L/1,OW", b"a,a,IS", b" a , b , IS ", b"a;c\n,b,\tIS;c\r", b"a,b,IS , c,d,OW", b"BW,OW,IS", b"R/1,R/2,ow")
+put(f403(1), triples, b"", b" ", b",", b"a", b"a,b", b"a,b,", b"a,b,IN", b"a,b,I", b"a,b,ISO", b"a,b,Bothways", b"a,b,BW,", b",a,b,BW", b"a,,b,BW", b"a,,BW",
+    b"a,b,BW,c", b"a,b,BW,c,d", b"a,b,c,BW", b"a b,BW", b"a,b BW", b"a,b,BW c,d,IS", b"a,b,=BW", b"a,b,BW=1", b"a,b,BW{m}", b"BW,a,b", b"1,a,BW",
+    b"**,a,BW", b"-,a,BW", b"a,b,\"BW\"", b"a,b,BW/1", b"a,b,*", b"{a,b,BW}", b"a=b,BW", b"a,b,B W", b"a,b,BW;", b"a,b,BW\x00")
+put(GOOD, triples, ("a name of 64 bytes", b"L" * 64 + b",b,BW"), ("300", b",".join([b"a,b,BW"] * 300)))
+put(f403(1), triples, ("a name of 65 bytes", b"a," + b"L" * 65 + b",BW"), ("a word of 65 bytes", b"a,b," + b"B" * 65), ("300 and a name", b"a,b,BW," * 300 + b"a"))
 
 # ---- commands
 

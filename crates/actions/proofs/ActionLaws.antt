@@ -2,7 +2,7 @@
 use Prim.Native.Nat.{ℕ, suc, _+_, _-_, _<_}
 use mathlib.Core.Path.{_≡_, refl, sym, _∙_}
 use mathlib.Core.List.{List}
-use mathlib.Core.Bool.{Bool, true, false}
+use mathlib.Core.Bool.{Bool, true, false, _||_}
 use native.Mathlib.Omega.{arith}
 use lib.ListN.{length}
 use Rattle.base.specs.Pick.{pick}
@@ -18,12 +18,14 @@ use Rattle.megaco.specs.declared.Number.{Number}
 use Rattle.megaco.specs.declared.Number.the-variants.{Bad}
 use Rattle.megaco.specs.declared.Class.the-variants.{WordByte}
 use Rattle.megaco.specs.declared.Token.{Token}
+use Rattle.megaco.specs.declared.Token.the-variants.{IsolateToken, OnewayToken, BothwayToken}
 use Rattle.syntax.specs.declared.Piece.{Piece}
 use Rattle.syntax.specs.Pieces.{Holds}
 use Rattle.syntax.specs.Production.{numberAfter, joinedAt}
-use Rattle.syntax.specs.Places.{commandsAt, propertyAt, bodyPlace}
-use Rattle.syntax.proofs.Onward.{property-on}
-use Rattle.syntax.proofs.ListLaws.{steps, joined-fault, joined-last, joined-cut, joined-more, comma-falls}
+use Rattle.syntax.specs.Places.{commandsAt, isDirection, tripleAt, triplesAt, propertyAt, bodyPlace}
+use Rattle.syntax.proofs.Onward.{triple-on, property-on}
+use Rattle.syntax.proofs.ListLaws as lists
+use Rattle.syntax.proofs.ListLaws.{steps, joined-fault, joined-last, joined-cut, joined-more, goes-more, comma-falls}
 
 -- the place after a number that a call read
 pub place-by : (r : Parsed) (x y : Number) → r ≡ afterNumber y Next → y ≡ x → r ≡ afterNumber x Next
@@ -48,6 +50,25 @@ here k s at e w r h g f = rw (← h, ← g .bytes) f
 pub here-property : (s : List ℕ) (at e : ℕ) (w : Piece) (r : Bool) → e ≡ rowAt WordByte s at → Holds s at e w → r ≡ isProperty (part s (w .from) (w .to)) → r ≡ isProperty (wordHere s at)
 unfolding wordHere
 here-property s at e w r h g f = rw (← h, ← g .bytes) f
+
+-- ---- topology
+
+pub direction-word : (w : List ℕ) (x y z : Bool) → x ≡ spells IsolateToken w → y ≡ spells OnewayToken w → z ≡ spells BothwayToken w → (x || y || z) ≡ isDirection w
+unfolding isDirection
+direction-word w x y z e f g = rw (e, f, g)
+
+-- triples, from the place that was reached
+
+pub triples-start : (s : List ℕ) (at : ℕ) → lists.Goes (triplesAt s at .place) (λ j. tripleAt s j .place) s at
+unfolding triplesAt unlimited
+triples-start s at = record { left = length s + 1; enough = omega arith; same = refl }
+
+module _ (s : List ℕ) (i p u : ℕ) (x : Bool) (y w : Parsed) (e : y ≡ tripleAt s i .place) (n : y ≡ Next p) (g : x ≡ isAt s p comma) (t : x ≡ true) (l : w ≡ whiteAt s (p + 1)) (f : w ≡ Next u) where
+  pub triples-less : length s - u < length s - i
+  triples-less = comma-falls (λ j. tripleAt s j .place) s i p u x y w (triple-on s) e n g t l f .1
+
+  pub triples-more : (q : Parsed) → lists.Goes q (λ j. tripleAt s j .place) s i → lists.Goes q (λ j. tripleAt s j .place) s u
+  triples-more q inv = goes-more q (λ j. tripleAt s j .place) s i inv y e p n x g t w l u (triple-on s) f
 
 -- ---- an action's body, from the place that was reached: enough of the counter is left for the bytes that are left
 

@@ -4,8 +4,9 @@ ghost use Rattle.megaco.specs.Keywords.{spells};
 ghost use Rattle.megaco.specs.Tokens.{afterNumber};
 ghost use Rattle.megaco.specs.Reading.{keyAt, wordHere, isProperty, unlimited};
 ghost use Rattle.megaco.specs.declared.Parsed.the-variants.{Next};
-ghost use Rattle.syntax.specs.Places.{contextAt, priorityAt, propertyAt, bodyAt, openingAt, actionAt, actionsAt};
+ghost use Rattle.syntax.specs.Places.{contextAt, isDirection, directionOf, directionAt, partyAt, tripleAt, triplesAt, topologyAt, priorityAt, propertyAt, bodyAt, openingAt, actionAt, actionsAt};
 use megaco::Class;
+use megaco::Direction;
 use megaco::Number;
 use megaco::Parsed;
 use megaco::Token;
@@ -51,6 +52,111 @@ fn context(s: &[u8], at: usize) -> Parsed
     number_place(tokens::number(s, at, 10, 4294967295))
 }
 
+// ---- topology
+
+fn is_direction(w: &[u8]) -> bool
+    ensures { λ r. ⌜ r ≡ isDirection (now (w .entry)) ⌝ }
+{
+    text::spells(Token::IsolateToken, w) | text::spells(Token::OnewayToken, w) | text::spells(Token::BothwayToken, w)
+}
+
+// The direction that a word means, where it means one.
+pub fn direction_of(w: &[u8]) -> Direction
+    ensures { λ r. ⌜ r ≡ directionOf (now (w .entry)) ⌝ }
+{
+    if text::spells(Token::IsolateToken, w) {
+        return Direction::Isolate;
+    }
+    if text::spells(Token::OnewayToken, w) {
+        return Direction::Oneway;
+    }
+    Direction::Bothway
+}
+
+fn direction(s: &[u8], at: usize) -> Parsed
+    ensures { λ r. ⌜ r ≡ directionAt (now (s .entry)) at .place ⌝ }
+{
+    let w = tokens::word(s, at);
+    let Parsed::Next(e) = w else {
+        return Parsed::Fault;
+    };
+    if is_direction(&s[at..e]) {
+        return Parsed::Next(e);
+    }
+    Parsed::Fault
+}
+
+// A name in a triple.
+fn party(s: &[u8], at: usize) -> Parsed
+    ensures { λ r. ⌜ r ≡ partyAt (now (s .entry)) at .place ⌝ }
+{
+    syntax::spaced(s, tokens::termination(s, at))
+}
+
+// Two names and a direction.
+fn triple(s: &[u8], at: usize) -> Parsed
+    ensures { λ r. ⌜ r ≡ tripleAt (now (s .entry)) at .place ⌝ }
+{
+    let a = party(s, at);
+    let Parsed::Next(p) = a else {
+        return Parsed::Fault;
+    };
+    let c = text::sign(s, p, 0x2c);
+    let Parsed::Next(q) = c else {
+        return Parsed::Fault;
+    };
+    let b = party(s, q);
+    let Parsed::Next(r) = b else {
+        return Parsed::Fault;
+    };
+    let d = text::sign(s, r, 0x2c);
+    let Parsed::Next(u) = d else {
+        return Parsed::Fault;
+    };
+    syntax::spaced(s, direction(s, u))
+}
+
+// Triples joined by commas.
+fn triples(s: &[u8], at: usize) -> Parsed
+    ensures { λ r. ⌜ r ≡ triplesAt (now (s .entry)) at .place ⌝ }
+{
+    let mut i = at;
+    loop {
+        let a = triple(s, i);
+        let Parsed::Next(p) = a else {
+            return Parsed::Fault;
+        };
+        if text::is_at(s, p, 0x2c) {
+            let c = text::white(s, p + 1);
+            let Parsed::Next(q) = c else {
+                return Parsed::Fault;
+            };
+            i = q;
+        } else {
+            return Parsed::Next(p);
+        }
+    }
+}
+
+// A word, and triples in braces.
+fn topology(s: &[u8], at: usize) -> Parsed
+    ensures { λ r. ⌜ r ≡ topologyAt (now (s .entry)) at .place ⌝ }
+{
+    let w = syntax::spaced(s, tokens::word(s, at));
+    let Parsed::Next(p) = w else {
+        return Parsed::Fault;
+    };
+    let o = text::sign(s, p, 0x7b);
+    let Parsed::Next(q) = o else {
+        return Parsed::Fault;
+    };
+    let t = triples(s, q);
+    let Parsed::Next(e) = t else {
+        return Parsed::Fault;
+    };
+    text::sign(s, e, 0x7d)
+}
+
 // ---- properties
 
 // Whether the word that stands here is the keyword.
@@ -89,6 +195,9 @@ fn property(s: &[u8], at: usize) -> Parsed
 {
     if here_spells(s, at, Token::EmergencyToken) {
         return syntax::spaced(s, tokens::word(s, at));
+    }
+    if here_spells(s, at, Token::TopologyToken) {
+        return topology(s, at);
     }
     syntax::spaced(s, number_place(priority(s, at)))
 }

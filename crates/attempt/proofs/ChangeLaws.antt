@@ -1,22 +1,26 @@
 -- What the changes of an attempt do to a table, write by write; and that property words fit.
-use Prim.Native.Nat.{ℕ, _+_, _*_, _/_, _%_, _<_, _≤_, max}
+use Prim.Native.Nat.{ℕ, zero, suc, _+_, _*_, _/_, _%_, _<_, _≤_, max}
 use mathlib.Core.Path.{_≡_, refl, sym, ap, _∙_}
 use mathlib.Core.List.{List, [], _∷_}
-use mathlib.Core.Bool.{Bool, true, false}
+use mathlib.Core.Bool.{Bool, true, false, _&&_}
 use native.Mathlib.Omega.{arith}
 use mir.Syntax.{w32}
 use mir.Val.{Fits}
-use borrow.Author.Tests.{le-leb, lt-leb}
+use lib.Dec.{ltb, eqb}
+use borrow.Author.Tests.{le-leb, lt-leb, lt-ltb, ltb-true, ltb-false, eqb-true}
 use Rattle.base.specs.Pick.{pick}
-use Rattle.megaco.specs.Table.{Write, write, ctx, cell, prop, rec, used, isEphemeral, store, apply}
+use Rattle.base.proofs.TestLaws.{and-both}
+use Rattle.megaco.specs.Square.{Square, squareOf, ofBits, ofRows, lowOf, highOf, upTo, joinedFlow, joinedRow, joined, parted}
+use Rattle.megaco.specs.Table.{Write, write, ctx, cell, prop, rec, used, flow, lowFlow, highFlow, most, isEphemeral, store, apply}
 use Rattle.megaco.specs.Items.{update}
-use Rattle.megaco.specs.Running.{isChoose, target, joining, leaving, placed, marking, added, subtracted, changes}
+use Rattle.megaco.specs.Running.{numberOf, isChoose, target, flowsOf, flowing, joining, leaving, placed, marking, added, subtracted, changes}
 use Rattle.megaco.specs.declared.Op.{Op}
 use Rattle.megaco.specs.declared.Op.the-variants.{Add, Modify, Subtract, Move, AuditValue}
 use Rattle.megaco.specs.declared.Context.{Context}
 use Rattle.megaco.specs.declared.Given.{Given}
 use Rattle.megaco.specs.declared.Given.the-variants.{Keep, To}
 use Rattle.megaco.specs.declared.Values.{Values}
+use Rattle.megaco.specs.declared.Seen.{Seen}
 use Rattle.megaco.specs.declared.View.{View}
 use Rattle.attempt.specs.Judging.{valueOr, Fair}
 
@@ -44,23 +48,88 @@ unfolding apply pick
 first-write true w ws t = refl
 first-write false w ws t = refl
 
+-- one write, or the two of a context's flows
+first-writes : (b : Bool) (w : Write) (c : ℕ) (q : Square) (ws : List Write) (t : List ℕ)
+    → apply (pick b (w ∷ ws) (flowing c q ws)) t ≡ apply ws (apply (pick b (w ∷ []) (flowing c q [])) t)
+unfolding apply pick flowing
+first-writes true w c q ws t = refl
+first-writes false w c q ws t = refl
+
+pub flows-put : (c low high : ℕ) (q : Square) (t t₁ t₂ : List ℕ) → low ≡ lowOf q → t₁ ≡ store (write (cell (flow (lowFlow c))) low) t → high ≡ highOf q
+    → t₂ ≡ store (write (cell (flow (highFlow c))) high) t₁ → t₂ ≡ apply (flowing c q []) t
+unfolding flowing apply
+flows-put c low high q t t₁ t₂ e p f r = r ∙ rw (p, e, f)
+
+-- more members than eight leave no place unused
+joined-full : (q : Square) (m k : ℕ) → 8 ≤ m → joined q 8 k ≡ joined q (m + 1) k
+unfolding joined joinedRow joinedFlow upTo
+joined-full q m k h =
+    rw (lt-ltb 0 (m + 1) (omega arith), lt-ltb 1 (m + 1) (omega arith), lt-ltb 2 (m + 1) (omega arith), lt-ltb 3 (m + 1) (omega arith),
+    lt-ltb 4 (m + 1) (omega arith), lt-ltb 5 (m + 1) (omega arith), lt-ltb 6 (m + 1) (omega arith), lt-ltb 7 (m + 1) (omega arith))
+
+pub joined-is : (s : Seen) (k n : ℕ) (q r : Square) → q ≡ squareOf (s .low) (s .high) → n ≡ pick (ltb (s .members) most) (s .members + 1) most → r ≡ joined q n k
+    → r ≡ joined (flowsOf s) (s .members + 1) k
+unfolding flowsOf
+joined-is s k n q r e f g = g ∙ rw (e, f) (by (ltb (s .members) most) refl)
+  where
+    by : (b : Bool) → ltb (s .members) most ≡ b
+        → joined (squareOf (s .low) (s .high)) (pick b (s .members + 1) most) k ≡ joined (squareOf (s .low) (s .high)) (s .members + 1) k
+    by true h = unfold pick in refl
+    by false h = unfold pick in joined-full (squareOf (s .low) (s .high)) (s .members) k (ltb-false (s .members) most h)
+
+-- the second member
+two-flow : (q : Square) (k : ℕ) → k < 2 → joined q 2 k ≡ joined [] 2 0
+unfolding joined joinedRow joinedFlow upTo pick
+two-flow q zero h = refl
+two-flow q (suc zero) h = refl
+two-flow q (suc (suc k)) h = absurd (omega arith)
+
+pub two-put : (c : ℕ) (t t₁ t₂ : List ℕ) → t₁ ≡ store (write (cell (flow (lowFlow c))) 258) t → t₂ ≡ store (write (cell (flow (highFlow c))) 0) t₁
+    → t₂ ≡ apply (flowing c (joined [] 2 0) []) t
+unfolding joined joinedRow joinedFlow upTo pick lowOf highOf ofRows ofBits
+two-put c t t₁ t₂ e f = flows-put c 258 0 (joined [] 2 0) t t₁ t₂ low e high f
+  where
+    low : 258 ≡ lowOf (joined [] 2 0)
+    low = refl
+    high : 0 ≡ highOf (joined [] 2 0)
+    high = refl
+
+pub join-two : (c k : ℕ) (s : Seen) (t t′ : List ℕ) → (eqb (s .members) 1 && ltb k 2) ≡ true → t′ ≡ apply (flowing c (joined [] 2 0) []) t
+    → t′ ≡ apply (flowing c (joined (flowsOf s) (s .members + 1) k) []) t
+join-two c k s t t′ h e =
+    let b = and-both (eqb (s .members) 1) (ltb k 2) h in
+    let m : 2 ≡ s .members + 1 = omega (arith, eqb-true (s .members) 1 (b .0)) in
+    let j : joined [] 2 0 ≡ joined (flowsOf s) (s .members + 1) k =
+            sym (two-flow (flowsOf s) k (ltb-true k 2 (b .1))) ∙ ap (λ (n : ℕ). joined (flowsOf s) n k) m in
+    e ∙ ap (λ (q : Square). apply (flowing c q []) t) j
+
+pub join-more : (c k : ℕ) (s : Seen) (q : Square) (t t′ : List ℕ) → q ≡ joined (flowsOf s) (s .members + 1) k → t′ ≡ apply (flowing c q []) t
+    → t′ ≡ apply (flowing c (joined (flowsOf s) (s .members + 1) k) []) t
+join-more c k s q t t′ h e = e ∙ rw h
+
+pub parted-is : (s : Seen) (k : ℕ) (q r : Square) → q ≡ squareOf (s .low) (s .high) → r ≡ parted q k → r ≡ parted (flowsOf s) k
+unfolding flowsOf
+parted-is s k q r e g = g ∙ rw e
+
 module _ (at : Context) (given : ℕ) (v : View) (t : List ℕ) (x : Bool) (e : x ≡ isChoose at) where
   pub join-yes : (t′ : List ℕ) → x ≡ true → t′ ≡ store (write (cell (rec (v .free))) given) t → t′ ≡ apply (joining at given v []) t
   unfolding joining apply pick
   join-yes t′ h p = rw (← e, h) p
 
-  pub join-no : x ≡ false → t ≡ apply (joining at given v []) t
-  unfolding joining apply pick
-  join-no h = rw (← e, h)
+  pub join-no : (t′ : List ℕ) (c : ℕ) → x ≡ false → c ≡ numberOf at
+      → t′ ≡ apply (flowing c (joined (flowsOf (v .there)) (v .there .members + 1) (v .into)) []) t → t′ ≡ apply (joining at given v []) t
+  unfolding joining pick
+  join-no t′ c h f p = p ∙ rw (← e, h, f)
 
 module _ (v : View) (t : List ℕ) where
   pub leave-yes : (t′ : List ℕ) → v .from .members ≤ 1 → t′ ≡ store (write (cell (rec (v .here))) 0) t → t′ ≡ apply (leaving v []) t
   unfolding leaving apply pick
   leave-yes t′ h p = rw (le-leb (v .from .members) 1 h) p
 
-  pub leave-no : 1 < v .from .members → t ≡ apply (leaving v []) t
-  unfolding leaving apply pick
-  leave-no h = rw (lt-leb (v .from .members) 1 h)
+  pub leave-no : (t′ : List ℕ) (q : Square) → 1 < v .from .members → q ≡ parted (flowsOf (v .from)) (v .out) → t′ ≡ apply (flowing (v .here) q []) t
+      → t′ ≡ apply (leaving v []) t
+  unfolding leaving pick
+  leave-no t′ q h g p = p ∙ rw (lt-leb (v .from .members) 1 h, g)
 
 module _ (n i m : ℕ) (t : List ℕ) (x : Bool) (e : x ≡ isEphemeral n i) where
   pub mark-yes : (t′ : List ℕ) → x ≡ true → t′ ≡ store (write (cell (used i)) m) t → t′ ≡ apply (marking n i m []) t
@@ -92,7 +161,7 @@ module _ (op : Op) (at : Context) (given i : ℕ) (vs : Values) (v : View) (t : 
       → c ≡ target at v → w ≡ added (v .lines) i (v .word) → u ≡ update vs w → t₃ ≡ apply (placed i c u) t₂ → t₃ ≡ apply (changes op at given i vs v) t
   unfolding changes joining marking
   change-add t₁ t₂ t₃ c u w o e m f g h k =
-      k ∙ rw (m, e, h, f, g, o) (sym (first-write (isChoose at) _ _ t ∙ marked-first (isEphemeral (v .lines) i) (write (cell (used i)) 1) (write (cell (used i)) (pick true 1 0)) _ _ as-written))
+      k ∙ rw (m, e, h, f, g, o) (sym (first-writes (isChoose at) _ _ _ _ t ∙ marked-first (isEphemeral (v .lines) i) (write (cell (used i)) 1) (write (cell (used i)) (pick true 1 0)) _ _ as-written))
     where
       as-written : write (cell (used i)) 1 ≡ write (cell (used i)) (pick true 1 0)
       as-written = ap (λ (n : ℕ). write (cell (used i)) n) one-is
@@ -105,7 +174,7 @@ module _ (op : Op) (at : Context) (given i : ℕ) (vs : Values) (v : View) (t : 
       → w ≡ subtracted (v .lines) i (v .word) → t₃ ≡ apply (placed i 0 w) t₂ → t₃ ≡ apply (changes op at given i vs v) t
   unfolding changes leaving marking
   change-subtract t₁ t₂ t₃ w o e m g k =
-      k ∙ rw (m, e, g, o) (sym (first-write _ _ _ t ∙ marked-first (isEphemeral (v .lines) i) (write (cell (used i)) 0) (write (cell (used i)) (pick false 1 0)) _ _ as-written))
+      k ∙ rw (m, e, g, o) (sym (first-writes _ _ _ _ _ t ∙ marked-first (isEphemeral (v .lines) i) (write (cell (used i)) 0) (write (cell (used i)) (pick false 1 0)) _ _ as-written))
     where
       as-written : write (cell (used i)) 0 ≡ write (cell (used i)) (pick false 1 0)
       as-written = ap (λ (n : ℕ). write (cell (used i)) n) zero-is
@@ -114,7 +183,7 @@ module _ (op : Op) (at : Context) (given i : ℕ) (vs : Values) (v : View) (t : 
       → u ≡ update vs (v .word) → t₃ ≡ apply (placed i c u) t₂ → t₃ ≡ apply (changes op at given i vs v) t
   unfolding changes leaving joining
   change-move t₁ t₂ t₃ c u o e d f h k =
-      k ∙ rw (d, e, h, f, o) (sym (first-write _ _ _ t ∙ first-write (isChoose at) _ _ (apply (leaving v []) t)))
+      k ∙ rw (d, e, h, f, o) (sym (first-writes _ _ _ _ _ t ∙ first-writes (isChoose at) _ _ _ _ (apply (leaving v []) t)))
 
   pub change-audit : op ≡ AuditValue → t ≡ apply (changes op at given i vs v) t
   unfolding changes apply

@@ -3,14 +3,18 @@ use megaco::Checked;
 use megaco::Context;
 use megaco::Given;
 use megaco::Op;
+use megaco::Seen;
 use megaco::Values;
 use megaco::View;
 ghost use mathlib.Core.Path.{_≡_};
 ghost use mathlib.Core.List.{[]};
 ghost use Rattle.base.specs.Pick.{pick};
-ghost use Rattle.megaco.specs.Table.{apply};
+ghost use Prim.Native.Nat.{_+_};
+ghost use lib.Dec.{ltb};
+ghost use Rattle.megaco.specs.Square.{joined, parted};
+ghost use Rattle.megaco.specs.Table.{most, apply};
 ghost use Rattle.megaco.specs.Items.{update};
-ghost use Rattle.megaco.specs.Running.{judge, isChoose, target, roomChecks, checks, joining, leaving, placed, marking, added, subtracted, changes, settled};
+ghost use Rattle.megaco.specs.Running.{judge, isChoose, target, roomChecks, checks, flowsOf, flowing, joining, leaving, placed, marking, added, subtracted, changes, settled};
 ghost use Rattle.attempt.specs.Judging.{valueOr, Fair};
 
 // ---- judging
@@ -155,22 +159,82 @@ fn subtracted(lines: u32, i: usize, word: u32) -> u32
 
 // ---- changing
 
-// `$` comes to be, with the record given.
+// The two words of a context's flows.
+pub fn put_flows(table: &mut [u32], c: u32, q: [[bool; 8]; 8])
+    ensures { λ _. ⌜ now (table .exit) ≡ apply (flowing c q []) (now (table .entry)) ⌝ }
+{
+    table::set_low_flow(table, c, square::low_of(q));
+    table::set_high_flow(table, c, square::high_of(q));
+}
+
+// One member more; past the square's places they are not told apart.
+fn one_more(members: usize) -> usize
+    ensures { λ r. ⌜ r ≡ pick (ltb members most) (members + 1) most ⌝ }
+{
+    if members < table::MOST {
+        return members + 1;
+    }
+    table::MOST
+}
+
+// The flows of a context that one more has joined.
+fn joined_by(there: Seen, place: usize) -> [[bool; 8]; 8]
+    ensures { λ r. ⌜ r ≡ joined (flowsOf there) (there .members + 1) place ⌝ }
+{
+    let q = square::unpack(there.low, there.high);
+    square::join_place(&q, one_more(there.members), place)
+}
+
+// The flows of a context that one has left.
+fn parted_by(from: Seen, place: usize) -> [[bool; 8]; 8]
+    ensures { λ r. ⌜ r ≡ parted (flowsOf from) place ⌝ }
+{
+    let q = square::unpack(from.low, from.high);
+    square::part_place(&q, place)
+}
+
+// The flows of two members that hear each other: bits 1 and 8.
+const TWO: u32 = 258;
+
+fn put_two(table: &mut [u32], c: u32)
+    ensures { λ _. ⌜ now (table .exit) ≡ apply (flowing c (joined [] 2 0) []) (now (table .entry)) ⌝ }
+{
+    table::set_low_flow(table, c, TWO);
+    table::set_high_flow(table, c, 0);
+}
+
+// The flows of a context that one more joins. Most contexts have two members: the second finds no flows, and the two words are known.
+fn join_flows(table: &mut [u32], c: u32, there: Seen, place: usize)
+    ensures { λ _. ⌜ now (table .exit) ≡ apply (flowing c (joined (flowsOf there) (there .members + 1) place) []) (now (table .entry)) ⌝ }
+{
+    if (there.members == 1) & (place < 2) {
+        put_two(table, c);
+    } else {
+        put_flows(table, c, joined_by(there, place));
+    }
+}
+
+// `$` comes to be, with the record given; one that joins is bothway with every other.
 fn join(table: &mut [u32], at: Context, given: u32, view: View)
     ensures { λ _. ⌜ now (table .exit) ≡ apply (joining at given view []) (now (table .entry)) ⌝ }
 {
     if is_choose(at) {
         table::set_record(table, view.free, given);
+    } else {
+        let there = view.there;
+        join_flows(table, view::number_of(at), there, view.into);
     }
 }
 
-// A context ends with its last termination.
+// A context ends with its last termination; another takes its pairs with it.
 fn leave(table: &mut [u32], view: View)
     ensures { λ _. ⌜ now (table .exit) ≡ apply (leaving view []) (now (table .entry)) ⌝ }
 {
     let from = view.from;
     if from.members <= 1 {
         table::set_record(table, view.here, 0);
+    } else {
+        put_flows(table, view.here, parted_by(from, view.out));
     }
 }
 

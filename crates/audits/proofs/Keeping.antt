@@ -10,6 +10,7 @@ use Rattle.megaco.specs.Tree.{Items, Command, command, Action, action, transact
 use Rattle.megaco.specs.Table.{Write, apply}
 use Rattle.megaco.specs.State.{State, wrote}
 use Rattle.megaco.specs.Reply.{Acted}
+use Rattle.megaco.specs.Topology.{Link, linksOf, triplesOf}
 use Rattle.megaco.specs.Running.{judge, checks, changes, seen, numberOf, look, concluded, effect, Effect, Outcome, tries, missed, actionError, Aim, misses, gateway, meets, aimed, opOf, barred, lost, named, tested, unlessOptional, ordered, runCommand, startChecks, startWrites, anyGiven, over15, startedBy, started, Step, start, order, orders, noCommands, steps, Course, course, begin, advance, proceed, step, run, fresh, runTransaction}
 use Rattle.megaco.specs.declared.Context.{Context}
 use Rattle.megaco.specs.declared.Context.the-variants.{Null, Numbered, Choose, All}
@@ -74,11 +75,11 @@ data Still : List Step → Type 0 where
   starts : {c : Context} {alone : Bool} {ss : List Step} → Still ss → Still (start c [] alone ∷ ss)
   audits : {c : Command} {ss : List Step} → IsAudit c → Still ss → Still (order c ∷ ss)
 
-still-start : (c : Context) (alone : Bool) (there : Seen) → started c [] alone there .writes ≡ []
+still-start : (c : Context) (alone : Bool) (there : Seen) (links : List Link) → started c [] alone there links .writes ≡ []
 unfolding started startedBy startWrites anyGiven pick
-still-start c alone there = by c (judge (startChecks c [] alone there))
+still-start c alone there links = by c (judge (startChecks c [] alone there links))
   where
-    by : (d : Context) (x : Checked) → startedBy d [] alone there x .writes ≡ []
+    by : (d : Context) (x : Checked) → startedBy d [] alone there links x .writes ≡ []
     by Null Passes = refl
     by (Numbered n) Passes = refl
     by Choose Passes = refl
@@ -87,7 +88,7 @@ still-start c alone there = by c (judge (startChecks c [] alone there))
 
 start-keeps : (c : Context) (alone : Bool) (st : State) (acts : List Acted) → proceed (start c [] alone) st acts .state ≡ st
 unfolding proceed begin apply
-start-keeps c alone st acts = ap (λ (ws : List Write). wrote ws st) (still-start c alone (seen (numberOf c) (st .table)))
+start-keeps c alone st acts = ap (λ (ws : List Write). wrote ws st) (still-start c alone (seen (numberOf c) (st .table)) (linksOf (numberOf c) (st .table) (triplesOf [])))
 
 audit-keeps : (c : Command) → IsAudit c → (st : State) (acts : List Acted) → proceed (order c) st acts .state ≡ st
 unfolding proceed advance

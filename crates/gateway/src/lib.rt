@@ -46,7 +46,7 @@ pub fn words_of(lines: u32) -> usize
     ensures { λ r. ⌜ r ≡ words lines ⌝ }
 {
     let n = table::line_terminations(lines) + table::EPHEMERALS as usize;
-    n + n + table::CONTEXTS as usize + table::MAP
+    n + n + table::CONTEXTS as usize + table::MAP + table::FLOWS
 }
 
 // A call with a good count of lines.

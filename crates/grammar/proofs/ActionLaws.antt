@@ -13,12 +13,11 @@ use Rattle.megaco.specs.Bytes.{comma, leftBrace, rightBrace, dash, dollar, star
 use Rattle.megaco.specs.White.{goesOn}
 use Rattle.megaco.specs.Keywords.{formsOf, spelt, spells}
 use Rattle.megaco.specs.Tokens.{signAt, numberAt}
-use Rattle.megaco.specs.Tree.{Command, Action, action}
+use Rattle.megaco.specs.Tree.{Command, Property, Action, action}
 use Rattle.megaco.specs.Reading.{got, listR, unlimited, keyAt, isProperty, commandR, contextR, wordHere, propertyR, Body, body, withProperty, propertyThen, bodyR, actionOf, actionR}
-use Rattle.megaco.specs.declared.Token.the-variants.{CtxToken, PriorityToken, EmergencyToken}
+use Rattle.megaco.specs.declared.Token.the-variants.{CtxToken, PriorityToken, EmergencyToken, TopologyToken}
 use Rattle.megaco.specs.declared.Context.{Context}
 use Rattle.megaco.specs.declared.Context.the-variants.{Null, Numbered, Choose, All}
-use Rattle.megaco.specs.declared.Property.{Property}
 use Rattle.megaco.specs.declared.Parsed.the-variants.{Next}
 use Rattle.grammar.specs.Characters.{Keyword, noMore}
 use Rattle.grammar.specs.Grammar.{LWSP, noLWSP, around, EQUAL, COMMA, single, joined, atMost, uint, name, noPrefix, withPrefix, commandRequest, ammRequest, commandRequestList, contextProperty, contextProperties, ContextID, contextNumber, contextAll, contextNull, contextChoose, actionBody, properties, propertiesCommands, commands, actionRequest, inContext}
@@ -86,19 +85,19 @@ steps-fit (onlyCommands ys) = omega arith
 -- ---- a command does not begin with a property's word
 
 prefix-word : (s t : List ℕ) (at b letter : ℕ) → isLetter letter ≡ true
-    → spelt (formsOf PriorityToken) (letter ∷ []) || spelt (formsOf EmergencyToken) (letter ∷ []) ≡ false → capital b ≡ letter
+    → spelt (formsOf PriorityToken) (letter ∷ []) || spelt (formsOf EmergencyToken) (letter ∷ []) || spelt (formsOf TopologyToken) (letter ∷ []) ≡ false → capital b ≡ letter
     → drop at s ≡ b ∷ dash ∷ t → isProperty (wordHere s at) ≡ false
 unfolding inClass isWord isLetter isDigit isProperty spells capitals
 prefix-word s t at b letter l k e h = rw (word-here s (dash ∷ t) at (name (capital-letter b (rw e l)) noMore (omega arith)) refl h, e) k
 
 command-word : (s t : List ℕ) {a : List ℕ} {x : Command} (at : ℕ) → commandRequest a x → drop at s ≡ a ++ t → isProperty (wordHere s at) ≡ false
 unfolding has pick formsOf spelt same isLetter
-command-word s t at (ammRequest {a} {b} {c} {d} {e} {f} (withPrefix {b = g} m) i n np ne j r z) h =
+command-word s t at (ammRequest {a} {b} {c} {d} {e} {f} (withPrefix {b = g} m) i n np ne nt j r z) h =
     prefix-word s _ at g 0x4f refl refl m (h ∙ regroup6 a b c d e f t)
-command-word s t at (ammRequest {a} {b} {c} {d} {e} {f} noPrefix (withPrefix {b = g} m) n np ne j r z) h =
+command-word s t at (ammRequest {a} {b} {c} {d} {e} {f} noPrefix (withPrefix {b = g} m) n np ne nt j r z) h =
     prefix-word s _ at g 0x57 refl refl m (h ∙ regroup6 a b c d e f t)
-command-word s t at (ammRequest {a} {b} {c} {d} {e} {f} noPrefix noPrefix n np ne j r z) h =
-    rw (word-here s _ at n (ends-word (around-ends (e ++ (f ++ t)) refl j)) (h ∙ regroup6 a b c d e f t)) (no-property c np ne)
+command-word s t at (ammRequest {a} {b} {c} {d} {e} {f} noPrefix noPrefix n np ne nt j r z) h =
+    rw (word-here s _ at n (ends-word (around-ends (e ++ (f ++ t)) refl j)) (h ∙ regroup6 a b c d e f t)) (no-property c np ne nt)
 
 -- ---- the body of an action: complete
 

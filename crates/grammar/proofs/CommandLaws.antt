@@ -1,7 +1,7 @@
 -- Commands are read exactly as the grammar derives them.
 use Prim.Native.Nat.{ℕ, _+_}
 use mathlib.Core.Path.{_≡_, refl, sym, ap, _∙_}
-use mathlib.Core.Bool.{Bool, true, false, _&&_, false≢true}
+use mathlib.Core.Bool.{Bool, true, false, _&&_, _||_, false≢true}
 use mathlib.Core.List.{List, [], _∷_, _++_, append-assoc}
 use lib.ListN.{drop}
 use lib.Seq.{drop-drop}
@@ -18,7 +18,7 @@ use Rattle.megaco.specs.Tokens.{signAt, terminationAt}
 use Rattle.megaco.specs.Tree.{Command}
 use Rattle.megaco.specs.Reading.{got, reading, spaced, wordR, bracesR, itemsR, prefixAt, prefixEnd, isProperty, orderR, commandR}
 use Rattle.megaco.specs.declared.Token.{Token}
-use Rattle.megaco.specs.declared.Token.the-variants.{PriorityToken, EmergencyToken}
+use Rattle.megaco.specs.declared.Token.the-variants.{PriorityToken, EmergencyToken, TopologyToken}
 use Rattle.megaco.specs.declared.Class.the-variants.{WordByte}
 use Rattle.base.proofs.TestLaws.{or-neither}
 use Rattle.grammar.specs.Characters.{Keyword, noMore, andThen}
@@ -100,15 +100,18 @@ no-keyword k a n = whether (spells k a) (λ e. absurd (n (spells-keyword k a e))
 no-spells : (k : Token) (a : List ℕ) → spells k a ≡ false → ¬ Keyword k a
 no-spells k a e x = false≢true (sym e ∙ keyword-spells k a x)
 
-pub no-property : (a : List ℕ) → ¬ Keyword PriorityToken a → ¬ Keyword EmergencyToken a → isProperty a ≡ false
+pub no-property : (a : List ℕ) → ¬ Keyword PriorityToken a → ¬ Keyword EmergencyToken a → ¬ Keyword TopologyToken a → isProperty a ≡ false
 unfolding isProperty
-no-property a n m = rw (no-keyword PriorityToken a n, no-keyword EmergencyToken a m)
+no-property a n m o = rw (no-keyword PriorityToken a n, no-keyword EmergencyToken a m, no-keyword TopologyToken a o)
 
-pub property-no : (a : List ℕ) → isProperty a ≡ false → (¬ Keyword PriorityToken a) × (¬ Keyword EmergencyToken a)
+pub property-no : (a : List ℕ) → isProperty a ≡ false → (¬ Keyword PriorityToken a) × (¬ Keyword EmergencyToken a) × (¬ Keyword TopologyToken a)
 unfolding isProperty
-property-no a e = let p = or-neither (spells PriorityToken a) _ e in (no-spells PriorityToken a (p .0), no-spells EmergencyToken a (p .1))
+property-no a e =
+    let p = or-neither (spells PriorityToken a || spells EmergencyToken a) _ e in
+    let q = or-neither (spells PriorityToken a) _ (p .0) in
+    (no-spells PriorityToken a (q .0), no-spells EmergencyToken a (q .1), no-spells TopologyToken a (p .1))
 
-termination-solid : {a : List ℕ} (t : List ℕ) → TerminationID a → Solid (a ++ t)
+pub termination-solid : {a : List ℕ} (t : List ℕ) → TerminationID a → Solid (a ++ t)
 unfolding isLetter every pick goesOn isWhite
 termination-solid {a} t (root e) = name-solid t (letters-name a (text "ROOT") refl e)
 termination-solid t (named x) = path-solid _ (path-first t x)
@@ -131,7 +134,7 @@ module _ (s : List ℕ) where
   command-reads : (w rest : List ℕ) {a : List ℕ} {x : Command} (at : ℕ) → commandRequest a x → LWSP w → Follow closing rest
       → drop at s ≡ a ++ (w ++ rest) → Gets s (commandR s at) x rest
   unfolding commandR every has pick goesOn isWhite
-  command-reads w rest at (ammRequest {a} {b} {c} {d} {e} {f} {optional} {wild} {is} o i n np ne (around {a = u} {b = v} j k) t z) g y h =
+  command-reads w rest at (ammRequest {a} {b} {c} {d} {e} {f} {optional} {wild} {is} o i n np ne nt (around {a = u} {b = v} j k) t z) g y h =
       let t₃ = f ++ (w ++ rest) in
       let t₂ = e ++ t₃ in
       let t₁ = u ++ (equal ∷ v ++ t₂) in
@@ -141,7 +144,7 @@ module _ (s : List ℕ) where
       given (prefix-complete 0x4f s (b ++ (c ++ t₁)) at o (prefix-bare (c ++ t₁) i (name-bare 0x4f t₁ n m)) q) (λ q₁.
       given (prefix-complete 0x57 s (c ++ t₁) (prefixEnd 0x4f s at) i (name-bare 0x57 t₁ n m) (q₁ .1)) (λ q₂.
       given (braces-led s (items-complete s 8) z g y) (λ l. rw (q₁ .0, q₂ .0) (
-      gets-bind s c _ _ (gets-spaced s {w = u} _ (order-gets t₁ _ n (no-property c np ne) m (q₂ .1)) j refl) (λ p r.
+      gets-bind s c _ _ (gets-spaced s {w = u} _ (order-gets t₁ _ n (no-property c np ne nt) m (q₂ .1)) j refl) (λ p r.
       gets-skip s (signAt equal s p) _ (sign-complete s p equal t₂ k (termination-solid t₃ t) r) (λ p r.
       gets-bind s e _ _ (gets-spaced s {w = l .white} _
       (rw (← l .split) (gets-part s e t₃ p (terminationAt s p) (λ x. x) r (termination-exact s t₃ p t (ends-name (led-ends s refl l)) r)))
@@ -154,7 +157,7 @@ module _ (s : List ℕ) where
 
   command-solid : {a : List ℕ} {x : Command} (t : List ℕ) → commandRequest a x → Solid (a ++ t)
   unfolding isLetter
-  command-solid t (ammRequest {a} {b} {c} {d} {e} {f} o i n np ne j r z) =
+  command-solid t (ammRequest {a} {b} {c} {d} {e} {f} o i n np ne nt j r z) =
       rw (regroup6 a b c d e f t) (prefix-solid _ refl o (prefix-solid _ refl i (name-solid _ n)))
 
   pub command-complete : Complete commandRequest closing s (commandR s)
@@ -169,7 +172,7 @@ module _ (s : List ℕ) where
   order-spaced a at e h = spaced-got s a e _ h (λ p m l. given (order-got a at p m) (λ y. given (white-sound s p e l) (λ v.
       (v .bytes, y .0, y .1, v .derives, y .2 ∙ ap (λ t. a ++ t) (v .split)))))
 
-  termination-spaced : (a : List ℕ) (at e : ℕ) → spaced s (reading (terminationAt s at) (part s at)) ≡ got a e
+  pub termination-spaced : (a : List ℕ) (at e : ℕ) → spaced s (reading (terminationAt s at) (part s at)) ≡ got a e
       → (w : List ℕ) × TerminationID a × LWSP w × (drop at s ≡ a ++ (w ++ drop e s))
   termination-spaced a at e h = spaced-got s a e _ h (λ p m l. given (reading-got a p (terminationAt s at) (part s at) m) (λ z.
       given (termination-sound s at p (z .0)) (λ y. given (white-sound s p e l) (λ v. given (sym (y .derives .1) ∙ z .1) (λ i.
@@ -191,8 +194,8 @@ module _ (s : List ℕ) where
           bytes = y₁ .0 ++ y₂ .0 ++ c ++ (y₃ .0 ++ y₄ .bytes) ++ t ++ y₆ .bytes;
           white = y₆ .white;
           derives =
-              rw (← (z .0)) (ammRequest (y₁ .1) (y₂ .1) (y₃ .1) (property-no c (y₃ .2) .0) (property-no c (y₃ .2) .1) (equal-of (y₃ .3) (y₄ .derives))
-              (y₅ .1) (y₆ .derives));
+              rw (← (z .0)) (ammRequest (y₁ .1) (y₂ .1) (y₃ .1) (property-no c (y₃ .2) .0) (property-no c (y₃ .2) .1) (property-no c (y₃ .2) .2)
+              (equal-of (y₃ .3) (y₄ .derives)) (y₅ .1) (y₆ .derives));
           isWhite = y₆ .isWhite;
           split = y₁ .2 ∙ rw (y₂ .2, y₃ .4, y₄ .split, y₅ .3, y₆ .split) (simp append-assoc);
         })))))))))));

@@ -9,6 +9,7 @@ pub mod MidLaws
 pub mod ListLaws
 pub mod ItemLaws
 pub mod CommandLaws
+pub mod TopologyLaws
 pub mod PropertyLaws
 pub mod ActionLaws
 pub mod HeaderLaws

@@ -4,9 +4,9 @@ use mathlib.Core.Bool.{true, false}
 use mathlib.Core.List.{[], _∷_}
 use mathlib.Core.Option.{none, some}
 use Rattle.base.specs.Bytes.{text}
-use Rattle.megaco.specs.Tree.{plain, quoted, item, command, action, transaction}
+use Rattle.megaco.specs.Tree.{plain, quoted, item, command, action, transaction, triple, priority, emergency, topology}
 use Rattle.megaco.specs.declared.Context.the-variants.{Null, Numbered, Choose}
-use Rattle.megaco.specs.declared.Property.the-variants.{Priority, Emergency}
+use Rattle.megaco.specs.declared.Direction.the-variants.{Oneway, Bothway}
 use Rattle.megaco.proofs.Opened.{opened}
 use Rattle.grammar.specs.Grammar.{megacoMessage}
 use Rattle.grammar.specs.Faults.{Fault403, Fault406}
@@ -24,7 +24,7 @@ spaced-line : megacoMessage (text " MEGACO/01\t<gw.example>:2944 ; from\r\nTrans
     action Choose [] (command true true (text "add") (text "*") (some (
     item (text "M") none none (some (item (text "o") none none
     (some (item (text "mo") none (some (quoted (text "x y"))) none ∷ [])) ∷ [])) ∷ [])) ∷ [])
-    ∷ action (Numbered 1) (Priority 3 ∷ Emergency ∷ []) [] ∷ []) ∷ [])
+    ∷ action (Numbered 1) (priority 3 ∷ emergency ∷ []) [] ∷ []) ∷ [])
 unfolding opened
 spaced-line = sound _ _ refl
 
@@ -42,6 +42,27 @@ inner-audit = fault-403 _ 1 .0 refl
 empty-media : Fault403 (text "!/1 [10.0.0.1] T=1{C=-{MF=L/1/1{M{}}}}") 1
 unfolding opened
 empty-media = fault-403 _ 1 .0 refl
+
+-- two triples in one topology, a property before it and a command behind it
+topology-line : megacoMessage (text "!/1 [10.0.0.1] T=1{C=2{PR=1,TP { L/1/1 , * , oneway, r/3,$,BW },S=*}}") 1
+    (transaction 1 (
+    action (Numbered 2) (priority 1 ∷ topology (triple (text "L/1/1") (text "*") Oneway ∷ triple (text "r/3") (text "$") Bothway ∷ []) ∷ [])
+    (command false false (text "S") (text "*") none ∷ []) ∷ []) ∷ [])
+unfolding opened
+topology-line = sound _ _ refl
+
+-- no triple, two names without a direction, a word that is no direction
+no-triple : Fault403 (text "!/1 [10.0.0.1] T=1{C=2{TP{}}}") 1
+unfolding opened
+no-triple = fault-403 _ 1 .0 refl
+
+no-direction : Fault403 (text "!/1 [10.0.0.1] T=1{C=2{TP{L/1/1,L/1/2}}}") 1
+unfolding opened
+no-direction = fault-403 _ 1 .0 refl
+
+other-direction : Fault403 (text "!/1 [10.0.0.1] T=1{C=2{TP{L/1/1,L/1/2,IN}}}") 1
+unfolding opened
+other-direction = fault-403 _ 1 .0 refl
 
 -- "T=1{}"
 empty-braces : Fault403 (text "!/1 [10.0.0.1] T=1{}") 1

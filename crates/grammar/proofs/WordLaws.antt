@@ -16,7 +16,7 @@ use Rattle.megaco.specs.White.{after}
 use Rattle.megaco.specs.Keywords.{Forms, forms, formsOf, spelt, spells}
 use Rattle.megaco.specs.Tokens.{letterAt, rowAt, wordAt, keywordAt}
 use Rattle.megaco.specs.declared.Token.{Token}
-use Rattle.megaco.specs.declared.Token.the-variants.{AuditToken, TransToken, CtxToken, PriorityToken, EmergencyToken}
+use Rattle.megaco.specs.declared.Token.the-variants.{AuditToken, TransToken, CtxToken, PriorityToken, EmergencyToken, TopologyToken, IsolateToken, OnewayToken, BothwayToken}
 use Rattle.megaco.specs.declared.Class.{Class}
 use Rattle.megaco.specs.declared.Class.the-variants.{WordByte}
 use Rattle.megaco.specs.declared.Parsed.the-variants.{Next}
@@ -198,3 +198,19 @@ emergency-name x = spelling-name x refl
 pub audit-name : {a : List ℕ} → Keyword AuditToken a → NAME a
 unfolding formsOf every pick isLetter
 audit-name x = spelling-name x refl
+
+pub topology-name : {a : List ℕ} → Keyword TopologyToken a → NAME a
+unfolding formsOf every pick isLetter
+topology-name x = spelling-name x refl
+
+pub isolate-name : {a : List ℕ} → Keyword IsolateToken a → NAME a
+unfolding formsOf every pick isLetter
+isolate-name x = spelling-name x refl
+
+pub oneway-name : {a : List ℕ} → Keyword OnewayToken a → NAME a
+unfolding formsOf every pick isLetter
+oneway-name x = spelling-name x refl
+
+pub bothway-name : {a : List ℕ} → Keyword BothwayToken a → NAME a
+unfolding formsOf every pick isLetter
+bothway-name x = spelling-name x refl

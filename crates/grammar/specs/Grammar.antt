@@ -12,12 +12,12 @@ use lib.ListN.{length}
 use Rattle.base.specs.Bytes.{text}
 use Rattle.megaco.specs.Bytes.{equal, comma, leftBrace, rightBrace, slash, colon, dot, quote, semicolon, dash, dollar, star, capital, capitals}
 use Rattle.grammar.specs.Characters.{Keyword, ALPHA, DIGIT, AlphaDigitOr, SafeChar, WSP, QuotedChar, CommentChar, Many}
-use Rattle.megaco.specs.Tree.{Value, plain, quoted, ItemOf, item, Item, Items, Command, command, Action, action, Transaction, transaction}
-use Rattle.megaco.specs.declared.Token.the-variants.{AuditToken, MegacopToken, TransToken, CtxToken, PriorityToken, EmergencyToken}
+use Rattle.megaco.specs.Tree.{Value, plain, quoted, ItemOf, item, Item, Items, Command, command, Action, action, Transaction, transaction, Triple, triple, Property, priority, emergency, topology}
+use Rattle.megaco.specs.declared.Token.the-variants.{AuditToken, MegacopToken, TransToken, CtxToken, PriorityToken, EmergencyToken, TopologyToken, IsolateToken, OnewayToken, BothwayToken}
 use Rattle.megaco.specs.declared.Context.{Context}
 use Rattle.megaco.specs.declared.Context.the-variants.{Null, Numbered, Choose, All}
-use Rattle.megaco.specs.declared.Property.{Property}
-use Rattle.megaco.specs.declared.Property.the-variants.{Priority, Emergency}
+use Rattle.megaco.specs.declared.Direction.{Direction}
+use Rattle.megaco.specs.declared.Direction.the-variants.{Isolate, Oneway, Bothway}
 
 -- ---- white space
 
@@ -185,10 +185,10 @@ pub data Prefix (letter : ℕ) : List ℕ → Bool → Type 0 where
   withPrefix : {b : ℕ} → capital b ≡ letter → Prefix letter (b ∷ dash ∷ []) true
 
 -- ["O-"] ["W-"] commandRequest, ammRequest = (AddToken / MoveToken / ModifyToken ) EQUAL TerminationID [LBRKT ammParameter *(COMMA ammParameter) RBRKT]:
--- any word, but "PR .. EG; these words are never commands"
+-- any word, but "PR .. EG; these words are never commands", nor is TP
 pub data commandRequest : List ℕ → Command → Type 0 where
   ammRequest : {a b c d e f : List ℕ} {optional wild : Bool} {is : Items} → Prefix 0x4f a optional → Prefix 0x57 b wild
-      → NAME c → ¬ Keyword PriorityToken c → ¬ Keyword EmergencyToken c → EQUAL d → TerminationID e → Braces (ammParameters 8) f is
+      → NAME c → ¬ Keyword PriorityToken c → ¬ Keyword EmergencyToken c → ¬ Keyword TopologyToken c → EQUAL d → TerminationID e → Braces (ammParameters 8) f is
       → commandRequest (a ++ b ++ c ++ d ++ e ++ f) (command optional wild c e is)
 
 -- "At most 64 commands an action"
@@ -197,10 +197,27 @@ commandRequestList = AtMost 64 (Commas commandRequest)
 
 -- ---- actions
 
--- contextProperty = priority / EmergencyToken, priority = PriorityToken EQUAL UINT16: "PR `=` 1 to 5 digits"
+-- topologyDirection = BothwayToken / IsolateToken / OnewayToken
+pub data topologyDirection : List ℕ → Direction → Type 0 where
+  bothway : {a : List ℕ} → Keyword BothwayToken a → topologyDirection a Bothway
+  isolate : {a : List ℕ} → Keyword IsolateToken a → topologyDirection a Isolate
+  oneway : {a : List ℕ} → Keyword OnewayToken a → topologyDirection a Oneway
+
+-- topologyTriple = terminationA COMMA terminationB COMMA topologyDirection, terminationA = TerminationID, terminationB = TerminationID
+pub data topologyTriple : List ℕ → Triple → Type 0 where
+  between : {a b c d e : List ℕ} {x : Direction} → TerminationID a → COMMA b → TerminationID c → COMMA d → topologyDirection e x
+      → topologyTriple (a ++ b ++ c ++ d ++ e) (triple a c x)
+
+-- topologyDescriptor = TopologyToken LBRKT topologyTriple *(COMMA topologyTriple) RBRKT
+pub data topologyDescriptor : List ℕ → List Triple → Type 0 where
+  triples : {a b c d : List ℕ} {ts : List Triple} → Keyword TopologyToken a → LBRKT b → Commas topologyTriple c ts → RBRKT d
+      → topologyDescriptor (a ++ b ++ c ++ d) ts
+
+-- contextProperty = (topologyDescriptor / priority / EmergencyToken), priority = PriorityToken EQUAL UINT16: "PR `=` 1 to 5 digits"
 pub data contextProperty : List ℕ → Property → Type 0 where
-  priority : {a b c : List ℕ} {n : ℕ} → Keyword PriorityToken a → EQUAL b → UINT 5 99999 c n → contextProperty (a ++ b ++ c) (Priority n)
-  emergency : {a : List ℕ} → Keyword EmergencyToken a → contextProperty a Emergency
+  withTopology : {a : List ℕ} {ts : List Triple} → topologyDescriptor a ts → contextProperty a (topology ts)
+  withPriority : {a b c : List ℕ} {n : ℕ} → Keyword PriorityToken a → EQUAL b → UINT 5 99999 c n → contextProperty (a ++ b ++ c) (priority n)
+  withEmergency : {a : List ℕ} → Keyword EmergencyToken a → contextProperty a emergency
 
 -- contextProperties = contextProperty *(COMMA contextProperty)
 abbrev pub contextProperties : List ℕ → List Property → Type 0

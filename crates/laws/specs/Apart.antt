@@ -3,7 +3,8 @@ use Prim.Native.Nat.{ℕ, _<_}
 use mathlib.Core.Path.{_≡_}
 use mathlib.Core.List.{List, [], _∷_}
 use Rattle.megaco.specs.Bytes.{star, dollar}
-use Rattle.megaco.specs.Tree.{Command, command, Action, action, Transaction, transaction}
+use Rattle.megaco.specs.Topology.{triplesOf}
+use Rattle.megaco.specs.Tree.{Command, command, Triple, triple, Action, action, Transaction, transaction}
 use Rattle.megaco.specs.Table.{fitted, ctx, get}
 use Rattle.megaco.specs.Names.{nameOf}
 use Rattle.megaco.specs.declared.Context.{Context}
@@ -23,9 +24,14 @@ unfoldable pub namesThen : List Command → List (List ℕ) → List (List ℕ)
 namesThen [] rest = rest
 namesThen (command o w word name items ∷ cs) rest = name ∷ namesThen cs rest
 
+-- "there a name in a triple counts as written as a termination" (document 02, CR 6)
+unfoldable pub triplesThen : List Triple → List (List ℕ) → List (List ℕ)
+triplesThen [] rest = rest
+triplesThen (triple a b d ∷ ts) rest = a ∷ b ∷ triplesThen ts rest
+
 unfoldable pub namesIn : List Action → List (List ℕ)
 namesIn [] = []
-namesIn (action c ps cs ∷ acts) = namesThen cs (namesIn acts)
+namesIn (action c ps cs ∷ acts) = triplesThen (triplesOf ps) (namesThen cs (namesIn acts))
 
 abbrev pub contextsOf : Transaction → List Context
 contextsOf (transaction id acts) = contextsIn acts

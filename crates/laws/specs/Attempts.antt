@@ -1,11 +1,11 @@
 -- Attempts leave a sound table sound, in a numbered context, in null and in `$`, a wildcard's too.
-use Prim.Native.Nat.{ℕ, _%_, _≤_, _<_, min}
+use Prim.Native.Nat.{ℕ, _+_, _-_, _%_, _≤_, _<_, min}
 use mathlib.Core.Path.{_≡_, refl, sym, ap, _∙_}
 use mathlib.Core.Logic.{_≢_}
-use mathlib.Core.Bool.{Bool, true, false, _&&_, and-true, and-false}
+use mathlib.Core.Bool.{Bool, true, false, not, _&&_, and-true, and-false}
 use mathlib.Core.List.{List, [], _∷_}
 use lib.Dec.{ltb, leb, eqb}
-use borrow.Author.Tests.{eqb-true, eqb-false, eq-eqb, ltb-true, lt-ltb, leb-true, leb-false, le-leb, not-false}
+use borrow.Author.Tests.{eqb-true, eqb-false, eq-eqb, ltb-true, lt-ltb, leb-true, leb-false, le-leb, not-true, not-false}
 use native.Mathlib.Omega.{arith}
 use Rattle.base.specs.Pick.{pick}
 use Rattle.megaco.specs.declared.Context.{Context}
@@ -16,18 +16,21 @@ use Rattle.megaco.specs.declared.Checked.{Checked}
 use Rattle.megaco.specs.declared.Values.{Values}
 use Rattle.megaco.specs.declared.Seen.{Seen}
 use Rattle.megaco.specs.declared.View.{View}
-use Rattle.megaco.specs.Table.{lineTerminations, terminations, contexts, fitted, most, prop, rec, used, ctx, cell, get, Write, write, apply, recordWords, isEphemeral, exists, known, members, freeContext}
+use Rattle.megaco.specs.Table.{lineTerminations, terminations, contexts, fitted, most, prop, rec, used, flow, lowFlow, highFlow, ctx, cell, get, Write, write, apply, recordWords, isEphemeral, exists, known, members, placeIn, contextWords, freeContext}
+use Rattle.megaco.specs.Square.{Square, squareOf, joined as joinedSquare, parted}
+use Rattle.megaco.proofs.Squares.{shape-joined, shape-parted}
 use Rattle.megaco.specs.Items.{update}
 use Rattle.megaco.specs.State.{State, wrote}
-use Rattle.megaco.specs.Running.{unseen, seen, numberOf, freeAt, look, isChoose, target, roomChecks, checks, joining, leaving, placed, marking, added, subtracted, changes, settled, inPlace, Effect, concluded, effect, tries}
+use Rattle.megaco.specs.Running.{unseen, seenIn, seen, flowsOf, flowing, numberOf, freeAt, look, isChoose, target, roomChecks, checks, joining, leaving, placed, marking, added, subtracted, changes, settled, inPlace, Effect, concluded, effect, tries}
 use Rattle.base.proofs.TestLaws.{clash, and-both, both-and, pick-of}
 use Rattle.laws.specs.Passed.{Passed, judged}
 use Rattle.laws.specs.Slots.{fitted-apply}
-use Rattle.laws.specs.Counting.{member, lowest}
+use Rattle.laws.specs.Counting.{take-short, counted-before, member, lowest}
+use Rattle.laws.specs.Flows.{Fit, SoundFlows, fit-joined, fit-parted}
 use Rattle.laws.specs.Sound.{SoundWord, Whole, alive, record-words, record-at}
 use Rattle.laws.specs.Values.{Fair, update-sound}
 use Rattle.laws.specs.Aims.{Meant, Each, more, each-on}
-use Rattle.laws.specs.Moved.{Moves, Goes, moved-sound, moved-here, modified-place, modified-sound}
+use Rattle.laws.specs.Moved.{Moves, Streams, Fitting, Goes, low-low, high-high, low-high, high-low, moved-sound, moved-here, modified-place, modified-sound}
 
 -- ---- what an attempt sees
 
@@ -52,10 +55,7 @@ pub seen-there : (c : ℕ) (t : List ℕ) → 0 < seen c t .held → (0 < c) × 
 unfolding seen pick
 seen-there c t h = by (known c) refl h
   where
-    here : Seen
-    here = record { held = get t (cell (rec c)); members = members c t }
-
-    by : (b : Bool) → known c ≡ b → 0 < (pick b here unseen) .held → (0 < c) × (c ≤ contexts) × (0 < get t (cell (rec c)))
+    by : (b : Bool) → known c ≡ b → 0 < (pick b (seenIn c t) unseen) .held → (0 < c) × (c ≤ contexts) × (0 < get t (cell (rec c)))
     by true e h = let k = known-both c e in (k .0, k .1, h)
     by false e h = absurd (omega arith)
 
@@ -179,7 +179,7 @@ marking-moves n g d i x y m h z =
 
 joining-moves : (at : Context) (mark : Bool) (g d i y : ℕ) (v : View) (t : List ℕ) (ws : List Write) → Target at t (target at v)
     → Moves (fitted t) false false mark g d i (target at v) y ws → Moves (fitted t) (isChoose at) false mark g d i (target at v) y (joining at g v ws)
-unfolding joining pick
+unfolding joining flowing pick
 joining-moves at mark g d i y v t ws T M =
     pick-of (Moves (fitted t) (isChoose at) false mark g d i (target at v) y) (isChoose at)
     (λ e. let n : target at v ≡ v .free = chosen at v e in
@@ -190,8 +190,9 @@ joining-moves at mark g d i y v t ws T M =
       record′ = λ c w. M .record′ c (pick (eqb (v .free) c) g w) ∙ rw (n, e, and-true (eqb (v .free) c), and-false (eqb (v .free) c), and-false (eqb d c));
       place = M .place;
     })
-    (λ e. record {
-      within = M .within;
+    (λ e. let n : target at v ≡ numberOf at = T .named e in
+    record {
+      within = (omega (arith, n, T .some, T .low), (omega (arith, n, T .some, T .low), M .within));
       context = M .context;
       property = M .property;
       record′ = λ c w. rw e (M .record′ c w);
@@ -200,7 +201,7 @@ joining-moves at mark g d i y v t ws T M =
 
 leaving-moves : (n : ℕ) (new mark : Bool) (g i x y : ℕ) (v : View) (ws : List Write) → 0 < v .here → v .here ≤ contexts → Moves n new false mark g (v .here) i x y ws
     → Moves n new (leb (v .from .members) 1) mark g (v .here) i x y (leaving v ws)
-unfolding leaving pick
+unfolding leaving flowing pick
 leaving-moves n new mark g i x y v ws p q M =
     pick-of (Moves n new (leb (v .from .members) 1) mark g (v .here) i x y) (leb (v .from .members) 1)
     (λ e. record {
@@ -211,12 +212,87 @@ leaving-moves n new mark g i x y v ws p q M =
       place = M .place;
     })
     (λ e. record {
-      within = search M;
+      within = (omega (arith, p, q), (omega (arith, p, q), M .within));
       context = M .context;
       property = M .property;
       record′ = λ c w. rw e (M .record′ c w);
       place = M .place;
     })
+
+-- ---- the flows that an attempt writes
+
+-- of the context that it joins, and of the one that it leaves
+abbrev joinedIn : View → Square
+joinedIn v = joinedSquare (flowsOf (v .there)) (v .there .members + 1) (v .into)
+
+abbrev partedIn : View → Square
+partedIn v = parted (flowsOf (v .from)) (v .out)
+
+module _ (d x : ℕ) (J P : Square) where
+  placed-streams : (i c y : ℕ) → Streams false false d x J P (placed i c y)
+  unfolding placed pick
+  placed-streams i c y =
+      record { low = λ e v h. rw (and-false (eqb x e), and-false (eqb d e)); high = λ e v h. rw (and-false (eqb x e), and-false (eqb d e)) }
+
+  marking-streams : (n i m : ℕ) (ws : List Write) → Streams false false d x J P ws → Streams false false d x J P (marking n i m ws)
+  unfolding marking pick
+  marking-streams n i m ws S = pick-of (Streams false false d x J P) (isEphemeral n i) (λ e. record { low = S .low; high = S .high }) (λ e. S)
+
+joining-streams : (at : Context) (g d x : ℕ) (v : View) (P : Square) (ws : List Write) → 0 < x → (isChoose at ≡ false → x ≡ numberOf at)
+    → Streams false false d x (joinedIn v) P ws → Streams (not (isChoose at)) false d x (joinedIn v) P (joining at g v ws)
+unfolding joining flowing pick
+joining-streams at g d x v P ws p t S =
+    pick-of (Streams (not (isChoose at)) false d x (joinedIn v) P) (isChoose at)
+    (λ e. record { low = λ c w h. rw e (S .low c w h); high = λ c w h. rw e (S .high c w h) })
+    (λ e. let n : x ≡ numberOf at = t e in
+    record {
+      low = λ c w h. S .low c _ h ∙ rw (e, ← n, low-low x c p h, high-low x c, and-true (eqb x c), and-false (eqb x c), and-false (eqb d c));
+      high = λ c w h. S .high c _ h ∙ rw (e, ← n, low-high x c, high-high x c p h, and-true (eqb x c), and-false (eqb x c), and-false (eqb d c));
+    })
+
+leaving-streams : (joins : Bool) (x : ℕ) (v : View) (J : Square) (ws : List Write) → 0 < v .here
+    → Streams joins false (v .here) x J (partedIn v) ws → Streams joins (not (leb (v .from .members) 1)) (v .here) x J (partedIn v) (leaving v ws)
+unfolding leaving flowing pick
+leaving-streams joins x v J ws p S =
+    pick-of (Streams joins (not (leb (v .from .members) 1)) (v .here) x J (partedIn v)) (leb (v .from .members) 1)
+    (λ e. record { low = λ c w h. rw e (S .low c w h); high = λ c w h. rw e (S .high c w h) })
+    (λ e. record {
+      low = λ c w h. S .low c _ h ∙ rw (e, low-low (v .here) c p h, high-low (v .here) c, and-true (eqb (v .here) c), and-false (eqb (v .here) c));
+      high = λ c w h. S .high c _ h ∙ rw (e, low-high (v .here) c, high-high (v .here) c p h, and-true (eqb (v .here) c), and-false (eqb (v .here) c));
+    })
+
+-- a termination has a place before the last of its context
+place-before : (i : ℕ) (t : List ℕ) → Whole t → i < terminations (fitted t) → 0 < get t (ctx i) → placeIn (get t (ctx i)) i t < members (get t (ctx i)) t
+unfolding placeIn members contextWords pick
+place-before i t W h p =
+    rw (both-known (get t (ctx i)) p (W .place i h), take-short i (terminations (fitted t)) t (omega arith))
+    (counted-before (terminations (fitted t)) (get t (ctx i)) i t h (omega (arith, W .long)) refl)
+
+-- the flows of a context that is seen
+pub seen-flows : (c : ℕ) (t : List ℕ) → Whole t → 0 < c → c ≤ contexts → Fit (members c t) (flowsOf (seen c t))
+unfolding seen flowsOf pick
+seen-flows c t W p q = rw (both-known c p q) (W .flows c p q .fit)
+
+-- the flows are sound: of a termination that goes from where it stands, d, to x
+module _ (at : Context) (i : ℕ) (t : List ℕ) (W : Whole t) (h : i < terminations (fitted t)) where
+  fit-leaving : 0 < get t (ctx i) → Fit (members (get t (ctx i)) t - 1) (partedIn (look at i t))
+  unfolding look
+  fit-leaving p = fit-parted _ (members (get t (ctx i)) t) _ (place-before i t W h p) (seen-flows (get t (ctx i)) t W p (W .place i h))
+
+  last-leaving : 0 < get t (ctx i) → not (leb (look at i t .from .members) 1) ≡ false → members (get t (ctx i)) t ≤ 1
+  unfolding look
+  last-leaving p e = rw (seen-members (get t (ctx i)) t p (W .place i h)) at (leb-true (seen (get t (ctx i)) t .members) 1 (not-false (leb (seen (get t (ctx i)) t .members) 1) e))
+
+  fit-joining : (x : ℕ) → Target at t x → not (isChoose at) ≡ true → Fit (members x t + 1) (joinedIn (look at i t))
+  unfolding look
+  fit-joining x T e =
+      let n : x ≡ numberOf at = T .named (not-true (isChoose at) e) in
+      let m : seen (numberOf at) t .members ≡ members x t = rw n (seen-members (numberOf at) t (rw n at (T .some)) (rw n at (T .low))) in
+      rw m (fit-joined _ (members x t + 1) _)
+
+  -- a new context has no members
+  alone-joining : (x : ℕ) → Target at t x → not (isChoose at) ≡ false → members x t ≡ 0
+  alone-joining x T e = let s = W .held x (T .some) (T .low) in let z = T .fresh (not-false (isChoose at) e) in omega (arith, s .both, z)
 
 -- a context that is joined
 joined : (at : Context) (g d i x y : ℕ) (t : List ℕ) (last mark : Bool) → Target at t x → Present g → i < terminations (fitted t) → get t (ctx i) ≡ d → x ≢ d → SoundWord y
@@ -282,10 +358,12 @@ moved-away at i x t W T h p n e = by (isChoose at) refl
 arrives : (op : Op) (at : Context) (given d i y : ℕ) (t : List ℕ) (last mark : Bool) (ws : List Write) → inPlace op ≡ false
     → ((c : Context) (u : List ℕ) → Joins c u → Ready op c u) → Whole t → Joins at t → Target at t (target at (look at i t))
     → Moves (fitted t) (isChoose at) last mark given d i (target at (look at i t)) y ws → Goes t (isChoose at) last mark given d i (target at (look at i t)) y
+    → (parts : Bool) → Streams (not (isChoose at)) parts d (target at (look at i t)) (joinedIn (look at i t)) (partedIn (look at i t)) ws
+    → Fitting t (not (isChoose at)) parts d (target at (look at i t)) (joinedIn (look at i t)) (partedIn (look at i t))
     → Leaves op (settled at (look at i t)) t (apply ws t)
-arrives op at given d i y t last mark ws n r W j T m g =
+arrives op at given d i y t last mark ws n r W j T m g parts s f =
     let x : ℕ = target at (look at i t) in
-    let S = moved-sound t (isChoose at) last mark given d i x y ws W m g in
+    let S = moved-sound t (isChoose at) last mark given d i x y ws W m g (not (isChoose at)) parts (joinedIn (look at i t)) (partedIn (look at i t)) s f in
     record {
       whole = S;
       ready = r _ _ (joined-there at i (look at i t) t (apply ws t) j T (rw (fitted-apply ws t) (g .small)) S (moved-here t (isChoose at) last mark given d i x y ws W m g));
@@ -321,6 +399,17 @@ departs c given i t W h k e =
             there = λ _ z. absurd (omega arith);
             ends = λ z. ap (λ (m : ℕ). leb m 1) (here-low i t W k z);
             stays = λ m l. absurd (no-line (fitted t) i m l);
+          })
+          false (not (leb (look (Numbered c) i t .from .members) 1)) (joinedIn (look (Numbered c) i t)) (partedIn (look (Numbered c) i t))
+          (leaving-streams false 0 (look (Numbered c) i t) (joinedIn (look (Numbered c) i t)) _ b
+          (marking-streams d 0 (joinedIn (look (Numbered c) i t)) (partedIn (look (Numbered c) i t)) (fitted t) i 0 _ (placed-streams d 0 (joinedIn (look (Numbered c) i t)) (partedIn (look (Numbered c) i t)) i 0 _)))
+          (record {
+            shape-in = shape-joined _ _ _;
+            fit-in = λ z. absurd (clash (sym z));
+            alone = λ _ z. absurd (omega arith);
+            shape-out = shape-parted _ _;
+            fit-out = λ _ _. fit-leaving (Numbered c) i t W k b;
+            last = λ e _. last-leaving (Numbered c) i t W k b e;
           });
       ready = stands h;
       meant = λ j m. record { small = rw (fitted-apply (leaving (look (Numbered c) i t) (marking (fitted t) i 0 (placed i 0 (subtracted (fitted t) i w)))) t) (m .small); there = λ z. absurd (clash (sym z)) };
@@ -339,6 +428,17 @@ attempt-sound Add at given i vs t W j M G F p =
     (joining-moves at k given 0 i (update vs w) v t _ T (marking-moves (fitted t) given 0 i (target at v) (update vs w) 1 (M .small) (omega (arith, T .some))))
     (joined at given 0 i (target at v) (update vs w) t false k T G (M .small) (q .0) (λ z. omega (arith, T .some))
     (update-sound vs w F (added-sound (fitted t) i (get t (cell (prop i))) (W .word i (M .small)))) (λ z. absurd (omega arith)) (λ e h. absurd (no-line (fitted t) i e h)))
+    false
+    (joining-streams at given 0 (target at v) v (partedIn v) _ (T .some) (T .named)
+    (marking-streams 0 (target at v) (joinedIn v) (partedIn v) (fitted t) i 1 _ (placed-streams 0 (target at v) (joinedIn v) (partedIn v) i _ _)))
+    (record {
+      shape-in = shape-joined _ _ _;
+      fit-in = λ e. fit-joining at i t W (M .small) (target at v) T e;
+      alone = λ e _. alone-joining at i t W (M .small) (target at v) T e;
+      shape-out = shape-parted _ _;
+      fit-out = λ e _. absurd (clash (sym e));
+      last = λ _ z. absurd (omega arith);
+    })
 attempt-sound Modify at given i vs t W j M G F p =
     let w : ℕ = get t (cell (prop i)) in
     record {
@@ -359,6 +459,17 @@ attempt-sound Move at given i vs t W j M G F p =
     (joining-moves at false given d i (update vs w) v t _ T (placed-moves (fitted t) given d i (target at v) (update vs w) (M .small))))
     (joined at given d i (target at v) (update vs w) t (leb (seen d t .members) 1) false T G (M .small) refl (moved-away at i (target at v) t W T (M .small) b (q .1))
     (update-sound vs w F (W .word i (M .small))) (λ z. ap (λ (m : ℕ). leb m 1) (here-low i t W (M .small) z)) (λ _ _. b))
+    (not (leb (seen d t .members) 1))
+    (leaving-streams (not (isChoose at)) (target at v) v (joinedIn v) _ b
+    (joining-streams at given d (target at v) v (partedIn v) _ (T .some) (T .named) (placed-streams d (target at v) (joinedIn v) (partedIn v) i _ _)))
+    (record {
+      shape-in = shape-joined _ _ _;
+      fit-in = λ e. fit-joining at i t W (M .small) (target at v) T e;
+      alone = λ e _. alone-joining at i t W (M .small) (target at v) T e;
+      shape-out = shape-parted _ _;
+      fit-out = λ _ _. fit-leaving at i t W (M .small) b;
+      last = λ e _. last-leaving at i t W (M .small) b e;
+    })
 attempt-sound AuditValue at given i vs t W j M G F p = record { whole = W; ready = tt; meant = λ k m. m }
 
 -- ---- the attempts of a command

@@ -1,5 +1,5 @@
 -- How many stand in a context, and the lowest absent number.
-use Prim.Native.Nat.{ℕ, zero, suc, _+_, _<_}
+use Prim.Native.Nat.{ℕ, zero, suc, _+_, _≤_, _<_}
 use mathlib.Core.Path.{_≡_, refl, sym, ap, _∙_}
 use mathlib.Core.Bool.{Bool, true, false}
 use mathlib.Core.List.{List, [], _∷_}
@@ -39,6 +39,25 @@ count-set zero c i v t h l = absurd (omega arith)
 count-set (suc k) c i v [] h l = absurd (omega arith)
 count-set (suc k) c zero v (x ∷ xs) h l = omega arith
 count-set (suc k) c (suc i) v (x ∷ xs) h l = omega (arith, count-set k c i v xs (omega arith) (omega arith))
+
+-- the first i of the first n
+pub take-short : (i n : ℕ) (t : List ℕ) → i ≤ n → take i (take n t) ≡ take i t
+take-short zero n t h = refl
+take-short (suc i) zero t h = absurd (omega arith)
+take-short (suc i) (suc n) [] h = refl
+take-short (suc i) (suc n) (x ∷ xs) h = ap (λ (l : List ℕ). x ∷ l) (take-short i n xs (omega arith))
+
+-- a termination that stands in c is counted behind those before it
+pub counted-before : (k c i : ℕ) (t : List ℕ) → i < k → i < length t → getD t i 0 ≡ c → count c (take i t) < count c (take k t)
+unfolding count pick
+counted-before zero c i t h l e = absurd (omega arith)
+counted-before (suc k) c i [] h l e = absurd (omega arith)
+counted-before (suc k) c zero (x ∷ xs) h l e = rw (eq-eqb x c e) (omega arith)
+counted-before (suc k) c (suc i) (x ∷ xs) h l e = omega (arith, counted-before k c i xs (omega arith) (omega arith) e)
+
+-- and of two, the higher behind the lower
+pub counted-order : (c i j : ℕ) (t : List ℕ) → i < j → i < length t → getD t i 0 ≡ c → count c (take i t) < count c (take j t)
+counted-order c i j t h l e = counted-before j c i t h l e
 
 -- a termination that stands in c is counted there
 pub counted : (k c i : ℕ) (t : List ℕ) → i < k → i < length t → getD t i 0 ≡ c → 0 < count c (take k t)

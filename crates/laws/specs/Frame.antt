@@ -1,6 +1,6 @@
 -- Footprints. A footprint is a set N of terminations and a set K of contexts. The slots of the footprint are those that a termination
 -- of N or a context of K owns; who stands in a context of K counts as part of it too.
-use Prim.Native.Nat.{ℕ, _+_, _≤_, _<_}
+use Prim.Native.Nat.{ℕ, _+_, _/_, _≤_, _<_}
 use mathlib.Core.Path.{_≡_, refl, sym, ap, _∙_, subst}
 use mathlib.Core.Logic.{_≢_}
 use mathlib.Core.Bool.{false}
@@ -11,7 +11,7 @@ use lib.Dec.{eqb}
 use borrow.Author.Tests.{ne-eqb}
 use native.Mathlib.Omega.{arith}
 use native.Mathlib.Decide.{ℕ-discrete}
-use Rattle.megaco.specs.Table.{terminations, contexts, words, fitted, prop, rec, used, Cell, Slot, ctx, cell, get, Write, write, store, apply}
+use Rattle.megaco.specs.Table.{terminations, contexts, words, fitted, prop, rec, used, flow, Cell, Slot, ctx, cell, get, Write, write, store, apply}
 use Rattle.megaco.proofs.Sizes.{fitted-is}
 use Rattle.laws.specs.Slots.{Valid, length-store, fitted-store, get-other, store-comm}
 
@@ -27,6 +27,7 @@ owner (ctx i) = termination i
 owner (cell (prop i)) = termination i
 owner (cell (rec c)) = context c
 owner (cell (used i)) = termination i
+owner (cell (flow k)) = context (k / 2 + 1)
 
 module _ (lines : ℕ) (N K : ℕ → Type 0) where
   abbrev pub Mine : Owner → Type 0

@@ -1,4 +1,5 @@
 pub mod Passed
+pub mod Properties
 pub mod Slots
 pub mod Counting
 pub mod Bounds
@@ -15,11 +16,17 @@ pub mod Demand
 pub mod ApartTest
 pub mod Witness
 pub mod Needed
+pub mod Flows
 pub mod Sound
 pub mod Moved
 pub mod Values
 pub mod Aims
 pub mod Attempts
+pub mod OneName
+pub mod Linked
 pub mod Starts
 pub mod Runs
 pub mod Kept
+pub mod Figure7
+pub mod Hears
+pub mod Hearing

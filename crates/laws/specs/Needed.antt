@@ -4,19 +4,20 @@ use Prim.Native.Nat.{ℕ, _<_}
 use mathlib.Core.Path.{_≡_, refl, sym, _∙_}
 use mathlib.Core.Bool.{Bool, true, false, not, _&&_}
 use mathlib.Core.List.{List, [], _∷_}
-use borrow.Author.Tests.{eq-eqb, not-true}
-use Rattle.base.specs.Pick.{pick}
+use borrow.Author.Tests.{not-true}
 use Rattle.base.specs.Lists.{has, same}
 use Rattle.megaco.specs.Bytes.{star, dollar}
-use Rattle.megaco.specs.Tree.{Transaction}
+use Rattle.megaco.specs.Tree.{Action, action, Transaction, transaction}
 use Rattle.megaco.specs.Table.{fitted, sound}
 use Rattle.megaco.specs.State.{State, state}
 use Rattle.megaco.specs.Running.{runTransaction}
 use Rattle.megaco.specs.declared.Context.the-variants.{Numbered}
 use Rattle.base.proofs.TestLaws.{clash, and-left, and-right}
 use Rattle.laws.specs.Membership.{_∈_, not-has, all?, all-is, onlyZeroShared?, only-zero-shared, in-collect}
+use Rattle.laws.specs.Properties.{untied}
+use Rattle.laws.specs.Linked.{same-refl}
 use Rattle.laws.specs.Apart.{contextsOf, namesOf, ContextsPlain, NamesPlain, TerminationsApart, ContextsApart, Apart}
-use Rattle.laws.specs.ApartTest.{contextsPlain?, namesPlain?, writtenNumber, numbered, contexts-plain-is, names-plain-is, terminations-apart-is, contexts-apart-is}
+use Rattle.laws.specs.ApartTest.{apart-is, contextsPlain?, namesPlain?, writtenNumber, numbered, contexts-plain-is, names-plain-is, terminations-apart-is, contexts-apart-is}
 use Rattle.laws.specs.Demand.{EitherOrder, either-order}
 use Rattle.laws.specs.Witness.{read, with-words, tests, start}
 
@@ -37,11 +38,6 @@ alike? t x y =
     let c = runTransaction y (a .state) in
     let d = runTransaction x (b .state) in
     same (c .state .table) (d .state .table) && same (a .text) (d .text) && same (c .text) (b .text)
-
-same-refl : (l : List ℕ) → same l l ≡ true
-unfolding same pick
-same-refl [] = refl
-same-refl (x ∷ xs) = rw (eq-eqb x x refl, same-refl xs)
 
 order-counts : (t : List ℕ) (x y : Transaction) → alike? t x y ≡ false → EitherOrder (state t) x y → ⊥
 unfolding alike?
@@ -166,3 +162,28 @@ chosen-context =
 
     y : Transaction
     y = read "T=2{C=${A=L/3/2}}"
+
+-- ---- a name in a triple is written as a termination
+
+-- a transaction without its topology
+unfoldable pub bare : List Action → List Action
+bare [] = []
+bare (action c ps cs ∷ acts) = action c (untied ps) cs ∷ bare acts
+
+unfoldable pub orders-alone : Transaction → Transaction
+orders-alone (transaction id acts) = transaction id (bare acts)
+
+-- names in triples are left out: R/5, in context 2, named in a triple of context 1 by one and subtracted by the other; 435 or 430 by order
+pub unnamed-triple : Claim (λ t x y. Apart t (orders-alone x) (orders-alone y)) → ⊥
+unnamed-triple =
+    refute (λ t x y. Apart t (orders-alone x) (orders-alone y)) t x y (unfold tests in refl) (unfold tests alike? in refl)
+    (apart-is t (orders-alone x) (orders-alone y) .0 (unfold tests untied bare orders-alone in refl))
+  where
+    t : List ℕ
+    t = with-words ((0, 1) ∷ (252, 2) ∷ (624, 1) ∷ (625, 1) ∷ (752, 16) ∷ [])
+
+    x : Transaction
+    x = read "T=1{C=1{TP{L/1/1,R/5,IS}}}"
+
+    y : Transaction
+    y = read "T=2{C=2{S=R/5}}"

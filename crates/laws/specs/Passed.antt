@@ -19,3 +19,9 @@ unfolding judge pick
 judged P [] f g = g tt
 judged P (check true code ∷ cs) f g = f code
 judged P (check false code ∷ cs) f g = judged P cs f (λ p. g (refl, p))
+
+-- tests that are passed come to no code
+pub passes : (cs : List Check) → Passed cs → judge cs ≡ Passes
+unfolding judge pick
+passes [] p = refl
+passes (check b code ∷ cs) p = rw (p .0) (passes cs (p .1))

@@ -10,7 +10,8 @@ use native.Mathlib.Omega.{arith}
 use Rattle.base.specs.Pick.{pick}
 use Rattle.base.specs.Lists.{every}
 use Rattle.megaco.specs.Bytes.{star, dollar}
-use Rattle.megaco.specs.Tree.{Command, command, Action, action, Transaction, transaction}
+use Rattle.megaco.specs.Topology.{triplesOf}
+use Rattle.megaco.specs.Tree.{Command, command, Triple, triple, Action, action, Transaction, transaction}
 use Rattle.megaco.specs.Table.{terminations, contexts, words, fitted, ctx, get, contextWords, sized, sound}
 use Rattle.megaco.specs.State.{State}
 use Rattle.megaco.specs.Names.{nameOf}
@@ -20,11 +21,11 @@ use Rattle.megaco.specs.declared.Name.{Name}
 use Rattle.base.proofs.TestLaws.{clash, and-left, and-right}
 use Rattle.laws.specs.Frame.{Foot, Closed, Disjoint}
 use Rattle.laws.specs.Views.{known-above, known-below, Seat}
-use Rattle.laws.specs.Steps.{Means, Named}
+use Rattle.laws.specs.Steps.{Means, EachMeans, Named}
 use Rattle.laws.specs.Mix.{Both, run-one, run-two, Mixture, mixed, Each, Ready, exchange, one-after-other}
 use Rattle.laws.specs.Membership.{_∈_, has-not}
 use Rattle.laws.specs.PlainNames.{Plain, aTermination, root, unknown, plain-below, plain-name}
-use Rattle.laws.specs.Apart.{contextsIn, namesThen, namesIn, namesOf, ByNumberOrNull, by-number, null-one, ContextsPlain, NamesPlain, Names, Reaches, writes, stands, Apart}
+use Rattle.laws.specs.Apart.{contextsIn, namesThen, triplesThen, namesIn, namesOf, ByNumberOrNull, by-number, null-one, ContextsPlain, NamesPlain, Names, Reaches, writes, stands, Apart}
 
 -- ---- of a sound table: its length, and that nobody stands in a context past the last. No more of soundness is asked here
 
@@ -45,11 +46,11 @@ every-at p (suc k) (x ∷ xs) e (suc i) h l = every-at p k xs (rest (p x) e) i (
 
 sound-long : (t : List ℕ) → sound t ≡ true → length t ≡ words (fitted t)
 unfolding sound sized
-sound-long t e = eqb-true (length t) (words (fitted t)) (search (and-left, and-right))
+sound-long t e = eqb-true (length t) (words (fitted t)) (search (and-left, and-right) depth 12)
 
 sound-low : (t : List ℕ) → sound t ≡ true → (i : ℕ) → i < terminations (fitted t) → get t (ctx i) ≤ contexts
 unfolding sound contextWords
-sound-low t e i h = leb-true (getD t i 0) contexts (every-at (λ w. leb w contexts) (terminations (fitted t)) t (search (and-left, and-right)) i h (omega (arith, sound-long t e)))
+sound-low t e i h = leb-true (getD t i 0) contexts (every-at (λ w. leb w contexts) (terminations (fitted t)) t (search (and-left, and-right) depth 12) i h (omega (arith, sound-long t e)))
 
 -- ---- the footprint of a transaction from a table
 
@@ -78,12 +79,21 @@ module _ (lines : ℕ) (N K : ℕ → Type 0) where
   named-orders (command o w word name items ∷ cs) rest ss f g =
       (f name (List·Memᴰ·head refl), named-orders cs rest ss (λ n m. f n (List·Memᴰ·tail m)) g)
 
+  named-triples : (ts : List Triple) (rest : List (List ℕ)) → ((n : List ℕ) → n ∈ triplesThen ts rest → Means lines N K (nameOf lines n))
+      → EachMeans lines N K ts × ((n : List ℕ) → n ∈ rest → Means lines N K (nameOf lines n))
+  unfolding triplesThen
+  named-triples [] rest f = (tt, f)
+  named-triples (triple a b d ∷ ts) rest f =
+      let r = named-triples ts rest (λ n m. f n (List·Memᴰ·tail (List·Memᴰ·tail m))) in
+      (((f a (List·Memᴰ·head refl), f b (List·Memᴰ·tail (List·Memᴰ·head refl))), r .0), r .1)
+
   named-steps : (acts : List Action) → ((c : Context) → c ∈ contextsIn acts → Seat lines N K c) → ((n : List ℕ) → n ∈ namesIn acts → Means lines N K (nameOf lines n))
       → Each (Named lines N K) (steps acts)
   unfolding contextsIn namesIn steps
   named-steps [] f g = tt
   named-steps (action c ps cs ∷ acts) f g =
-      (f c (List·Memᴰ·head refl), named-orders cs (namesIn acts) (steps acts) g (named-steps acts (λ d m. f d (List·Memᴰ·tail m))))
+      let r = named-triples (triplesOf ps) (namesThen cs (namesIn acts)) g in
+      ((f c (List·Memᴰ·head refl), r .0), named-orders cs (namesIn acts) (steps acts) (r .1) (named-steps acts (λ d m. f d (List·Memᴰ·tail m))))
 
 abbrev pub stepsOf : Transaction → List Step
 stepsOf (transaction id acts) = steps acts

@@ -7,12 +7,12 @@ use mathlib.Core.Option.{Option, none, some}
 use lib.ListN.{length}
 use Rattle.megaco.specs.declared.Context.{Context}
 use Rattle.megaco.specs.declared.Op.{Op}
-use Rattle.megaco.specs.declared.Property.{Property}
 use Rattle.megaco.specs.declared.Judged.{Judged}
 use Rattle.megaco.specs.declared.Judged.the-variants.{Wrong, Right}
 use Rattle.megaco.specs.declared.Seen.{Seen}
 use Rattle.megaco.specs.declared.Values.{Values}
-use Rattle.megaco.specs.Tree.{Items, Command, command, Transaction, transaction, Message, wellFormed, fault400, fault403, fault406}
+use Rattle.megaco.specs.Topology.{triplesOf, Link, linksOf}
+use Rattle.megaco.specs.Tree.{Items, Command, command, Property, Transaction, transaction, Message, wellFormed, fault400, fault403, fault406}
 use Rattle.megaco.specs.Table.{fitted}
 use Rattle.megaco.specs.State.{State, wrote}
 use Rattle.megaco.specs.Names.{nameOf}
@@ -29,8 +29,8 @@ use Rattle.laws.specs.Values.{Fair, FairItems, right, items-fair}
 pub record Keeps (P : State → Type 0) (G : ℕ → Type 0) : Type 0 where
   pub orders : (op : Op) (name : List ℕ) (given : ℕ) (vs : Values) (items : Bool) (at : Context) (st : State) → P st → G given → Fair vs → barred op at ≡ false
       → lost op at (seen (numberOf at) (st .table) .held) ≡ false → P (aimed op name given vs (aim op at items (nameOf (fitted (st .table)) name) (st .table)) at st .state)
-  pub starts : (c : Context) (ps : List Property) (alone : Bool) (st : State) → P st → P (wrote (started c ps alone (seen (numberOf c) (st .table)) .writes) st)
-  pub gives : (c : Context) (ps : List Property) (alone : Bool) (there : Seen) → G (started c ps alone there .acted .given)
+  pub starts : (c : Context) (ps : List Property) (alone : Bool) (st : State) → P st → P (wrote (started c ps alone (seen (numberOf c) (st .table)) (linksOf (numberOf c) (st .table) (triplesOf ps)) .writes) st)
+  pub gives : (c : Context) (ps : List Property) (alone : Bool) (there : Seen) (links : List Link) → G (started c ps alone there links .acted .given)
 
 -- of the action that is running
 abbrev pub Running : (ℕ → Type 0) → List Acted → Type 0
@@ -67,7 +67,7 @@ module _ (P : State → Type 0) (G : ℕ → Type 0) (K : Keeps P G) where
 
   proceed-keeps : (s : Step) (st : State) (acts : List Acted) → P st → Running G acts → Kept P G (proceed s st acts)
   unfolding proceed begin advance
-  proceed-keeps (start c ps alone) st acts p g = record { state = K .starts c ps alone st p; running = K .gives c ps alone _ }
+  proceed-keeps (start c ps alone) st acts p g = record { state = K .starts c ps alone st p; running = K .gives c ps alone _ _ }
   proceed-keeps (order c) st [] p g = record { state = p; running = tt }
   proceed-keeps (order c) st (a ∷ acts) p g = record { state = command-keeps c (a .given) (a .at) st p g; running = g }
 
@@ -123,7 +123,7 @@ length-kept n =
     record {
       orders = λ op name given vs items at st l _ _ _ _. length-aimed op name given vs (aim op at items (nameOf (fitted (st .table)) name) (st .table)) at st ∙ l;
       starts = λ c ps alone st l. length-apply _ (st .table) ∙ l;
-      gives = λ c ps alone there. tt;
+      gives = λ c ps alone there links. tt;
     }
 
 pub run-length : (ss : List Step) (x : Course) → length (run ss x .state .table) ≡ length (x .state .table)

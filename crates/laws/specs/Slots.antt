@@ -1,5 +1,5 @@
 -- Slots of the table: different slots never meet, not even where they share a word.
-use Prim.Native.Nat.{ℕ, zero, suc, _+_, _-_, _/_, _%_, _^_, _≤_, _<_}
+use Prim.Native.Nat.{ℕ, zero, suc, _+_, _*_, _-_, _/_, _%_, _^_, _≤_, _<_}
 use mathlib.Core.Path.{_≡_, refl, sym, ap, ap₂, _∙_, subst}
 use mathlib.Core.Logic.{_≢_}
 use mathlib.Core.Bool.{Bool, true, false, _&&_}
@@ -11,7 +11,7 @@ use borrow.Author.Tests.{eqb-true, eq-eqb}
 use native.Mathlib.Omega.{arith}
 use native.Mathlib.Decide.{ℕ-discrete}
 use Rattle.base.specs.Pick.{pick}
-use Rattle.megaco.specs.Table.{lineTerminations, terminations, contexts, regions, onward, total, place, mapStart, words, fitted, prop, rec, used, Slot, ctx, cell, regionOf, wordOf, address, told, kept, get, Write, write, store, apply}
+use Rattle.megaco.specs.Table.{lineTerminations, terminations, contexts, regions, onward, total, place, mapStart, words, fitted, prop, rec, used, flow, Slot, ctx, cell, regionOf, wordOf, address, told, kept, get, Write, write, store, apply}
 use Rattle.megaco.specs.Map.{digit, withDigit}
 use Rattle.megaco.proofs.Sizes.{fitted-is, fitted-same}
 use Rattle.megaco.proofs.Places.{digit-same, digit-other, digit-comm, with-below}
@@ -25,6 +25,7 @@ Valid n (ctx i) = i < terminations n
 Valid n (cell (prop i)) = i < terminations n
 Valid n (cell (rec c)) = (0 < c) × (c ≤ contexts)
 Valid n (cell (used i)) = (lineTerminations n ≤ i) × (i < terminations n)
+Valid n (cell (flow k)) = k < 2 * contexts
 
 -- two slots share a word: they are places of the map, and other digits of it
 pub data Shared (n : ℕ) : Slot → Slot → Type 0 where
@@ -36,6 +37,7 @@ word-below n (ctx i) h = h
 word-below n (cell (prop i)) h = h
 word-below n (cell (rec c)) h = omega arith
 word-below n (cell (used i)) h = omega arith
+word-below n (cell (flow k)) h = h
 
 -- which of its kind a slot is, and the slot of a kind
 abbrev index : Slot → ℕ
@@ -43,18 +45,21 @@ index (ctx i) = i
 index (cell (prop i)) = i
 index (cell (rec c)) = c
 index (cell (used i)) = i
+index (cell (flow k)) = k
 
 abbrev slotOf : ℕ → ℕ → Slot
 slotOf zero i = ctx i
 slotOf (suc zero) i = cell (prop i)
 slotOf (suc (suc zero)) c = cell (rec c)
-slotOf (suc (suc (suc k))) i = cell (used i)
+slotOf (suc (suc (suc zero))) i = cell (used i)
+slotOf (suc (suc (suc (suc j)))) k = cell (flow k)
 
 slot-of : (s : Slot) → slotOf (regionOf s) (index s) ≡ s
 slot-of (ctx i) = refl
 slot-of (cell (prop i)) = refl
 slot-of (cell (rec c)) = refl
 slot-of (cell (used i)) = refl
+slot-of (cell (flow k)) = refl
 
 -- an address tells its region and the word there
 place-tells : (rs : List ℕ) (k j a b : ℕ) → a < getD rs k 0 → b < getD rs j 0 → place k rs a ≡ place j rs b → (k ≡ j) × (a ≡ b)
@@ -70,6 +75,7 @@ word-tells : (n : ℕ) (s : Slot) (j : ℕ) → Valid n s → Valid n (slotOf (r
 word-tells n (ctx i) j h k d e = absurd (d (ap ctx e))
 word-tells n (cell (prop i)) j h k d e = absurd (d (ap (λ (x : ℕ). cell (prop x)) e))
 word-tells n (cell (rec c)) j h k d e = absurd (d (let q : c ≡ j = omega (arith, e) in ap (λ (x : ℕ). cell (rec x)) q))
+word-tells n (cell (flow i)) j h k d e = absurd (d (ap (λ (x : ℕ). cell (flow x)) e))
 word-tells n (cell (used i)) j h k d e = both {i = i} {j = j} (λ z. d (let q : i ≡ j = omega (arith, e, z) in ap (λ (x : ℕ). cell (used x)) q))
 
 shared : (n : ℕ) (s r : Slot) → Valid n s → Valid n r → s ≢ r → address n s ≡ address n r → Shared n s r
@@ -84,11 +90,13 @@ held (ctx i) v = v
 held (cell (prop i)) v = v
 held (cell (rec c)) v = v
 held (cell (used i)) v = v % 2
+held (cell (flow k)) v = v
 
 told-kept : (n : ℕ) (s : Slot) (v word : ℕ) → told n s (kept n s v word) ≡ held s v
 told-kept n (ctx i) v word = refl
 told-kept n (cell (prop i)) v word = refl
 told-kept n (cell (rec c)) v word = refl
+told-kept n (cell (flow k)) v word = refl
 told-kept n (cell (used i)) v word = digit-same ((i - lineTerminations n) % 32) (v % 2) word (omega arith) (omega arith)
 
 -- slots that share a word: the one tells nothing of the other, and they may be put in either order

@@ -11,10 +11,12 @@ use native.Mathlib.Nat.{add-zero}
 use native.Mathlib.Omega.{arith}
 use Rattle.base.specs.Pick.{pick}
 use Rattle.base.specs.Lists.{every, count, same, lowestAbsent}
-use Rattle.megaco.specs.Table.{lineTerminations, ephemerals, terminations, contexts, words, mostLines, fitted, Sized, most, mapStart, prop, rec, used, ctx, cell, get, mapWords, places, freeEphemeral, usedEphemerals, contextWords, propertyWords, recordWords, ephemeralContexts, ephemeralProperties, members, modeOf, stateOf, isPropertyWord, absentAreZero, recordIsSound, recordsAreSound, sized, mapIsSound, sound}
+use Rattle.megaco.specs.Table.{lineTerminations, ephemerals, terminations, contexts, words, mostLines, fitted, Sized, most, mapStart, prop, rec, used, flow, lowFlow, highFlow, ctx, cell, get, mapWords, places, freeEphemeral, usedEphemerals, contextWords, propertyWords, recordWords, flowWords, ephemeralContexts, ephemeralProperties, members, modeOf, stateOf, isPropertyWord, absentAreZero, recordIsSound, recordsAreSound, sized, mapIsSound, flowsAreSound, sound}
+use Rattle.megaco.specs.Square.{bits, rows, squareOf, mayFlow, rowIsSound, rowsAreSound, squareIsSound}
 use Rattle.megaco.specs.Map.{digits, digit, marks, inUse}
 use Rattle.megaco.proofs.Places.{length-digits, digits-joined, length-marks, marks-at, same-at, walk-marks, count-marks}
-use Rattle.base.proofs.TestLaws.{same-is, and-both, both-and, pick-both, both-pick, pick-other, other-pick, below, below-at}
+use Rattle.laws.specs.Flows.{SoundFlows, flows-sound, sound-flows}
+use Rattle.base.proofs.TestLaws.{clash, same-is, and-both, both-and, pick-both, both-pick, pick-other, other-pick, below, below-at}
 use Rattle.megaco.proofs.Sizes.{sized-is, is-sized}
 
 -- ---- facts
@@ -42,6 +44,8 @@ pub record Whole (t : List ℕ) : Type 0 where
   pub held : (c : ℕ) → 0 < c → c ≤ contexts → SoundRecord (get t (cell (rec c))) (members c t)
   -- "bit n − 1 set exactly when R/n exists"
   pub marked : (i : ℕ) → lineTerminations (fitted t) ≤ i → i < terminations (fitted t) → get t (cell (used i)) ≡ min (get t (ctx i)) 1
+  -- "the diagonal and unused places 0", in words "of 32 bits"
+  pub flows : (c : ℕ) → 0 < c → c ≤ contexts → SoundFlows (get t (cell (flow (lowFlow c)))) (get t (cell (flow (highFlow c)))) (members c t)
   -- the map's words are "of 32 bits"
   pub narrow : (k : ℕ) → k < 2 → getD t (mapStart (fitted t) + k) 0 < 2 ^ 32
 
@@ -135,6 +139,31 @@ at-records cs c (r ∷ rs) f =
     both-pick (recordIsSound r (count c cs)) (recordsAreSound cs (c + 1) rs) (sound-record r (count c cs) (rw add-zero at (f 0 (omega arith))))
     (at-records cs (c + 1) rs (λ i h. let n : c + 1 + i ≡ c + suc i = omega arith in rw n (f (suc i) (omega arith))))
 
+flows-at : (cs : List ℕ) (c : ℕ) (fs : List ℕ) → flowsAreSound cs c fs ≡ true → (i : ℕ) → 2 * i + 1 < length fs
+    → SoundFlows (getD fs (2 * i) 0) (getD fs (2 * i + 1) 0) (count (c + i) cs)
+unfolding flowsAreSound
+flows-at cs c [] e i h = absurd (omega arith)
+flows-at cs c (x ∷ []) e i h = absurd (clash (sym e))
+flows-at cs c (x ∷ y ∷ fs) e zero h = rw add-zero (flows-sound x y (count c cs) (pick-both _ (flowsAreSound cs (c + 1) fs) e .0))
+flows-at cs c (x ∷ y ∷ fs) e (suc i) h =
+    let n : c + suc i ≡ c + 1 + i = omega arith in
+    let u : 2 * suc i ≡ suc (suc (2 * i)) = omega arith in
+    let v : 2 * suc i + 1 ≡ suc (suc (2 * i + 1)) = omega arith in
+    rw (n, v, u) (flows-at cs (c + 1) fs (pick-both _ (flowsAreSound cs (c + 1) fs) e .1) i (omega arith))
+
+at-flows : (cs : List ℕ) (c : ℕ) (fs : List ℕ) (k : ℕ) → length fs ≡ 2 * k
+    → ((i : ℕ) → 2 * i + 1 < length fs → SoundFlows (getD fs (2 * i) 0) (getD fs (2 * i + 1) 0) (count (c + i) cs)) → flowsAreSound cs c fs ≡ true
+unfolding flowsAreSound
+at-flows cs c [] k l f = refl
+at-flows cs c (x ∷ []) k l f = absurd (omega (arith, l))
+at-flows cs c (x ∷ y ∷ fs) k l f =
+    both-pick _ (flowsAreSound cs (c + 1) fs) (sound-flows x y (count c cs) (rw add-zero at (f 0 (omega arith))))
+    (at-flows cs (c + 1) fs (k - 1) (omega (arith, l)) (λ i h.
+    let n : c + 1 + i ≡ c + suc i = omega arith in
+    let u : 2 * suc i ≡ suc (suc (2 * i)) = omega arith in
+    let v : 2 * suc i + 1 ≡ suc (suc (2 * i + 1)) = omega arith in
+    rw n (rw (v, u) at (f (suc i) (omega arith)))))
+
 -- ---- the parts of a table
 
 module _ (t : List ℕ) (l : length t ≡ words (fitted t)) where
@@ -149,6 +178,10 @@ module _ (t : List ℕ) (l : length t ≡ words (fitted t)) where
   map-words : length (mapWords t) ≡ 2
   unfolding mapWords
   map-words = simp (length-take, length-drop) (omega arith)
+
+  flow-words : length (flowWords t) ≡ 2 * contexts
+  unfolding flowWords
+  flow-words = simp (length-take, length-drop) (omega arith)
 
   pub record-words : length (recordWords t) ≡ contexts
   unfolding recordWords
@@ -180,6 +213,12 @@ record-at t k h =
     let n : terminations (fitted t) + (terminations (fitted t) + (1 + k - 1)) ≡ terminations (fitted t) + terminations (fitted t) + k = omega arith in
     rw n (getD-take contexts (drop (terminations (fitted t) + terminations (fitted t)) t) k 0 h ∙ getD-drop (terminations (fitted t) + terminations (fitted t)) t k 0)
 
+flow-at : (t : List ℕ) (k : ℕ) → k < 2 * contexts → getD (flowWords t) k 0 ≡ get t (cell (flow k))
+unfolding flowWords
+flow-at t k h =
+    let n : terminations (fitted t) + (terminations (fitted t) + (contexts + (2 + k))) ≡ terminations (fitted t) + terminations (fitted t) + contexts + 2 + k = omega arith in
+    rw n (getD-take (2 * contexts) (drop (terminations (fitted t) + terminations (fitted t) + contexts + 2) t) k 0 h ∙ getD-drop (terminations (fitted t) + terminations (fitted t) + contexts + 2) t k 0)
+
 pub ephemeral-context-at : (t : List ℕ) (k : ℕ) → k < ephemerals → getD (ephemeralContexts t) k 0 ≡ get t (ctx (lineTerminations (fitted t) + k))
 unfolding ephemeralContexts
 ephemeral-context-at t k h = getD-drop (lineTerminations (fitted t)) (contextWords t) k 0 ∙ context-at t (lineTerminations (fitted t) + k) (omega arith)
@@ -190,8 +229,8 @@ ephemeral-property-at t k h = getD-drop (lineTerminations (fitted t)) (propertyW
 
 -- ---- the test of a table
 
--- the seven tests of `sound`, one by one
-record SevenTests (t : List ℕ) : Type 0 where
+-- the eight tests of `sound`, one by one
+record EightTests (t : List ℕ) : Type 0 where
   size : sized t ≡ true
   stand : every (λ w. leb w contexts) (contextWords t) ≡ true
   properties : every isPropertyWord (propertyWords t) ≡ true
@@ -199,21 +238,23 @@ record SevenTests (t : List ℕ) : Type 0 where
   records : recordsAreSound (contextWords t) 1 (recordWords t) ≡ true
   map : same (places t) (marks (ephemeralContexts t)) ≡ true
   narrow : every (λ w. ltb w (2 ^ 32)) (mapWords t) ≡ true
+  flows : flowsAreSound (contextWords t) 1 (flowWords t) ≡ true
 
-sound-tests : (t : List ℕ) → sound t ≡ true → SevenTests t
+sound-tests : (t : List ℕ) → sound t ≡ true → EightTests t
 unfolding sound mapIsSound
 sound-tests t e =
-    let b₁ = and-both _ _ e in
+    let b₀ = and-both _ _ e in
+    let b₁ = and-both _ _ (b₀ .0) in
     let b₂ = and-both _ _ (b₁ .0) in
     let b₃ = and-both _ _ (b₂ .0) in
     let b₄ = and-both _ _ (b₃ .0) in
     let b₅ = and-both _ _ (b₄ .0) in
     let m = and-both _ _ (b₁ .1) in
-    record { size = b₅ .0; stand = b₅ .1; properties = b₄ .1; absents = b₃ .1; records = b₂ .1; map = m .1; narrow = m .0 }
+    record { size = b₅ .0; stand = b₅ .1; properties = b₄ .1; absents = b₃ .1; records = b₂ .1; map = m .1; narrow = m .0; flows = b₀ .1 }
 
-tests-sound : (t : List ℕ) → SevenTests t → sound t ≡ true
+tests-sound : (t : List ℕ) → EightTests t → sound t ≡ true
 unfolding sound mapIsSound
-tests-sound t s = rw (s .size, s .stand, s .properties, s .absents, s .records, s .narrow, s .map)
+tests-sound t s = rw (s .size, s .stand, s .properties, s .absents, s .records, s .narrow, s .map, s .flows)
 
 -- ---- the places of the map
 
@@ -258,9 +299,9 @@ mark-is (suc x) = rw (ne-eqb (suc x) 0 (λ e. omega (arith, e))) (omega arith)
 
 pub sound-whole : (t : List ℕ) → sound t ≡ true → Whole t
 unfolding members
-sound-whole t e = record { some = size .some; few = size .few; long = long; place = place; word = word; absent = absent; held = held; marked = marked; narrow = narrow }
+sound-whole t e = record { some = size .some; few = size .few; long = long; place = place; word = word; absent = absent; held = held; marked = marked; flows = flows; narrow = narrow }
   where
-    s : SevenTests t
+    s : EightTests t
     s = sound-tests t e
 
     size : Sized t
@@ -292,6 +333,12 @@ sound-whole t e = record { some = size .some; few = size .few; long = long; plac
         let b : k < contexts = omega arith in
         rw n (rw (record-at t k b) at (records-at (contextWords t) 1 (recordWords t) (s .records) k (omega (arith, record-words t long))))
 
+    flows : (c : ℕ) → 0 < c → c ≤ contexts → SoundFlows (get t (cell (flow (lowFlow c)))) (get t (cell (flow (highFlow c)))) (members c t)
+    flows c p q =
+        let n : 1 + (c - 1) ≡ c = omega arith in
+        rw (flow-at t (2 * (c - 1)) (omega arith), flow-at t (2 * (c - 1) + 1) (omega arith), n)
+        at (flows-at (contextWords t) 1 (flowWords t) (s .flows) (c - 1) (omega (arith, flow-words t long)))
+
     narrow : (k : ℕ) → k < 2 → getD t (mapStart (fitted t) + k) 0 < 2 ^ 32
     narrow k h = ltb-true _ _ (rw (map-word-at t k h) at (every-at (λ w. ltb w (2 ^ 32)) (mapWords t) (s .narrow) k (omega (arith, map-words t long))))
 
@@ -316,6 +363,7 @@ whole-sound t w =
       records = at-records (contextWords t) 1 (recordWords t) held;
       map = same-at (places t) (marks (ephemeralContexts t)) (places-long t ∙ sym (length-marks (ephemeralContexts t) ∙ ephemeral-contexts t (w .long))) marked;
       narrow = at-every (λ x. ltb x (2 ^ 32)) (mapWords t) narrow;
+      flows = at-flows (contextWords t) 1 (flowWords t) contexts (flow-words t (w .long)) flows;
     })
   where
     place : (i : ℕ) → i < length (contextWords t) → leb (getD (contextWords t) i 0) contexts ≡ true
@@ -337,6 +385,12 @@ whole-sound t w =
     held i h =
         let b : i < contexts = omega (arith, record-words t (w .long)) in
         rw (record-at t i b) (w .held (1 + i) (omega arith) (omega arith))
+
+    flows : (i : ℕ) → 2 * i + 1 < length (flowWords t) → SoundFlows (getD (flowWords t) (2 * i) 0) (getD (flowWords t) (2 * i + 1) 0) (count (1 + i) (contextWords t))
+    flows i h =
+        let b : 2 * i + 1 < 2 * contexts = omega (arith, flow-words t (w .long)) in
+        let n : 1 + i - 1 ≡ i = omega arith in
+        rw (flow-at t (2 * i) (omega arith), flow-at t (2 * i + 1) b) (rw n at (w .flows (1 + i) (omega arith) (omega arith)))
 
     narrow : (k : ℕ) → k < length (mapWords t) → ltb (getD (mapWords t) k 0) (2 ^ 32) ≡ true
     narrow k h = let b : k < 2 = omega (arith, map-words t (w .long)) in rw (map-word-at t k b) (lt-ltb _ _ (w .narrow k b))
@@ -372,7 +426,7 @@ module _ (t : List ℕ) (e : sound t ≡ true) (low high : ℕ) (p : low ≡ get
 
 -- "All zero is the fresh table", of any count of lines: one test computed over all of them
 fresh-all : below (λ k. sound (replicate (words (k + 1)) 0)) mostLines ≡ true
-unfolding below fitted sized sound contextWords propertyWords recordWords ephemeralContexts ephemeralProperties mapWords places digits marks same mapIsSound every isPropertyWord absentAreZero recordIsSound recordsAreSound count pick
+unfolding below flowWords flowsAreSound squareIsSound rowsAreSound rowIsSound mayFlow squareOf rows bits fitted sized sound contextWords propertyWords recordWords ephemeralContexts ephemeralProperties mapWords places digits marks same mapIsSound every isPropertyWord absentAreZero recordIsSound recordsAreSound count pick
 fresh-all = refl
 
 pub fresh-sound : (n : ℕ) → 0 < n → n ≤ mostLines → sound (replicate (words n) 0) ≡ true

@@ -4,10 +4,14 @@ use mathlib.Core.Path.{_≡_, refl, sym, ap, _∙_, subst}
 use mathlib.Core.Bool.{Bool, true, false, _&&_, _||_}
 use mathlib.Core.List.{List, [], _∷_, _++_}
 use mathlib.Core.Option.{Option, none, some}
+use lib.Dec.{eqb}
 use Rattle.base.specs.Pick.{pick}
-use Rattle.megaco.specs.Table.{fitted, ctx, get, Write, apply, exists}
+use Rattle.base.specs.Lists.{same}
+use Rattle.megaco.specs.Bytes.{capitals}
+use Rattle.megaco.specs.Table.{fitted, ctx, get, Write, apply, exists, known, placeIn}
 use Rattle.megaco.specs.State.{State, wrote}
-use Rattle.megaco.specs.Tree.{Items, Command, command}
+use Rattle.megaco.specs.Tree.{Items, Command, command, Triple, triple}
+use Rattle.megaco.specs.Topology.{triplesOf, meant, party, Link, link, linkOf, linksOf}
 use Rattle.megaco.specs.Names.{nameOf}
 use Rattle.megaco.specs.Items.{judgeItems, given?}
 use Rattle.megaco.specs.Reply.{Report, Acted}
@@ -21,9 +25,10 @@ use Rattle.megaco.specs.declared.Judged.{Judged}
 use Rattle.megaco.specs.declared.Judged.the-variants.{Wrong, Right}
 use Rattle.megaco.specs.declared.Values.{Values}
 use Rattle.megaco.specs.declared.Seen.{Seen}
+use Rattle.megaco.specs.declared.Party.the-variants.{Absent, Outside, Member}
 use Rattle.megaco.proofs.Sizes.{fitted-is, fitted-same}
 use Rattle.laws.specs.Frame.{AllOurs, nothing, Foot, Closed, Agree}
-use Rattle.laws.specs.Views.{Seat, seat-same, look-same}
+use Rattle.laws.specs.Views.{Seat, seat-known, seat-same, place-same, look-same}
 use Rattle.laws.specs.Written.{seat-home, seat-above, Lies, effect-lies, started-lies}
 
 -- what a step writes, and how its transaction then stands
@@ -59,8 +64,13 @@ module _ (lines : ℕ) (N K : ℕ → Type 0) where
   Means Unmatched = ⊥
   Means Unknown = Unit {0}
 
+  -- "a name in a triple counts as written as a termination"
+  abbrev pub EachMeans : List Triple → Type 0
+  EachMeans [] = Unit {0}
+  EachMeans (triple a b d ∷ ts) = (Means (nameOf lines a) × Means (nameOf lines b)) × EachMeans ts
+
   abbrev pub Named : Step → Type 0
-  Named (start w ps alone) = Seat lines N K w
+  Named (start w ps alone) = Seat lines N K w × EachMeans (triplesOf ps)
   Named (order (command o wild word name items)) = Means (nameOf lines name)
 
   -- the running action stands in null or in a context of the footprint
@@ -204,6 +214,32 @@ module _ (lines : ℕ) (N K : ℕ → Type 0) where
     unfolding runCommand
     local-command (command o wild word name items) given w s m = local-ordered o (opOf wild word) name items given w s m
 
+  -- ---- an action's triples: whom their names mean is the same on every table that the footprint takes for this one
+
+  module _ (F : Foot lines N K) (t u : List ℕ) (a : Agree lines N K t u) (f : fitted t ≡ lines) (c : ℕ) (s : known c ≡ true → K c) where
+    meant-same : (n : Name) → Means n → meant c t n ≡ meant c u n
+    unfolding meant
+    meant-same (Termination i) m =
+        let p : get t (ctx i) ≡ get u (ctx i) = a .same (ctx i) (F .small i m) m in
+        let k : placeIn c i t ≡ placeIn c i u = place-same lines N K F t u a f c i s (F .small i m) in
+        λ j. pick (exists (fitted-same t u (a .long) j) i (p j)) (pick (eqb (p j) c) (Member (k j)) Outside) Absent
+    meant-same Root m = refl
+    meant-same Chosen m = absurd m
+    meant-same Unchosen m = absurd m
+    meant-same (Wildcard r) m = absurd m
+    meant-same Unmatched m = absurd m
+    meant-same Unknown m = refl
+
+    party-same : (name : List ℕ) → Means (nameOf lines name) → party c t name ≡ party c u name
+    unfolding party
+    party-same name m = rw (f, sym (fitted-same t u (a .long)) ∙ f) (meant-same (nameOf lines name) m)
+
+    links-same : (ts : List Triple) → EachMeans ts → linksOf c t ts ≡ linksOf c u ts
+    unfolding linksOf linkOf
+    links-same [] m = refl
+    links-same (triple x y d ∷ ts) m =
+        λ j. link (same (capitals x) (capitals y)) (party-same x (m .0 .0) j) (party-same y (m .0 .1) j) d ∷ links-same ts (m .1) j
+
   -- ---- the locality of a step: one change, on every table that the footprint takes for st
 
   pub record Acts (f : State → Course) (st : State) : Type 0 where
@@ -220,13 +256,16 @@ module _ (lines : ℕ) (N K : ℕ → Type 0) where
     acts-proceed : (s : Step) (acts : List Acted) → Named s → Seats acts → Acts (λ u. proceed s u acts) st
     unfolding proceed begin advance
     acts-proceed (start w ps alone) acts m h =
-        let lies = started-lies lines N K F w ps alone (st .table) m in
-        let x = started w ps alone (seen (numberOf w) (st .table)) in
+        let links : List Link = linksOf (numberOf w) (st .table) (triplesOf ps) in
+        let lies = started-lies lines N K F w ps alone (st .table) links (m .0) in
+        let x = started w ps alone (seen (numberOf w) (st .table)) links in
+        let f : fitted (st .table) ≡ lines = fitted-is lines (st .table) (c .long) in
         record {
           change = record { writes = x .writes; next = progress (x .going) (x .acted ∷ acts) };
           all = lies .all;
           seats = lies .seat;
-          on = λ u a. ap (λ (y : Seen). begin (started w ps alone y) u acts) (sym (seat-same lines N K F (st .table) (u .table) a (fitted-is lines (st .table) (c .long)) w m));
+          on = λ u a. ap (λ (y : Seen). begin (started w ps alone y (linksOf (numberOf w) (u .table) (triplesOf ps))) u acts) (sym (seat-same lines N K F (st .table) (u .table) a f w (m .0)))
+              ∙ ap (λ (y : List Link). begin (started w ps alone (seen (numberOf w) (st .table)) y) u acts) (sym (links-same F (st .table) (u .table) a f (numberOf w) (seat-known lines N K w (m .0)) (triplesOf ps) (m .1)));
         }
     acts-proceed (order x) [] m h = acts-still st (progress true []) tt
     acts-proceed (order x) (a ∷ acts) m h =

@@ -14,7 +14,7 @@ use Rattle.megaco.specs.State.{state}
 use Rattle.megaco.specs.Running.{Step, runTransaction}
 use Rattle.laws.specs.Membership.{all?, noneShared?, onlyZeroShared?, ahead, collect}
 use Rattle.laws.specs.Mix.{Mixture, over, first, second, mixed}
-use Rattle.laws.specs.Apart.{contextsIn, namesThen, namesIn, Apart}
+use Rattle.laws.specs.Apart.{contextsIn, namesThen, triplesThen, namesIn, Apart}
 use Rattle.laws.specs.ApartTest.{byNumberOrNull?, contextsPlain?, namePlain?, namesPlain?, terminationOf, writtenNumber, named, numbered, standing, reached, terminationsApart?, contextsApart?, apart?, apart-is}
 use Rattle.laws.specs.Reaching.{stepsOf, outset}
 use Rattle.laws.specs.Demand.{AsOneAfterOther, any-mixture}
@@ -41,7 +41,7 @@ with-words (w ∷ ws) = set (with-words ws) (w .0) (w .1)
 
 -- every test, opened
 unfoldable pub tests : Unit {0}
-unfolding opened firstOf with-words all? ahead collect contextsIn namesThen namesIn byNumberOrNull? contextsPlain? namePlain? namesPlain? terminationOf writtenNumber named numbered standing reached noneShared? onlyZeroShared? terminationsApart? contextsApart? apart?
+unfolding opened firstOf with-words all? ahead collect contextsIn namesThen triplesThen namesIn byNumberOrNull? contextsPlain? namePlain? namesPlain? terminationOf writtenNumber named numbered standing reached noneShared? onlyZeroShared? terminationsApart? contextsApart? apart?
 tests = tt
 
 -- ---- a pair that meets the conditions: L/1/1, L/1/2 and R/1 in context 1, L/1/3 and R/2 in context 2, all else null or absent
@@ -49,10 +49,10 @@ tests = tt
 abbrev pub start : List ℕ
 start = with-words ((0, 1) ∷ (1, 1) ∷ (2, 2) ∷ (248, 1) ∷ (249, 2) ∷ (624, 1) ∷ (625, 1) ∷ (752, 3) ∷ [])
 
--- properties, Subtracts, an Add that sets a mode, a Modify in null; an Add that fails, a Subtract that ends its context, an Add that then
+-- properties, flows, Subtracts, an Add that sets a mode, a Modify in null; an Add that fails, a Subtract that ends its context, an Add that then
 -- fails and stops the rest
 abbrev pub one : String
-one = "T=7{C=1{PR=3,EG,S=L/1/1,S=R/1,A=l/8/31{M{O{MO=SR}}}},C=-{MF=L/1/1{M{TS{SI=TE}}}}}"
+one = "T=7{C=1{PR=3,EG,TP{L/1/1,R/1,OW,r/1,L/1/2,IS},S=L/1/1,S=R/1,A=l/8/31{M{O{MO=SR}}}},C=-{MF=L/1/1{M{TS{SI=TE}}}}}"
 
 abbrev pub two : String
 two = "T=8{C=2{O-A=R/9,S=R/2,S=L/1/3},C=200{O-MV=ROOT},C=2{A=L/1/6},C=-{MF=L/1/4{M{O{MO=LB}}}}}"

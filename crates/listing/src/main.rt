@@ -143,7 +143,7 @@ fn finish_line(line: &[u8], held: usize, table: &mut [u32], out: &mut [u8]) -> u
 
 // Moves bytes: what it prints was put into `out` by the functions above and by crate sessions. Output that can't be written is lost.
 fn main() {
-    let mut table = [0u32; 754];
+    let mut table = [0u32; 1010];
     let mut line = [0u8; 4097];
     let mut out = [0u8; 16641];
     let held = take_input(&mut line, &mut table, &mut out);

@@ -35,13 +35,13 @@ own = text "[10.0.0.9]"
 abbrev pub fresh : List ℕ
 fresh = replicate (words 8) 0
 
--- L/1/5 and R/1 in context 1, the map 1
+-- L/1/5 and R/1 in context 1, the map 1, bits 1 and 8 of the flows
 abbrev pub called : List ℕ
-called = set (set (set (set fresh 4 1) 248 1) 624 1) 752 1
+called = set (set (set (set (set fresh 4 1) 248 1) 624 1) 752 1) 754 258
 
 -- L/1/5 moved to context 2
 abbrev pub moved : List ℕ
-moved = set (set called 4 2) 625 1
+moved = set (set (set called 4 2) 625 1) 754 0
 
 -- R/1 subtracted, and context 1 with it
 abbrev pub alone : List ℕ
@@ -79,11 +79,11 @@ examples =
 
 -- one line: L/1/31 is termination 30, R/1 is 31, of 95
 abbrev pub onOne : List ℕ
-onOne = set (set (set (set (replicate (words 1) 0) 30 1) 31 1) 190 1) 318 1
+onOne = set (set (set (set (set (replicate (words 1) 0) 30 1) 31 1) 190 1) 318 1) 320 258
 
 -- sixteen lines: L/16/31 is termination 495, R/1 is 496, of 560
 abbrev pub onSixteen : List ℕ
-onSixteen = set (set (set (set (replicate (words 16) 0) 495 1) 496 1) 1120 1) 1248 1
+onSixteen = set (set (set (set (set (replicate (words 16) 0) 495 1) 496 1) 1120 1) 1248 1) 1250 258
 
 pub shelves : List Row
 shelves =
@@ -198,7 +198,7 @@ unfolding shelves
 shelves-hold = rows-answer shelves shelves-compute
 
 -- "Word 4 is then 2, word 316 is 3, word 625 is 1, all others 0"
-pub session-ends : ended ≡ set (set (set (replicate 754 0) 4 2) 316 3) 625 1
+pub session-ends : ended ≡ set (set (set (replicate 1010 0) 4 2) 316 3) 625 1
 session-ends = refl
 
 -- audits

@@ -9,7 +9,7 @@ use Rattle.base.specs.Lists.{same}
 use Rattle.base.specs.Bytes.{text}
 use Rattle.megaco.specs.Bytes.{capitals}
 use Rattle.megaco.specs.declared.Token.{Token}
-use Rattle.megaco.specs.declared.Token.the-variants.{AddToken, AuditToken, AuditValueToken, CtxToken, EmergencyToken, ErrorToken, InactiveToken, InSvcToken, LocalControlToken, LoopbackToken, MediaToken, MegacopToken, ModeToken, ModifyToken, MoveToken, OutOfSvcToken, PriorityToken, RecvonlyToken, ReplyToken, SendonlyToken, SendrecvToken, ServiceStatesToken, SubtractToken, TerminationStateToken, TestToken, TransToken}
+use Rattle.megaco.specs.declared.Token.the-variants.{AddToken, AuditToken, AuditValueToken, BothwayToken, CtxToken, EmergencyToken, ErrorToken, InactiveToken, IsolateToken, InSvcToken, LocalControlToken, LoopbackToken, MediaToken, MegacopToken, ModeToken, ModifyToken, MoveToken, OnewayToken, OutOfSvcToken, PriorityToken, RecvonlyToken, ReplyToken, SendonlyToken, SendrecvToken, ServiceStatesToken, SubtractToken, TerminationStateToken, TestToken, TopologyToken, TransToken}
 
 pub data Row : Type 0 where
   row : (meaning : Token) (long short : List ℕ) → Row
@@ -20,10 +20,12 @@ page =
     row AddToken (text "ADD") (text "A")
     ∷ row AuditToken (text "AUDIT") (text "AT")
     ∷ row AuditValueToken (text "AUDITVALUE") (text "AV")
+    ∷ row BothwayToken (text "BOTHWAY") (text "BW")
     ∷ row CtxToken (text "CONTEXT") (text "C")
     ∷ row EmergencyToken (text "EMERGENCY") (text "EG")
     ∷ row ErrorToken (text "ERROR") (text "ER")
     ∷ row InactiveToken (text "INACTIVE") (text "IN")
+    ∷ row IsolateToken (text "ISOLATE") (text "IS")
     ∷ row InSvcToken (text "INSERVICE") (text "IV")
     ∷ row LocalControlToken (text "LOCALCONTROL") (text "O")
     ∷ row LoopbackToken (text "LOOPBACK") (text "LB")
@@ -32,6 +34,7 @@ page =
     ∷ row ModeToken (text "MODE") (text "MO")
     ∷ row ModifyToken (text "MODIFY") (text "MF")
     ∷ row MoveToken (text "MOVE") (text "MV")
+    ∷ row OnewayToken (text "ONEWAY") (text "OW")
     ∷ row OutOfSvcToken (text "OUTOFSERVICE") (text "OS")
     ∷ row PriorityToken (text "PRIORITY") (text "PR")
     ∷ row RecvonlyToken (text "RECEIVEONLY") (text "RC")
@@ -42,6 +45,7 @@ page =
     ∷ row SubtractToken (text "SUBTRACT") (text "S")
     ∷ row TerminationStateToken (text "TERMINATIONSTATE") (text "TS")
     ∷ row TestToken (text "TEST") (text "TE")
+    ∷ row TopologyToken (text "TOPOLOGY") (text "TP")
     ∷ row TransToken (text "TRANSACTION") (text "T")
     ∷ []
 
@@ -75,6 +79,10 @@ numberOf TestToken = 22
 numberOf TransToken = 23
 numberOf AuditToken = 24
 numberOf AuditValueToken = 25
+numberOf BothwayToken = 26
+numberOf IsolateToken = 27
+numberOf OnewayToken = 28
+numberOf TopologyToken = 29
 
 unfoldable pub isToken : Token → Token → Bool
 isToken j k = eqb (numberOf j) (numberOf k)

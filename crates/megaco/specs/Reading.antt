@@ -12,9 +12,9 @@ use Rattle.megaco.specs.White.{after, whiteAt, sepAt}
 use Rattle.megaco.specs.Keywords.{spells}
 use Rattle.megaco.specs.Items.{called}
 use Rattle.megaco.specs.declared.Token.{Token}
-use Rattle.megaco.specs.declared.Token.the-variants.{AuditToken, MegacopToken, TransToken, CtxToken, PriorityToken, EmergencyToken}
+use Rattle.megaco.specs.declared.Token.the-variants.{AuditToken, MegacopToken, TransToken, CtxToken, PriorityToken, EmergencyToken, TopologyToken, IsolateToken, OnewayToken, BothwayToken}
 use Rattle.megaco.specs.Tokens.{markAt, signAt, rowAt, wordAt, keywordAt, terminationAt, numberAt, valueAt, mIdAt}
-use Rattle.megaco.specs.Tree.{Value, plain, quoted, ItemOf, item, Item, Command, command, Action, action, Transaction, transaction, Message, wellFormed, fault400, fault403, fault406}
+use Rattle.megaco.specs.Tree.{Value, plain, quoted, ItemOf, item, Item, Command, command, Triple, triple, Property, priority, emergency, topology, Action, action, Transaction, transaction, Message, wellFormed, fault400, fault403, fault406}
 use Rattle.megaco.specs.declared.Parsed.{Parsed}
 use Rattle.megaco.specs.declared.Parsed.the-variants.{Next, Fault}
 use Rattle.megaco.specs.declared.Number.{Number}
@@ -22,8 +22,8 @@ use Rattle.megaco.specs.declared.Number.the-variants.{Got, Bad}
 use Rattle.megaco.specs.declared.Class.the-variants.{WordByte}
 use Rattle.megaco.specs.declared.Context.{Context}
 use Rattle.megaco.specs.declared.Context.the-variants.{Null, Numbered, Choose, All}
-use Rattle.megaco.specs.declared.Property.{Property}
-use Rattle.megaco.specs.declared.Property.the-variants.{Priority, Emergency}
+use Rattle.megaco.specs.declared.Direction.{Direction}
+use Rattle.megaco.specs.declared.Direction.the-variants.{Isolate, Oneway, Bothway}
 
 -- ---- what a reader gives, and how one follows another
 pub data Read (A : Type 0) : Type 0 where
@@ -122,9 +122,9 @@ prefixAt b s at = eqb (capital (getD s at 0)) b && isAt s (at + 1) dash
 unfoldable pub prefixEnd : ℕ → List ℕ → ℕ → ℕ
 prefixEnd b s at = pick (prefixAt b s at) (at + 2) at
 
--- "PR .. EG; these words are never commands"
+-- "PR .. EG; these words are never commands", and TP
 unfoldable pub isProperty : List ℕ → Bool
-isProperty w = spells PriorityToken w || spells EmergencyToken w
+isProperty w = spells PriorityToken w || spells EmergencyToken w || spells TopologyToken w
 
 -- a command's word
 unfoldable pub orderR : List ℕ → ℕ → Read (List ℕ)
@@ -150,11 +150,39 @@ contextR s at =
 unfoldable pub wordHere : List ℕ → ℕ → List ℕ
 wordHere s at = part s at (rowAt WordByte s at)
 
--- "PR `=` 1 to 5 digits; EG"
+-- "Isolate/IS, Oneway/OW, Bothway/BW"
+unfoldable pub directionR : List ℕ → ℕ → Read Direction
+directionR s at =
+    bind (wordR s at) (λ w p.
+    pick (spells IsolateToken w) (got Isolate p) (pick (spells OnewayToken w) (got Oneway p) (pick (spells BothwayToken w) (got Bothway p) fault)))
+
+-- a name in a triple: any text of a termination
+unfoldable pub partyR : List ℕ → ℕ → Read (List ℕ)
+partyR s at = spaced s (reading (terminationAt s at) (part s at))
+
+-- Annex B.2's topologyTriple: two names and a direction, joined by commas
+unfoldable pub tripleR : List ℕ → ℕ → Read Triple
+tripleR s at =
+    bind (partyR s at) (λ a p.
+    skip (signAt comma s p) (λ q.
+    bind (partyR s q) (λ b r.
+    skip (signAt comma s r) (λ u.
+    bind (spaced s (directionR s u)) (λ d e. got (triple a b d) e)))))
+
+-- Annex B.2's topologyDescriptor: TP `{` triples, joined by commas `}`
+unfoldable pub topologyR : List ℕ → ℕ → Read Property
+topologyR s at =
+    skip (after (wordAt s at) (whiteAt s)) (λ p.
+    skip (signAt leftBrace s p) (λ q.
+    bind (listR (tripleR s) s (unlimited s) q) (λ ts e.
+    skip (signAt rightBrace s e) (got (topology ts)))))
+
+-- "PR `=` 1 to 5 digits; EG", TP
 unfoldable pub propertyR : List ℕ → ℕ → Read Property
 propertyR s at =
-    pick (spells EmergencyToken (wordHere s at)) (spaced s (reading (wordAt s at) (λ e. Emergency)))
-    (skip (keyAt PriorityToken s at) (λ p. spaced s (readNumber (numberAt s p 5 99999) Priority)))
+    pick (spells EmergencyToken (wordHere s at)) (spaced s (reading (wordAt s at) (λ e. emergency)))
+    (pick (spells TopologyToken (wordHere s at)) (topologyR s at)
+    (skip (keyAt PriorityToken s at) (λ p. spaced s (readNumber (numberAt s p 5 99999) priority))))
 
 -- what stands in an action's braces
 pub data Body : Type 0 where

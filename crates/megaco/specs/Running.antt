@@ -9,16 +9,16 @@ use Rattle.base.specs.Pick.{pick}
 use Rattle.base.specs.Bytes.{text, _then_}
 use Rattle.megaco.specs.Keywords.{spells}
 use Rattle.megaco.specs.declared.Token.the-variants.{AddToken, ModifyToken, SubtractToken, MoveToken, AuditValueToken}
-use Rattle.megaco.specs.Tree.{Items, Command, command, Action, action, Transaction, transaction, Message, wellFormed, fault400, fault403, fault406}
-use Rattle.megaco.specs.Table.{prop, rec, used, ctx, cell, Write, write, get, most, lineTerminations, fitted, contextWords, isEphemeral, exists, known, members, freeContext, freeEphemeral, modeOf, stateOf, priorityOf, emergencyOf}
+use Rattle.megaco.specs.Tree.{Items, Command, command, Property, priority, emergency, topology, Action, action, Transaction, transaction, Message, wellFormed, fault400, fault403, fault406}
+use Rattle.megaco.specs.Table.{prop, rec, used, flow, lowFlow, highFlow, placeIn, ctx, cell, Write, write, get, most, lineTerminations, fitted, contextWords, isEphemeral, exists, known, members, freeContext, freeEphemeral, modeOf, stateOf, priorityOf, emergencyOf}
 use Rattle.megaco.specs.State.{State, wrote}
 use Rattle.megaco.specs.Names.{inRange, nameOf, nameText}
+use Rattle.megaco.specs.Square.{Square, squareOf, lowOf, highOf, joined, parted}
+use Rattle.megaco.specs.Topology.{triplesOf, anyTopology, Link, link, linksOf, isUnfit, isAbsent, isOutside, setLinks}
 use Rattle.megaco.specs.Items.{update, judgeItems, given?}
 use Rattle.megaco.specs.Reply.{Detail, nothing, media, Report, done, refused, failed, standing, Acted, errorText, replyText, transactionText}
 use Rattle.megaco.specs.declared.Context.{Context}
 use Rattle.megaco.specs.declared.Context.the-variants.{Null, Numbered, Choose, All}
-use Rattle.megaco.specs.declared.Property.{Property}
-use Rattle.megaco.specs.declared.Property.the-variants.{Priority, Emergency}
 use Rattle.megaco.specs.declared.Op.{Op}
 use Rattle.megaco.specs.declared.Op.the-variants.{Add, Modify, Subtract, Move, AuditValue}
 use Rattle.megaco.specs.declared.Range.{Range}
@@ -42,10 +42,17 @@ judge (check b code ∷ cs) = let r = judge cs in pick b (Fails code) r
 
 -- ---- what an attempt sees of the table
 abbrev pub unseen : Seen
-unseen = record { held = 0; members = 0 }
+unseen = record { held = 0; members = 0; low = 0; high = 0 }
+
+abbrev pub seenIn : ℕ → List ℕ → Seen
+seenIn c t = record { held = get t (cell (rec c)); members = members c t; low = get t (cell (flow (lowFlow c))); high = get t (cell (flow (highFlow c))) }
 
 unfoldable pub seen : ℕ → List ℕ → Seen
-seen c t = let s : Seen = record { held = get t (cell (rec c)); members = members c t } in pick (known c) s unseen
+seen c t = pick (known c) (seenIn c t) unseen
+
+-- the flows of a context
+unfoldable pub flowsOf : Seen → Square
+flowsOf s = squareOf (s .low) (s .high)
 
 -- null is 0 in the table; `$` and `*` are no number yet
 unfoldable pub numberOf : Context → ℕ
@@ -57,7 +64,7 @@ freeAt at t = elim at [ Null ↦ 0 | Numbered c ↦ 0 | Choose ↦ freeContext t
 
 unfoldable pub look : Context → ℕ → List ℕ → View
 look at i t =
-    record { here = get t (ctx i); word = get t (cell (prop i)); there = seen (numberOf at) t; from = seen (get t (ctx i)) t; free = freeAt at t; lines = fitted t }
+    record { here = get t (ctx i); word = get t (cell (prop i)); there = seen (numberOf at) t; from = seen (get t (ctx i)) t; free = freeAt at t; lines = fitted t; into = placeIn (numberOf at) i t; out = placeIn (get t (ctx i)) i t }
 
 -- ---- one attempt: tests 5 and 6, and what it changes
 unfoldable pub isChoose : Context → Bool
@@ -81,13 +88,20 @@ checks Subtract at v = check (not (eqb (v .here) (numberOf at))) 435 ∷ []
 checks Move at v = check (eqb (v .here) 0) 435 ∷ check (eqb (v .here) (numberOf at)) 433 ∷ check (eqb (stateOf (v .word)) 1) 503 ∷ roomChecks at v
 checks AuditValue at v = check (not (eqb (v .here) (numberOf at))) 435 ∷ []
 
--- the context that an attempt joins: `$` comes to be, with the record given
-unfoldable pub joining : Context → ℕ → View → List Write → List Write
-joining at given v ws = pick (isChoose at) (write (cell (rec (v .free))) given ∷ ws) ws
+-- the two words of a context's flows
+unfoldable pub flowing : ℕ → Square → List Write → List Write
+flowing c q ws = write (cell (flow (lowFlow c))) (lowOf q) ∷ write (cell (flow (highFlow c))) (highOf q) ∷ ws
 
--- "A context ends with its last termination"
+-- the context that an attempt joins: `$` comes to be, with the record given, and has no flows; "a termination that joins is bothway with every
+-- other"
+unfoldable pub joining : Context → ℕ → View → List Write → List Write
+joining at given v ws =
+    pick (isChoose at) (write (cell (rec (v .free))) given ∷ ws)
+    (flowing (numberOf at) (joined (flowsOf (v .there)) (v .there .members + 1) (v .into)) ws)
+
+-- "A context ends with its last termination"; "one that leaves takes its pairs with it", and the last has none
 unfoldable pub leaving : View → List Write → List Write
-leaving v ws = pick (leb (v .from .members) 1) (write (cell (rec (v .here))) 0 ∷ ws) ws
+leaving v ws = pick (leb (v .from .members) 1) (write (cell (rec (v .here))) 0 ∷ ws) (flowing (v .here) (parted (flowsOf (v .from)) (v .out)) ws)
 
 unfoldable pub placed : ℕ → ℕ → ℕ → List Write
 placed i c word = write (ctx i) c ∷ write (cell (prop i)) word ∷ []
@@ -271,23 +285,30 @@ ordered o (some op) name items given at st =
 unfoldable pub runCommand : Command → ℕ → Context → State → Outcome
 runCommand (command o w word name items) given at st = ordered o (opOf w word) name items given at st
 
--- ---- an action's start; `there` is what it sees of its context
+-- ---- an action's start; `there` is what it sees of its context, `links` are its triples with their names looked up
 unfoldable pub over15 : List Property → Bool
 over15 [] = false
-over15 (Priority n ∷ ps) = ltb 15 n || over15 ps
-over15 (Emergency ∷ ps) = over15 ps
+over15 (priority n ∷ ps) = ltb 15 n || over15 ps
+over15 (emergency ∷ ps) = over15 ps
+over15 (topology ts ∷ ps) = over15 ps
 
 unfoldable pub anyGiven : List Property → Bool
 anyGiven [] = false
 anyGiven (p ∷ ps) = true
 
+-- document 02, CR 6: "first faulty triple: 410 for a name twice in a triple, one with `*` or `$`, or ROOT; 430; 435 for one not in the context"
+unfoldable pub linkChecks : List Link → List Check
+linkChecks [] = []
+linkChecks (link twice a b d ∷ xs) =
+    check (twice || isUnfit a || isUnfit b) 410 ∷ check (isAbsent a || isAbsent b) 430 ∷ check (isOutside a || isOutside b) 435 ∷ linkChecks xs
+
 -- "421 for context `*`; 421 for properties in `-`, or in `$` without commands; 449 for any priority over 15; 411 for properties in a
--- numbered context that does not exist"
-unfoldable pub startChecks : Context → List Property → Bool → Seen → List Check
-startChecks Null ps alone there = check (anyGiven ps) 421 ∷ []
-startChecks (Numbered c) ps alone there = check (over15 ps) 449 ∷ check (anyGiven ps && eqb (there .held) 0) 411 ∷ []
-startChecks Choose ps alone there = check (anyGiven ps && alone) 421 ∷ check (over15 ps) 449 ∷ []
-startChecks All ps alone there = check true 421 ∷ []
+-- numbered context that does not exist"; of TP "In `$`, `-` or `*`: 421 at its old place", and its triples "after 411"
+unfoldable pub startChecks : Context → List Property → Bool → Seen → List Link → List Check
+startChecks Null ps alone there links = check (anyGiven ps) 421 ∷ []
+startChecks (Numbered c) ps alone there links = check (over15 ps) 449 ∷ check (anyGiven ps && eqb (there .held) 0) 411 ∷ linkChecks links
+startChecks Choose ps alone there links = check (anyGiven ps && alone || anyTopology ps) 421 ∷ check (over15 ps) 449 ∷ []
+startChecks All ps alone there links = check true 421 ∷ []
 
 -- "A new context has priority 0, no emergency"
 abbrev pub newRecord : ℕ
@@ -296,14 +317,19 @@ newRecord = 1
 -- "Properties are then set, the last of a kind holding"
 unfoldable pub setProperties : List Property → ℕ → ℕ
 setProperties [] r = r
-setProperties (Priority n ∷ ps) r = setProperties ps (1 + n + 16 * emergencyOf r)
-setProperties (Emergency ∷ ps) r = setProperties ps (1 + priorityOf r + 16)
+setProperties (priority n ∷ ps) r = setProperties ps (1 + n + 16 * emergencyOf r)
+setProperties (emergency ∷ ps) r = setProperties ps (1 + priorityOf r + 16)
+setProperties (topology ts ∷ ps) r = setProperties ps r
 
-unfoldable pub startWrites : Context → List Property → ℕ → List Write
-startWrites Null ps r = []
-startWrites (Numbered c) ps r = pick (anyGiven ps) (write (cell (rec c)) (setProperties ps r) ∷ []) []
-startWrites Choose ps r = []
-startWrites All ps r = []
+-- "The triples of every TP in the action are set in order after 411, all or none"
+unfoldable pub flowWrites : ℕ → List Property → Seen → List Link → List Write
+flowWrites c ps there links = pick (anyTopology ps) (flowing c (setLinks links (flowsOf there)) []) []
+
+unfoldable pub startWrites : Context → List Property → Seen → List Link → List Write
+startWrites Null ps there links = []
+startWrites (Numbered c) ps there links = pick (anyGiven ps) (write (cell (rec c)) (setProperties ps (there .held)) ∷ flowWrites c ps there links) []
+startWrites Choose ps there links = []
+startWrites All ps there links = []
 
 -- what an action's start writes, and the action as it then stands
 pub record Start : Type 0 where
@@ -316,14 +342,14 @@ unfoldable pub startReports : List Property → Bool → ℕ → List Report
 startReports ps alone r = pick alone (standing (setProperties ps r) ∷ []) []
 
 -- those of `$` "are given to the context when it comes to be": the record that it will have is kept with the action
-unfoldable pub startedBy : Context → List Property → Bool → Seen → Checked → Start
-startedBy c ps alone there Passes =
-    record { writes = startWrites c ps (there .held); acted = record { at = c; given = setProperties ps newRecord; said = startReports ps alone (there .held) }; going = true }
-startedBy c ps alone there (Fails code) =
+unfoldable pub startedBy : Context → List Property → Bool → Seen → List Link → Checked → Start
+startedBy c ps alone there links Passes =
+    record { writes = startWrites c ps there links; acted = record { at = c; given = setProperties ps newRecord; said = startReports ps alone (there .held) }; going = true }
+startedBy c ps alone there links (Fails code) =
     record { writes = []; acted = record { at = c; given = newRecord; said = failed code ∷ [] }; going = false }
 
-unfoldable pub started : Context → List Property → Bool → Seen → Start
-started c ps alone there = startedBy c ps alone there (judge (startChecks c ps alone there))
+unfoldable pub started : Context → List Property → Bool → Seen → List Link → Start
+started c ps alone there links = startedBy c ps alone there links (judge (startChecks c ps alone there links))
 
 -- ---- a transaction: its steps are action starts, with the properties and whether they stand alone, and commands
 pub data Step : Type 0 where
@@ -367,7 +393,8 @@ advance x a acts = course (x .state) (progress (x .going) (record { at = x .at; 
 
 -- one step of a transaction that goes on; no command comes before the first action's start
 unfoldable pub proceed : Step → State → List Acted → Course
-proceed (start c ps alone) st acts = begin (started c ps alone (seen (numberOf c) (st .table))) st acts
+proceed (start c ps alone) st acts =
+    begin (started c ps alone (seen (numberOf c) (st .table)) (linksOf (numberOf c) (st .table) (triplesOf ps))) st acts
 proceed (order c) st [] = course st (progress true [])
 proceed (order c) st (a ∷ acts) = advance (runCommand c (a .given) (a .at) st) a acts
 

@@ -4,7 +4,7 @@ use mathlib.Core.Bool.{Bool}
 use mathlib.Core.List.{List}
 use mathlib.Core.Option.{Option}
 use Rattle.megaco.specs.declared.Context.{Context}
-use Rattle.megaco.specs.declared.Property.{Property}
+use Rattle.megaco.specs.declared.Direction.{Direction}
 
 pub data Value : Type 0 where
   plain quoted : List ℕ → Value
@@ -25,6 +25,16 @@ Items = Option (List (Item 8))
 -- "Command: optional `O-`, optional `W-`, word `=` termination, optional `{` items `}`"
 pub data Command : Type 0 where
   command : (optional wild : Bool) (word name : List ℕ) (items : Items) → Command
+
+-- "triples of two full names and Isolate/IS, Oneway/OW, Bothway/BW" (document 02, CR 6)
+pub data Triple : Type 0 where
+  triple : (one two : List ℕ) (direction : Direction) → Triple
+
+-- "Properties: PR `=` 1 to 5 digits; EG", and "Topology/TP in an action's properties"
+pub data Property : Type 0 where
+  priority : ℕ → Property
+  emergency : Property
+  topology : List Triple → Property
 
 pub data Action : Type 0 where
   action : (context : Context) (properties : List Property) (commands : List Command) → Action

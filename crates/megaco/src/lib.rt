@@ -26,10 +26,12 @@ pub enum Token {
     AddToken,
     AuditToken,
     AuditValueToken,
+    BothwayToken,
     CtxToken,
     EmergencyToken,
     ErrorToken,
     InactiveToken,
+    IsolateToken,
     InSvcToken,
     LocalControlToken,
     LoopbackToken,
@@ -38,6 +40,7 @@ pub enum Token {
     ModeToken,
     ModifyToken,
     MoveToken,
+    OnewayToken,
     OutOfSvcToken,
     PriorityToken,
     RecvonlyToken,
@@ -48,6 +51,7 @@ pub enum Token {
     SubtractToken,
     TerminationStateToken,
     TestToken,
+    TopologyToken,
     TransToken,
 }
 
@@ -59,10 +63,27 @@ pub enum Context {
     All,
 }
 
-// A context's property, as an action gives it: `PR=n`, `EG`.
+// A context's property, as an action gives it: `PR=n`, `EG`, `TP{..}`.
 pub enum Property {
     Priority(u32),
     Emergency,
+    Topology,
+}
+
+// How media flows between the two terminations of a triple: neither way, from the first to the second, both ways.
+pub enum Direction {
+    Isolate,
+    Oneway,
+    Bothway,
+}
+
+// Whom a name in a triple means: nobody, with `*`, `$` or as ROOT; a termination that does not exist; one that stands elsewhere; the member
+// that has this place in the square of flows.
+pub enum Party {
+    Unfit,
+    Absent,
+    Outside,
+    Member(usize),
 }
 
 // The commands that are built.
@@ -125,14 +146,17 @@ pub enum Kind {
     InState,
 }
 
-// Of a context: its record, and how many terminations stand in it.
+// Of a context: its record, how many terminations stand in it, and the two words of its flows.
 pub struct Seen {
     pub held: u32,
     pub members: usize,
+    pub low: u32,
+    pub high: u32,
 }
 
 // What an attempt sees: where the termination stands, its property word, the action's context, the context that it stands in, and
-// the lowest number absent, and how many lines are fitted.
+// the lowest number absent, and how many lines are fitted; its place among the members of the action's context, and of the one that it
+// stands in.
 pub struct View {
     pub here: u32,
     pub word: u32,
@@ -140,4 +164,6 @@ pub struct View {
     pub from: Seen,
     pub free: u32,
     pub lines: u32,
+    pub into: usize,
+    pub out: usize,
 }

@@ -6,27 +6,33 @@ use mathlib.Core.List.{List}
 use native.Mathlib.Omega.{arith}
 use lib.ListN.{length}
 use Rattle.base.specs.Pick.{pick}
-use Rattle.base.specs.Lists.{isAt}
+use Rattle.base.specs.Lists.{isAt, part}
 use Rattle.megaco.specs.Bytes.{comma, leftBrace, rightBrace, dash, dollar, star}
 use Rattle.megaco.specs.Keywords.{spells}
-use Rattle.megaco.specs.Tokens.{markAt, rowAt, numberAt}
+use Rattle.megaco.specs.Tokens.{markAt, rowAt, terminationAt, numberAt}
+use Rattle.megaco.specs.Tree as tree
+use Rattle.megaco.specs.Tree.{priority, emergency, topology, Triple}
 use Rattle.megaco.specs.Reading.{unlimited, keyAt, isProperty, wordHere, senderAt}
 use Rattle.megaco.specs.declared.Parsed.{Parsed}
 use Rattle.megaco.specs.declared.Number.{Number}
 use Rattle.megaco.specs.declared.Number.the-variants.{Got, Bad}
 use Rattle.megaco.specs.declared.Class.the-variants.{WordByte}
 use Rattle.megaco.specs.declared.Context.the-variants.{Null, Numbered, Choose, All}
-use Rattle.megaco.specs.declared.Property.the-variants.{Priority, Emergency}
-use Rattle.megaco.specs.declared.Token.the-variants.{CtxToken, EmergencyToken}
+use Rattle.megaco.specs.declared.Direction.{Direction}
+use Rattle.megaco.specs.declared.Property.the-variants.{Priority, Emergency, Topology}
+use Rattle.megaco.specs.declared.Token.the-variants.{CtxToken, EmergencyToken, TopologyToken}
+use Rattle.syntax.specs.declared.Piece.{Piece}
+use Rattle.syntax.specs.Pieces.{Holds}
 use Rattle.syntax.specs.declared.Rest.{Rest}
-use Rattle.syntax.specs.Places.{priorityAt, commandAt, commandsAt, contextStart, contextAt, bodyStart, propertyAt, rest, restOf, restIn, bodyEnd, actionAt, actionsAt}
+use Rattle.syntax.specs.Places.{priorityAt, commandAt, commandsAt, contextStart, contextAt, bodyStart, directionOf, directionAt, partyAt, partyEnd, twoStart, directionStart, tripleAt, triplesStart, triplesAt, topologyAt, propertyAt, rest, restOf, restIn, bodyEnd, actionAt, actionsAt}
 use Rattle.syntax.specs.Messages.{braceAt, identifierAt, versionAt, actionsStart, closingEnd, transactionEnd, headerEnd}
 use Rattle.syntax.specs.Production.{endOf, valueIn, nextIn, pastWhite, pastSign, wordEnd, listEnd, listAfter, listP}
 use Rattle.outline.specs.declared.ContextPlaces.{ContextPlaces}
 use Rattle.outline.specs.declared.ActionPlaces.{ActionPlaces}
+use Rattle.outline.specs.declared.TriplePlaces.{TriplePlaces}
 use Rattle.outline.specs.declared.PropertyPlaces.{PropertyPlaces}
 use Rattle.outline.specs.declared.TransactionPlaces.{TransactionPlaces}
-use Rattle.outline.specs.Outline.{contextPlaces, actionPlaces, propertyPlaces, transactionPlaces}
+use Rattle.outline.specs.Outline.{contextPlaces, actionPlaces, OfTriple, tripleFrom, kindOf, propertyPlaces, transactionPlaces}
 
 -- ---- numbers
 
@@ -75,14 +81,85 @@ action-found s at p e b k x ek ep ex ee eb =
     let z : p ≡ endOf (keyAt CtxToken s at) = ep ∙ rw ek in
     rw (← z, eb, ee, ex)
 
+-- ---- topology
+
+pub direction-found : (s : List ℕ) (at e : ℕ) (w : Piece) (r : Direction) → e ≡ rowAt WordByte s at → Holds s at e w → r ≡ directionOf (part s (w .from) (w .to)) → r ≡ directionAt s at .tree
+unfolding directionAt wordEnd
+direction-found s at e w r h g f = rw (← h, ← g .bytes) f
+
+triple-ends : (s : List ℕ) (at u e : ℕ) → u ≡ directionStart s at → e ≡ rowAt WordByte s u → pastWhite s e ≡ tripleAt s at .end
+unfolding tripleAt partyAt directionAt wordEnd partyEnd twoStart directionStart
+triple-ends s at u e h g = rw (g, h)
+
+pub triple-found : (s : List ℕ) (at a p q b r u e z : ℕ) (x y : Parsed) (one two : Piece) (d : Direction) → x ≡ terminationAt s at → a ≡ endOf x → Holds s at a one
+    → p ≡ pastWhite s a → q ≡ pastSign comma s p → y ≡ terminationAt s q → b ≡ endOf y → Holds s q b two → r ≡ pastWhite s b → u ≡ pastSign comma s r
+    → d ≡ directionAt s u .tree → e ≡ rowAt WordByte s u → z ≡ pastWhite s e → OfTriple s at (record { one = one; two = two; direction = d; end = z })
+unfolding partyEnd twoStart directionStart
+triple-found s at a p q b r u e z x y one two d ex ea h ep eq ey eb k er eu ed ee ez =
+    let first : a ≡ partyEnd s at = ea ∙ rw ex in
+    let qs : q ≡ twoStart s at = eq ∙ rw (ep, first) in
+    let bs : b ≡ partyEnd s (twoStart s at) = eb ∙ rw (ey, qs) in
+    let us : u ≡ directionStart s at = eu ∙ rw (er, bs) in
+    record { one = rw first at h; two = rw qs at (rw bs at k); direction = ed ∙ rw us; end = ez ∙ triple-ends s at u e us ee }
+
+-- what its parts tell is the triple
+pub triple-is : (s : List ℕ) (at : ℕ) (r : TriplePlaces) → OfTriple s at r → tripleAt s at .tree ≡ tripleFrom s r
+unfolding tripleAt partyAt partyEnd twoStart directionStart tripleFrom
+triple-is s at r h = rw (h .one .bytes, h .two .bytes, h .direction)
+
+pub triples-begin : (s : List ℕ) (at : ℕ) → triplesAt s at .end ≡ listEnd (λ j. tripleAt s j .end) s (length s + 1 - 0) at
+unfolding triplesAt unlimited
+triples-begin s at = let z : length s + 1 - 0 ≡ length s + 1 = omega arith in rw z
+
+pub triples-first : (s : List ℕ) (at e p r : ℕ) → e ≡ rowAt WordByte s at → p ≡ pastWhite s e → r ≡ pastSign leftBrace s p → r ≡ triplesStart s at
+unfolding triplesStart wordEnd
+triples-first s at e p r h g f = f ∙ rw (g, h)
+
+pub topology-ends : (s : List ℕ) (at a e r : ℕ) → a ≡ triplesStart s at → e ≡ triplesAt s a .end → r ≡ pastSign rightBrace s e → r ≡ topologyAt s at .end
+unfolding topologyAt triplesStart
+topology-ends s at a e r h g f = f ∙ rw (g, h)
+
+-- ---- properties
+
 module _ (s : List ℕ) (at : ℕ) (x : Bool) (g : x ≡ spells EmergencyToken (wordHere s at)) where
   pub emergency-found : (e p : ℕ) → x ≡ true → e ≡ rowAt WordByte s at → p ≡ pastWhite s e → record { property = Emergency; end = p } ≡ propertyPlaces s at
-  unfolding propertyPlaces propertyAt wordEnd pick
+  unfolding propertyPlaces kindOf propertyAt wordEnd pick
   emergency-found e p t a b = rw (← g, t, ← a, b)
 
-  pub priority-found : (n : Number) (v q p : ℕ) → x ≡ false → n ≡ priorityAt s at → v ≡ valueIn n → q ≡ nextIn n → p ≡ pastWhite s q → record { property = Priority v; end = p } ≡ propertyPlaces s at
-  unfolding propertyPlaces propertyAt pick
-  priority-found n v q p t e a b d = rw (← g, t, ← e, a, d, b)
+  module _ (f : x ≡ false) (y : Bool) (h : y ≡ spells TopologyToken (wordHere s at)) where
+    pub topology-found : (e : ℕ) → y ≡ true → e ≡ topologyAt s at .end → record { property = Topology; end = e } ≡ propertyPlaces s at
+    unfolding propertyPlaces kindOf propertyAt topologyAt pick
+    topology-found e t a = rw (← g, f, ← h, t, a)
+
+    pub priority-found : (n : Number) (v q p : ℕ) → y ≡ false → n ≡ priorityAt s at → v ≡ valueIn n → q ≡ nextIn n → p ≡ pastWhite s q
+        → record { property = Priority v; end = p } ≡ propertyPlaces s at
+    unfolding propertyPlaces kindOf propertyAt pick
+    priority-found n v q p t e a b d = rw (← g, f, ← h, t, ← e, a, d, b)
+
+-- ---- what a property is, by its kind
+
+pub kind-priority : (x : tree.Property) (n : ℕ) → kindOf x ≡ Priority n → x ≡ priority n
+unfolding kindOf
+kind-priority (priority m) n e = let z : m ≡ n = cc in ap priority z
+kind-priority emergency n e = cc
+kind-priority (topology ts) n e = cc
+
+pub kind-emergency : (x : tree.Property) → kindOf x ≡ Emergency → x ≡ emergency
+unfolding kindOf
+kind-emergency (priority m) e = cc
+kind-emergency emergency e = cc
+kind-emergency (topology ts) e = cc
+
+kind-pick : (x y : Bool) (ts : List Triple) (n : ℕ) → kindOf (pick x emergency (pick y (topology ts) (priority n))) ≡ Topology → pick x emergency (pick y (topology ts) (priority n)) ≡ topology ts
+unfolding kindOf pick
+kind-pick true y ts n e = cc
+kind-pick false true ts n e = cc
+kind-pick false false ts n e = cc
+
+-- a topology has the triples that begin behind its brace
+pub kind-topology : (s : List ℕ) (at : ℕ) → kindOf (propertyAt s at .tree) ≡ Topology → propertyAt s at .tree ≡ topology (triplesAt s (triplesStart s at) .tree)
+unfolding propertyAt topologyAt triplesStart
+kind-topology s at e = kind-pick (spells EmergencyToken (wordHere s at)) (spells TopologyToken (wordHere s at)) _ _ e
 
 -- ---- what follows the properties: n of them were read
 

@@ -3,14 +3,16 @@
 ghost use mathlib.Core.Path.{_≡_};
 ghost use Rattle.megaco.specs.Reading.{unlimited};
 ghost use Rattle.syntax.specs.Production.{valueIn, nextIn, listAfter, listP};
-ghost use Rattle.syntax.specs.Places.{commandAt, bodyEnd, restOf, actionAt};
+ghost use Rattle.syntax.specs.Places.{commandAt, directionAt, tripleAt, triplesStart, triplesAt, topologyAt, bodyEnd, restOf, actionAt};
 ghost use Rattle.syntax.specs.Messages.{closingEnd, headerEnd};
-ghost use Rattle.outline.specs.Outline.{contextPlaces, actionPlaces, propertyPlaces, transactionPlaces};
+ghost use Rattle.outline.specs.Outline.{contextPlaces, actionPlaces, OfTriple, propertyPlaces, transactionPlaces};
 use megaco::Class;
 use megaco::Context;
+use megaco::Direction;
 use megaco::Number;
 use megaco::Property;
 use megaco::Token;
+use syntax::Piece;
 use syntax::Rest;
 
 // A context, and the place behind it.
@@ -23,6 +25,14 @@ pub struct ContextPlaces {
 pub struct ActionPlaces {
     pub context: Context,
     pub body: usize,
+}
+
+// A triple: its two names, its direction, and the place behind it.
+pub struct TriplePlaces {
+    pub one: Piece,
+    pub two: Piece,
+    pub direction: Direction,
+    pub end: usize,
 }
 
 // A property, and the place behind it.
@@ -99,6 +109,78 @@ pub fn action_places(s: &[u8], at: usize) -> ActionPlaces
     }
 }
 
+// ---- topology
+
+// The direction whose word stands here.
+fn direction_here(s: &[u8], at: usize) -> Direction
+    ensures { λ r. ⌜ r ≡ directionAt (now (s .entry)) at .tree ⌝ }
+{
+    let w = syntax::piece_of(s, at, text::row(s, at, Class::WordByte));
+    let a = w.from;
+    let e = w.to;
+    actions::direction_of(&s[a..e])
+}
+
+// A triple.
+pub fn triple_places(s: &[u8], at: usize) -> TriplePlaces
+    ensures { λ r. ⌜ OfTriple (now (s .entry)) at r ⌝ }
+{
+    let a = parts::end_of(tokens::termination(s, at));
+    let one = syntax::piece_of(s, at, a);
+    let q = parts::past_comma(s, parts::past_white(s, a));
+    let b = parts::end_of(tokens::termination(s, q));
+    let two = syntax::piece_of(s, q, b);
+    let u = parts::past_comma(s, parts::past_white(s, b));
+    let d = direction_here(s, u);
+    let end = parts::past_white(s, text::row(s, u, Class::WordByte));
+    TriplePlaces {
+        one: one,
+        two: two,
+        direction: d,
+        end: end,
+    }
+}
+
+fn triple_end(s: &[u8], at: usize) -> usize
+    ensures { λ r. ⌜ r ≡ tripleAt (now (s .entry)) at .end ⌝ }
+{
+    let p = triple_places(s, at);
+    p.end
+}
+
+// The end of the triples that begin here.
+pub fn triples_end(s: &[u8], at: usize) -> usize
+    ensures { λ r. ⌜ r ≡ triplesAt (now (s .entry)) at .end ⌝ }
+{
+    let mut i = at;
+    let mut n = 0;
+    while n <= s.len() {
+        let e = triple_end(s, i);
+        if text::is_at(s, e, 0x2c) {
+            i = parts::past_comma(s, e);
+            n += 1;
+        } else {
+            return e;
+        }
+    }
+    i
+}
+
+// Where the triples of the topology that stands here begin.
+pub fn triples_start(s: &[u8], at: usize) -> usize
+    ensures { λ r. ⌜ r ≡ triplesStart (now (s .entry)) at ⌝ }
+{
+    parts::past_opening(s, parts::past_white(s, text::row(s, at, Class::WordByte)))
+}
+
+fn topology_end(s: &[u8], at: usize) -> usize
+    ensures { λ r. ⌜ r ≡ topologyAt (now (s .entry)) at .end ⌝ }
+{
+    parts::past_closing(s, triples_end(s, triples_start(s, at)))
+}
+
+// ---- properties
+
 // A property.
 pub fn property_places(s: &[u8], at: usize) -> PropertyPlaces
     ensures { λ r. ⌜ r ≡ propertyPlaces (now (s .entry)) at ⌝ }
@@ -108,6 +190,13 @@ pub fn property_places(s: &[u8], at: usize) -> PropertyPlaces
         return PropertyPlaces {
             property: Property::Emergency,
             end: parts::past_white(s, e),
+        };
+    }
+    if actions::here_spells(s, at, Token::TopologyToken) {
+        let e = topology_end(s, at);
+        return PropertyPlaces {
+            property: Property::Topology,
+            end: e,
         };
     }
     let n = actions::priority(s, at);

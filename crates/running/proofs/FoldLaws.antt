@@ -9,6 +9,7 @@ use Rattle.base.proofs.TextLaws.{then-assoc, then-none}
 use Rattle.megaco.specs.Tree.{Command, Action, action, transaction}
 use Rattle.megaco.specs.State.{State, wrote}
 use Rattle.megaco.specs.Reply.{Report, Acted, separator, actionText, earlierText, actionsText, replyText, limited, transactionText}
+use Rattle.megaco.specs.Topology.{triplesOf, linksOf}
 use Rattle.megaco.specs.Running.{Outcome, outcome, Start, seen, numberOf, runCommand, started, noCommands, Step, orders, steps, progress, Course, course, begin, advance, proceed, step, run, fresh, Ran, ran, runTransaction}
 use Rattle.megaco.specs.declared.Context.{Context}
 use Rattle.running.specs.Fold.{runCommands, afterStart, runAction, outcomeText, runActions}
@@ -117,7 +118,7 @@ pub run-actions : (acts : List Action) (prev : List Acted) (t : State) → Agree
 unfolding run steps step proceed runActions runAction pick
 run-actions [] prev t = record { state = refl; text = sym (then-none (actionsText prev)) }
 run-actions (action c ps cs ∷ acts) prev t =
-    run-action cs acts prev t (started c ps (noCommands cs) (seen (numberOf c) (t .table))) (λ x a. run-actions acts (a ∷ prev) (x .state))
+    run-action cs acts prev t (started c ps (noCommands cs) (seen (numberOf c) (t .table)) (linksOf (numberOf c) (t .table) (triplesOf ps))) (λ x a. run-actions acts (a ∷ prev) (x .state))
 
 -- a transaction's run, in the code's order
 pub transaction-is : (id : ℕ) (acts : List Action) (t : State)

@@ -13,18 +13,20 @@ use Rattle.base.proofs.TestLaws.{and-both}
 use Rattle.megaco.specs.Table.{Sized, contexts, sound, known, cell, rec, get, Write, apply}
 use Rattle.megaco.specs.Reading.{isProperty, wordHere}
 use Rattle.megaco.specs.State.{State, state}
-use Rattle.megaco.specs.Tree.{Command, action}
+use Rattle.megaco.specs.Tree.{Command, Property, action}
+use Rattle.megaco.specs.Topology.{triplesOf, anyTopology, Link, linksOf}
 use Rattle.megaco.specs.Reply.{standing, failed, reportsText}
 use Rattle.megaco.specs.Running.{Outcome, outcome, judge, seen, numberOf, anyGiven, over15, newRecord, setProperties, startChecks, startWrites, startReports, startedBy, started, noCommands}
 use Rattle.megaco.specs.declared.Context.{Context}
-use Rattle.megaco.specs.declared.Property.{Property}
 use Rattle.megaco.specs.declared.Checked.{Checked}
 use Rattle.megaco.specs.declared.Checked.the-variants.{Passes, Fails}
 use Rattle.syntax.specs.Production.{listOf}
 use Rattle.syntax.specs.Places.{commandsAt, commandsIn, bodyEnd}
 use Rattle.syntax.specs.declared.Rest.{Rest}
 use Rattle.orders.specs.Orders.{heldAt}
-use Rattle.starts.specs.Starting.{propertiesIn, startTests, wroteStart, givenBy}
+use Rattle.topology.specs.Links.{flowsAfter}
+use Rattle.starts.specs.declared.Tested.{Tested}
+use Rattle.starts.specs.Starting.{propertiesIn, judgedStart, linked, Tests, wroteStart, givenBy}
 use Rattle.starts.specs.declared.Given.{Given}
 use Rattle.starts.proofs.StartLaws.{given-over, given-fresh, given-held, start-writes-is, start-tests-are, start-over, any-given}
 use Rattle.commands.specs.Fails.{Failed}
@@ -51,14 +53,18 @@ alone-is s r = by (r .commands)
 
 -- an action by what its start is judged
 module _ (c : Context) (ps : List Property) (cs : List Command) (t : List ℕ) where
-  action-refused : (code : ℕ) → judge (startChecks c ps (noCommands cs) (seen (numberOf c) t)) ≡ Fails code
+  -- the triples with their names looked up
+  abbrev links : List Link
+  links = linksOf (numberOf c) t (triplesOf ps)
+
+  action-refused : (code : ℕ) → judge (startChecks c ps (noCommands cs) (seen (numberOf c) t) links) ≡ Fails code
       → runAction (action c ps cs) (state t) ≡ outcome (state t) (failed code ∷ []) c false
   unfolding runAction started startedBy afterStart heldAt apply pick
   action-refused code e = rw e
 
-  action-done : judge (startChecks c ps (noCommands cs) (seen (numberOf c) t)) ≡ Passes
+  action-done : judge (startChecks c ps (noCommands cs) (seen (numberOf c) t) links) ≡ Passes
       → runAction (action c ps cs) (state t)
-      ≡ (let x = runCommands cs (setProperties ps newRecord) c (state (apply (startWrites c ps (heldAt c t)) t)) in
+      ≡ (let x = runCommands cs (setProperties ps newRecord) c (state (apply (startWrites c ps (seen (numberOf c) t) links) t)) in
       outcome (x .state) (startReports ps (noCommands cs) (heldAt c t) ++ x .reports) (x .at) (x .going))
   unfolding runAction started startedBy afterStart heldAt pick
   action-done e = rw e
@@ -75,20 +81,28 @@ reports-none : (ps : List Property) (held : ℕ) → startReports ps false held 
 unfolding startReports pick
 reports-none ps held = refl
 
-module _ (s : List ℕ) (c : Context) (body : ℕ) (rest : Rest) (t o : List ℕ) (held : ℕ) (any : Bool) (g : Given) (x : Checked) (e : held ≡ heldAt c t)
-    (f : any ≡ isProperty (wordHere s body)) (h : g ≡ givenBy (propertiesIn s body) held) (k : x ≡ judge (startTests c any (g .over) (not (rest .commands)) held)) where
+module _ (s : List ℕ) (c : Context) (body : ℕ) (rest : Rest) (t o : List ℕ) (held : ℕ) (any : Bool) (g : Given) (d : Tested) (e : held ≡ heldAt c t)
+    (f : any ≡ isProperty (wordHere s body)) (h : g ≡ givenBy (propertiesIn s body) held) (k : Tests (propertiesIn s body) c t any (g .over) (not (rest .commands)) held d) where
   abbrev ps : List Property
   ps = propertiesIn s body
 
   abbrev cs : List Command
   cs = commandsIn s rest
 
+  abbrev x : Checked
+  x = d .checked
+
+  abbrev ls : List Link
+  ls = linksOf (numberOf c) t (triplesOf ps)
+
   any-is : any ≡ anyGiven ps
   any-is = f ∙ sym (any-given s body)
 
-  tests-are : x ≡ judge (startChecks c ps (noCommands cs) (seen (numberOf c) t))
+  tests-are : x ≡ judge (startChecks c ps (noCommands cs) (seen (numberOf c) t) ls)
   unfolding heldAt
-  tests-are = k ∙ (λ i. judge (startTests c (any-is i) (given-over ps held g h i) (sym (alone-is s rest) i) (e i))) ∙ ap judge (start-tests-are c ps (noCommands cs) (seen (numberOf c) t))
+  tests-are =
+      k .code ∙ (λ i. judgedStart c (any-is i) (given-over ps held g h i) (anyTopology ps) (sym (alone-is s rest) i) (e i) (linked c ps t))
+      ∙ start-tests-are c ps (noCommands cs) t
 
   -- the turn in which an action starts
   abbrev starts : Turn
@@ -99,38 +113,40 @@ module _ (s : List ℕ) (c : Context) (body : ℕ) (rest : Rest) (t o : List ℕ
   inner-fails code o′ w z a =
       rw (action-refused c ps cs t code (sym tests-are ∙ z)) (record { state = refl; text = a .text; place = a .place; going = a .going })
 
-  passed : x ≡ Passes → judge (startChecks c ps (noCommands cs) (seen (numberOf c) t)) ≡ Passes
+  passed : x ≡ Passes → judge (startChecks c ps (noCommands cs) (seen (numberOf c) t) ls) ≡ Passes
   passed z = sym tests-are ∙ z
 
   small : x ≡ Passes → g .over ≡ false
-  small z = given-over ps held g h ∙ start-over c ps (noCommands cs) (seen (numberOf c) t) (passed z)
+  small z = given-over ps held g h ∙ start-over c ps (noCommands cs) (seen (numberOf c) t) ls (passed z)
 
-  wrote : (u : List ℕ) → x ≡ Passes → u ≡ apply (wroteStart c any (g .held)) t → u ≡ apply (startWrites c ps (heldAt c t)) t
+  wrote : (u : List ℕ) → x ≡ Passes → u ≡ apply (wroteStart c any (d .topology) (g .held) (flowsAfter ps (numberOf c) t)) t
+      → u ≡ apply (startWrites c ps (seen (numberOf c) t) ls) t
+  unfolding heldAt
   wrote u z q =
       q
       ∙ ap (λ (ws : List Write). apply ws t)
-      ((λ i. wroteStart c (any-is i) ((given-held ps held g h (small z) ∙ ap (setProperties ps) e) i)) ∙ start-writes-is c ps (heldAt c t))
+      ((λ i. wroteStart c (any-is i) (k .given i) ((given-held ps held g h (small z) ∙ ap (setProperties ps) e) i) (flowsAfter ps (numberOf c) t)) ∙ start-writes-is c ps t)
 
   -- commands follow
-  pub inner-commands : (u : List ℕ) (t′ : State) (o′ : List ℕ) (w : Went) → x ≡ Passes → u ≡ apply (wroteStart c any (g .held)) t → rest .commands ≡ true
+  pub inner-commands : (u : List ℕ) (t′ : State) (o′ : List ℕ) (w : Went) → x ≡ Passes → u ≡ apply (wroteStart c any (d .topology) (g .held) (flowsAfter (propertiesIn s body) (numberOf c) t)) t → rest .commands ≡ true
       → Did (runCommands (commandsAt s (rest .at) .tree) (g .fresh) c (state u)) true o 0 t′ o′ w → Did (runAction (action c ps cs) (state t)) true o 0 t′ o′ w
-  inner-commands u t′ o′ w z q b d =
+  inner-commands u t′ o′ w z q b w′ =
       let l : cs ≡ commandsAt s (rest .at) .tree = (unfold commandsIn in picked (rest .commands) (commandsAt s (rest .at) .tree) [] b) in
       let r : startReports ps (noCommands cs) (heldAt c t) ≡ [] = ap (λ (x : Bool). startReports ps x (heldAt c t)) (alone-is s rest ∙ ap not b) ∙ reports-none ps (heldAt c t) in
       let a : Outcome = runCommands (commandsAt s (rest .at) .tree) (g .fresh) c (state u) in
-      let y : Outcome = runCommands cs (setProperties ps newRecord) c (state (apply (startWrites c ps (heldAt c t)) t)) in
+      let y : Outcome = runCommands cs (setProperties ps newRecord) c (state (apply (startWrites c ps (seen (numberOf c) t) ls) t)) in
       let m : a ≡ y = λ i. runCommands (sym l i) (given-fresh ps held g h (small z) i) c (state (wrote u z q i)) in
-      rw (action-done c ps cs t (passed z), r) (subst (λ (v : Outcome). Did (outcome (v .state) (v .reports) (v .at) (v .going)) true o 0 t′ o′ w) m d)
+      rw (action-done c ps cs t (passed z), r) (subst (λ (v : Outcome). Did (outcome (v .state) (v .reports) (v .at) (v .going)) true o 0 t′ o′ w) m w′)
 
   -- properties alone
-  pub inner-alone : (u o′ : List ℕ) (n : ℕ) → x ≡ Passes → u ≡ apply (wroteStart c any (g .held)) t → rest .commands ≡ false
+  pub inner-alone : (u o′ : List ℕ) (n : ℕ) → x ≡ Passes → u ≡ apply (wroteStart c any (d .topology) (g .held) (flowsAfter (propertiesIn s body) (numberOf c) t)) t → rest .commands ≡ false
       → Appended o 0 (reportsText true (standing (g .held) ∷ [])) o′ n → Did (runAction (action c ps cs) (state t)) true o 0 (state u) o′ (went n c true)
   inner-alone u o′ n z q b a =
       let l : cs ≡ [] = (unfold commandsIn in left-out (rest .commands) (commandsAt s (rest .at) .tree) [] b) in
       let r : startReports ps (noCommands cs) (heldAt c t) ≡ standing (setProperties ps (heldAt c t)) ∷ [] =
       ap (λ (x : Bool). startReports ps x (heldAt c t)) (alone-is s rest ∙ ap not b) ∙ reports-alone ps (heldAt c t) in
-      let y : runCommands cs (setProperties ps newRecord) c (state (apply (startWrites c ps (heldAt c t)) t)) ≡ outcome (state (apply (startWrites c ps (heldAt c t)) t)) [] c true =
-      ap (λ (x : List Command). runCommands x (setProperties ps newRecord) c (state (apply (startWrites c ps (heldAt c t)) t))) l ∙ no-runs (setProperties ps newRecord) c (state (apply (startWrites c ps (heldAt c t)) t)) in
+      let y : runCommands cs (setProperties ps newRecord) c (state (apply (startWrites c ps (seen (numberOf c) t) ls) t)) ≡ outcome (state (apply (startWrites c ps (seen (numberOf c) t) ls) t)) [] c true =
+      ap (λ (x : List Command). runCommands x (setProperties ps newRecord) c (state (apply (startWrites c ps (seen (numberOf c) t) ls) t))) l ∙ no-runs (setProperties ps newRecord) c (state (apply (startWrites c ps (seen (numberOf c) t) ls) t)) in
       let v : g .held ≡ setProperties ps (heldAt c t) = given-held ps held g h (small z) ∙ ap (setProperties ps) e in
       rw (action-done c ps cs t (passed z), y, r) (record { state = ap state (wrote u z q); text = rw (← v) a; place = refl; going = refl })
 

@@ -8,6 +8,7 @@ use Rattle.base.specs.Bytes.{_then_}
 use Rattle.megaco.specs.Tree.{Command, Action, action}
 use Rattle.megaco.specs.State.{State, wrote}
 use Rattle.megaco.specs.Reply.{separator, actionText}
+use Rattle.megaco.specs.Topology.{triplesOf, linksOf}
 use Rattle.megaco.specs.Running.{Outcome, outcome, Start, seen, numberOf, runCommand, started, noCommands, Ran, ran}
 use Rattle.megaco.specs.declared.Context.{Context}
 
@@ -28,7 +29,8 @@ afterStart cs b st =
 
 -- an action: its start and its commands
 unfoldable pub runAction : Action → State → Outcome
-runAction (action c ps cs) st = afterStart cs (started c ps (noCommands cs) (seen (numberOf c) (st .table))) st
+runAction (action c ps cs) st =
+    afterStart cs (started c ps (noCommands cs) (seen (numberOf c) (st .table)) (linksOf (numberOf c) (st .table) (triplesOf ps))) st
 
 -- `C=id{..}` and what stands before it
 unfoldable pub outcomeText : Bool → Outcome → List ℕ

@@ -95,7 +95,8 @@ fn run_inner(
     let any = actions::property_here(s, body);
     let g = starts::read_properties(s, body, held);
     let follow = rest.commands;
-    let checked = starts::judge_start(c, any, g.over, !follow, held);
+    let tested = starts::test_start(s, body, table, c, any, g.over, !follow, held);
+    let checked = tested.checked;
     let turn = Turn {
         given: g.fresh,
         at: c,
@@ -104,7 +105,7 @@ fn run_inner(
     };
     match checked {
         Checked::Passes => {
-            starts::start_write(table, c, any, g.held);
+            starts::start_write(s, body, table, c, any, tested.topology, g.held);
             if follow {
                 let from = rest.at;
                 return run_commands(s, from, turn, table, out);

@@ -14,7 +14,7 @@ use Rattle.base.proofs.PickLaws.{pick-ind}
 use Rattle.base.proofs.TestLaws.{pick-both, and-both}
 use Rattle.base.proofs.TextLaws.{length-then, length-below}
 use Rattle.laws.specs.Sound.{record-sound}
-use Rattle.megaco.specs.Table.{channels, terminations, contexts, words, mostLines, lineTerminations, isEphemeral, contextWords, propertyWords, recordWords, ephemeralContexts, ephemeralProperties, isPropertyWord, absentAreZero, priorityOf, emergencyOf, recordIsSound, recordsAreSound, sized, mapIsSound, sound}
+use Rattle.megaco.specs.Table.{channels, terminations, contexts, words, mostLines, lineTerminations, isEphemeral, contextWords, propertyWords, recordWords, ephemeralContexts, ephemeralProperties, isPropertyWord, absentAreZero, priorityOf, emergencyOf, recordIsSound, recordsAreSound, sized, mapIsSound, flowWords, flowsAreSound, sound}
 use Rattle.megaco.specs.Names.{nameText}
 use Rattle.megaco.proofs.Sizes.{fitted-is}
 use Rattle.sessions.specs.Session.{ready}
@@ -113,7 +113,8 @@ unfolding sound
 records-of-sound t s =
     let r : Bool = recordsAreSound (contextWords t) 1 (recordWords t) in
     let words′ : Bool = sized t && every (λ w. leb w contexts) (contextWords t) && every isPropertyWord (propertyWords t) && absentAreZero (ephemeralContexts t) (ephemeralProperties t) in
-    and-both words′ r (and-both (words′ && r) (mapIsSound t) s .0) .1
+    let map : Bool = mapIsSound t in
+    and-both words′ r (and-both (words′ && r) map (and-both (words′ && r && map) (flowsAreSound (contextWords t) 1 (flowWords t)) s .0) .0) .1
 
 records-of : (n : ℕ) (t : List ℕ) → length t ≡ words n → sound t ≡ true
     → recordsAreSound (take (terminations n) t) 1 (take contexts (drop (terminations n + terminations n) t)) ≡ true

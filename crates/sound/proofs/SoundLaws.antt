@@ -1,8 +1,8 @@
 -- The laws of the passes over a table, in the form in which `search` uses them.
-use Prim.Native.Nat.{ℕ, zero, suc, _+_, _-_, _/_, _%_, _^_, _<_, _≤_}
+use Prim.Native.Nat.{ℕ, zero, suc, _+_, _-_, _*_, _/_, _%_, _^_, _<_, _≤_}
 use mathlib.Core.Path.{_≡_, refl, sym, ap, _∙_}
 use mathlib.Core.List.{List, [], _∷_, _++_}
-use mathlib.Core.Bool.{Bool, true, false, not, _&&_, and-false, Bool·beq}
+use mathlib.Core.Bool.{Bool, true, false, not, _&&_, and-false, false≢true, Bool·beq}
 use native.Mathlib.Numerals.{add-one}
 use native.Mathlib.Nat.{zero-add, add-zero, suc-add, mul-comm, pow-succ', div-div-eq-div-mul}
 use native.Mathlib.Omega.{arith}
@@ -17,20 +17,20 @@ use Rattle.base.specs.Lists.{every, count, same}
 use Rattle.megaco.proofs.Sizes.{sized-is}
 use Rattle.megaco.specs.Map.{digits, marks}
 use Rattle.megaco.proofs.Places.{length-digits, length-marks}
-use Rattle.megaco.specs.Table.{lineTerminations, ephemerals, terminations, contexts, words, mostLines, fitted, Sized, sized, contextWords, propertyWords, recordWords, ephemeralContexts, ephemeralProperties, mapStart, mapWords, places, isPropertyWord, absentAreZero, recordIsSound, recordsAreSound, mapIsSound, sound}
+use Rattle.megaco.specs.Table.{lineTerminations, ephemerals, terminations, contexts, words, mostLines, fitted, Sized, sized, contextWords, propertyWords, recordWords, ephemeralContexts, ephemeralProperties, mapStart, mapWords, places, flowWords, isPropertyWord, absentAreZero, recordIsSound, recordsAreSound, flowsAreSound, mapIsSound, sound}
 use Rattle.table.proofs.TableLaws.{drop-take}
-use Rattle.sound.specs.Parts.{ephemeralIsSound, recordsMeet, partsAreSound}
+use Rattle.sound.specs.Parts.{ephemeralIsSound, recordsMeet, flowIsSound, flowsMeet, partsAreSound}
 use Rattle.base.proofs.TestLaws.{and-both}
 
 -- ---- a test of each word: b tells of the words passed
 
-one-more : (b x r : Bool) → (b && pick x r false) ≡ ((b && x) && r)
+pub one-more : (b x r : Bool) → (b && pick x r false) ≡ ((b && x) && r)
 unfolding pick
 one-more true true r = refl
 one-more true false r = refl
 one-more false x r = refl
 
-no-more : (b : Bool) → (b && true) ≡ b
+pub no-more : (b : Bool) → (b && true) ≡ b
 no-more true = refl
 no-more false = refl
 
@@ -121,12 +121,22 @@ meet-counted cs ms c (r ∷ rs) f p h =
     let rest : recordsMeet ms (c + 1) rs ≡ recordsAreSound cs (c + 1) rs = meet-counted cs ms (c + 1) rs f (omega arith) (omega arith) in
     rw (here, rest)
 
+flows-counted : (cs ms : List ℕ) (c : ℕ) (fs : List ℕ) → ((k : ℕ) → 0 < k → k < counted → getD ms k 0 ≡ count k cs) → 0 < c → 2 * c + length fs ≤ 2 * counted
+    → flowsMeet ms c fs ≡ flowsAreSound cs c fs
+unfolding flowsMeet flowsAreSound flowIsSound
+flows-counted cs ms c [] f p h = refl
+flows-counted cs ms c (low ∷ []) f p h = refl
+flows-counted cs ms c (low ∷ high ∷ fs) f p h =
+    let here : getD ms c 0 ≡ count c cs = f c p (omega arith) in
+    let rest : flowsMeet ms (c + 1) fs ≡ flowsAreSound cs (c + 1) fs = flows-counted cs ms (c + 1) fs f (omega arith) (omega arith) in
+    rw (here, rest)
+
 module _ (row counters : List ℕ) (i : ℕ) (k : Counting row counters i) where
   pub counter-fits : (w : ℕ) → 0 < w → w ≤ contexts → i < length row → length row ≤ 65536 → Fits w32 (getD counters w 0 + 1)
   counter-fits w p h l b = record { fits = omega (arith, k .counts w p (omega arith), count-at-most w i row) }
 
   -- null is passed over
-  pub counting-null : i < length row → getD row i 0 ≤ 0 → Counting row counters (i + 1)
+  counting-null : i < length row → getD row i 0 ≤ 0 → Counting row counters (i + 1)
   unfolding every pick
   counting-null h z =
       record {
@@ -168,14 +178,48 @@ module _ (row counters : List ℕ) (i : ℕ) (k : Counting row counters i) where
   unfolding every pick
   counting-no q h b = let e : every (λ w. leb w contexts) row ≡ false = k .fits ∙ rw (drop-cons row i 0, lt-leb (getD row i 0) contexts b) in rw e
 
-  pub counting-end : (r : Bool) (rs : List ℕ) → length row ≤ i → length rs ≤ contexts → r ≡ recordsMeet counters 1 rs
-      → r ≡ (every (λ w. leb w contexts) row && recordsAreSound row 1 rs)
+  pub counting-end : (r : Bool) (rs fs : List ℕ) → length row ≤ i → length rs ≤ contexts → length fs ≡ 2 * contexts
+      → r ≡ (recordsMeet counters 1 rs && flowsMeet counters 1 fs) → r ≡ (every (λ w. leb w contexts) row && (recordsAreSound row 1 rs && flowsAreSound row 1 fs))
   unfolding every
-  counting-end r rs h l e =
+  counting-end r rs fs h l b e =
       let t : every (λ w. leb w contexts) row ≡ true = k .fits ∙ rw (drop-of-length-le row h) in
       let a : take i row ≡ row = take-all i row h in
       let m : recordsMeet counters 1 rs ≡ recordsAreSound row 1 rs = meet-counted row counters 1 rs (λ c p b. k .counts c p b ∙ ap (count c) a) (omega arith) (omega arith) in
-      rw t (e ∙ m)
+      let f : flowsMeet counters 1 fs ≡ flowsAreSound row 1 fs = flows-counted row counters 1 fs (λ c p b. k .counts c p b ∙ ap (count c) a) (omega arith) (omega arith) in
+      rw t (e ∙ rw (m, f))
+
+-- both of two tests in turn
+pub picked : (t r : Bool) → pick t r false ≡ true → (t ≡ true) × (r ≡ true)
+unfolding pick
+picked true r e = (refl, e)
+picked false r e = absurd (false≢true e)
+
+-- n nulls are passed over
+nulls : (row counters : List ℕ) (n i : ℕ) → i + n ≤ length row → every (λ (w : ℕ). eqb w 0) (take n (drop i row)) ≡ true → Counting row counters i → Counting row counters (i + n)
+unfolding every
+nulls row counters zero i h e k = rw (add-zero i) k
+nulls row counters (suc n) i h e k =
+    let f : every (λ (w : ℕ). eqb w 0) (getD row i 0 ∷ take n (drop (suc i) row)) ≡ true = rw (drop-cons row i 0 (omega arith)) at e in
+    let p = picked (eqb (getD row i 0) 0) (every (λ (w : ℕ). eqb w 0) (take n (drop (suc i) row))) f in
+    let m : i + suc n ≡ suc i + n = omega arith in
+    let s : Counting row counters (suc i) = rw (add-one i) at (counting-null row counters i k (omega arith) (omega (arith, eqb-true (getD row i 0) 0 (p .0)))) in
+    rw m (nulls row counters n (suc i) (omega arith) (p .1) s)
+
+pub counting-nulls : (row counters : List ℕ) (i r : ℕ) → Counting row counters i → i < r → r ≤ length row → every (λ (w : ℕ). eqb w 0) (take (r - i) (drop i row)) ≡ true
+    → Counting row counters r
+counting-nulls row counters i r k h l e =
+    let m : r ≡ i + (r - i) = omega arith in
+    rw m (nulls row counters (r - i) i (omega arith) e k)
+
+-- one null, and as many as are tested at once
+pub null-one : (row : List ℕ) (i : ℕ) → i < length row → getD row i 0 ≤ 0 → every (λ (w : ℕ). eqb w 0) (take (i + 1 - i) (drop i row)) ≡ true
+unfolding every pick
+null-one row i h z =
+    let o : i + 1 - i ≡ 1 = omega arith in
+    rw (o, drop-cons row i 0 h, eq-eqb (getD row i 0) 0 (omega arith))
+
+pub null-all : (row : List ℕ) (i : ℕ) (t : Bool) → t ≡ every (λ (w : ℕ). eqb w 0) (take (i + 32 - i) (drop i row)) → t ≡ true → every (λ (w : ℕ). eqb w 0) (take (i + 32 - i) (drop i row)) ≡ true
+null-all row i t e u = sym e ∙ u
 
 -- the test of a record, as the code makes it
 alike : (x y : Bool) → Bool·beq x y ≡ pick x y (not y)
@@ -212,6 +256,32 @@ arrange true true true true true = refl
 
 arranged : (a b c e r l p z w : Bool) → a ≡ (e && r) → b ≡ l → c ≡ (p && z) → w ≡ (l && p) → (a && b && c) ≡ (e && w && z && r)
 arranged a b c e r l p z w f g h k = rw (f, g, h, k) (arrange e r l p z)
+
+long-part : (t : List ℕ) (a : ℕ) → a + 64 ≤ length t → length (take 64 (drop a t)) ≡ 64
+long-part t a h = simp (length-take, length-drop) (omega arith)
+
+-- as many context words of ephemerals as properties
+pub even-parts : (t : List ℕ) (n : ℕ) → Sized t → n ≡ terminations (fitted t)
+    → length (take (n - (n - 64)) (drop (n - 64) t)) ≡ length (take (n + n - (n + (n - 64))) (drop (n + (n - 64)) t))
+even-parts t n s e =
+    let a : n - (n - 64) ≡ 64 = omega arith in
+    let b : n + n - (n + (n - 64)) ≡ 64 = omega arith in
+    let l : length t ≡ words (fitted t) = s .long in
+    let x : n - 64 + 64 ≤ length t = omega arith in
+    let y : n + (n - 64) + 64 ≤ length t = omega arith in
+    rw (a, b) (long-part t (n - 64) x ∙ sym (long-part t (n + (n - 64)) y))
+
+flows-cut : (n : ℕ) → n + n + 128 + 2 + 256 - (n + n + 128 + 2) ≡ 256
+flows-cut n = omega arith
+
+-- the map before the flows
+flows-last : (e p z r f m : Bool) → (e && p && z && (r && f) && m) ≡ (e && p && z && r && m && f)
+flows-last false p z r f m = refl
+flows-last true false z r f m = refl
+flows-last true true false r f m = refl
+flows-last true true true false f m = refl
+flows-last true true true true false m = sym (and-false m)
+flows-last true true true true true m = sym (no-more m)
 
 same-low : (m : ℕ) → leb 95 (terminations m) ≡ ltb 0 m
 same-low m = by (ltb 0 m) refl
@@ -253,7 +323,7 @@ module _ (t : List ℕ) where
       (drop-drop (lineTerminations (fitted t)) (terminations (fitted t)) t)
 
   parts : (a b c : Bool)
-      → a ≡ (every (λ w. leb w contexts) (contextWords t) && recordsAreSound (contextWords t) 1 (recordWords t))
+      → a ≡ (every (λ w. leb w contexts) (contextWords t) && (recordsAreSound (contextWords t) 1 (recordWords t) && flowsAreSound (contextWords t) 1 (flowWords t)))
       → b ≡ every isPropertyWord (take L (drop N t))
       → c ≡ (every isPropertyWord (take ephemerals (drop (N + L) t)) && absentAreZero (take ephemerals (drop L t)) (take ephemerals (drop (N + L) t)))
       → (a && b && c) ≡ partsAreSound t
@@ -262,7 +332,7 @@ module _ (t : List ℕ) where
       rw (ephemeral-contexts, ephemeral-properties)
       (arranged a b c
       (every (λ w. leb w contexts) (contextWords t))
-      (recordsAreSound (contextWords t) 1 (recordWords t))
+      (recordsAreSound (contextWords t) 1 (recordWords t) && flowsAreSound (contextWords t) 1 (flowWords t))
       (every isPropertyWord (take L (drop N t)))
       (every isPropertyWord (take ephemerals (drop (N + L) t)))
       (absentAreZero (take ephemerals (drop L t)) (take ephemerals (drop (N + L) t)))
@@ -270,11 +340,11 @@ module _ (t : List ℕ) where
 
   -- the parts that the code takes of a table with n terminations
   pub parts-by : (n : ℕ) (a b c : Bool) → n ≡ terminations (fitted t)
-      → a ≡ (every (λ w. leb w contexts) (take (n - 0) (drop 0 t)) && recordsAreSound (take (n - 0) (drop 0 t)) 1 (take (n + n + 128 - (n + n)) (drop (n + n) t)))
+      → a ≡ (every (λ w. leb w contexts) (take (n - 0) (drop 0 t)) && (recordsAreSound (take (n - 0) (drop 0 t)) 1 (take (n + n + 128 - (n + n)) (drop (n + n) t)) && flowsAreSound (take (n - 0) (drop 0 t)) 1 (take (n + n + 128 + 2 + 256 - (n + n + 128 + 2)) (drop (n + n + 128 + 2) t))))
       → b ≡ every isPropertyWord (take (n + (n - 64) - n) (drop n t))
       → c ≡ (every isPropertyWord (take (n + n - (n + (n - 64))) (drop (n + (n - 64)) t)) && absentAreZero (take (n - (n - 64)) (drop (n - 64) t)) (take (n + n - (n + (n - 64))) (drop (n + (n - 64)) t)))
       → (a && b && c) ≡ partsAreSound t
-  unfolding contextWords recordWords L N
+  unfolding contextWords recordWords flowWords L N
   parts-by n a b c e f g h =
       let l : ℕ = lineTerminations (fitted t) in
       let m : ℕ = terminations (fitted t) in
@@ -286,18 +356,19 @@ module _ (t : List ℕ) where
       let e₆ : n + (n - 64) ≡ m + l = omega arith in
       let e₇ : n - (n - 64) ≡ 64 = omega arith in
       let e₈ : n - 64 ≡ l = omega arith in
-      parts a b c (f ∙ rw (e₂, e₁, e₃)) (g ∙ rw (e₄, e)) (h ∙ rw (e₅, e₇, e₆, e₈))
+      let e₉ : n + n + 128 + 2 + 256 - (n + n + 128 + 2) ≡ 256 = flows-cut n in
+      parts a b c (f ∙ rw (e₉, e₂, e₁, e₃)) (g ∙ rw (e₄, e)) (h ∙ rw (e₅, e₇, e₆, e₈))
 
   pub sound-by : (x r m : Bool) → x ≡ sized t → x ≡ true → r ≡ partsAreSound t → m ≡ mapIsSound t → (r && m) ≡ sound t
   unfolding sound partsAreSound
-  sound-by x r m e h k f = rw (k, f, ← e, h)
+  sound-by x r m e h k f = rw (k, f, ← e, h) (flows-last (every (λ w. leb w contexts) (contextWords t)) _ _ _ _ _)
 
   pub unsound : (x : Bool) → x ≡ sized t → x ≡ false → false ≡ sound t
   unfolding sound
   unsound x e h = rw (← e, h)
 
   -- the size, as the code tests it
-  pub sized-by : (n : ℕ) → n ≡ terminations (fitted t) → (leb 95 n && leb n 560 && eqb (length t) (n + n + 128 + 2)) ≡ sized t
+  pub sized-by : (n : ℕ) → n ≡ terminations (fitted t) → (leb 95 n && leb n 560 && eqb (length t) (n + n + 128 + 2 + 256)) ≡ sized t
   unfolding sized
   sized-by n e = let m : ℕ = fitted t in rw (e, same-low m, same-high m)
 

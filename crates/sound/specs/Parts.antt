@@ -1,12 +1,13 @@
 -- The parts of soundness as the passes test them.
-use Prim.Native.Nat.{ℕ, _+_}
+use Prim.Native.Nat.{ℕ, zero, suc, _+_, _^_}
 use mathlib.Core.Bool.{Bool, true, false, not, _&&_}
-use mathlib.Core.List.{List, [], _∷_}
+use mathlib.Core.List.{List, [], _∷_, _++_}
 use lib.ListN.{getD}
-use lib.Dec.{leb, eqb}
+use lib.Dec.{ltb, leb, eqb}
 use Rattle.base.specs.Lists.{every}
 use Rattle.base.specs.Pick.{pick}
-use Rattle.megaco.specs.Table.{contexts, contextWords, propertyWords, recordWords, ephemeralContexts, ephemeralProperties, isPropertyWord, absentAreZero, recordIsSound, recordsAreSound}
+use Rattle.megaco.specs.Square.{squareOf, mayFlow, squareIsSound}
+use Rattle.megaco.specs.Table.{contexts, contextWords, propertyWords, recordWords, flowWords, ephemeralContexts, ephemeralProperties, isPropertyWord, absentAreZero, recordIsSound, recordsAreSound, flowsAreSound}
 
 -- an ephemeral's two words
 unfoldable pub ephemeralIsSound : ℕ → ℕ → Bool
@@ -17,10 +18,32 @@ unfoldable pub recordsMeet : List ℕ → ℕ → List ℕ → Bool
 recordsMeet counters c [] = true
 recordsMeet counters c (r ∷ rs) = let q = recordsMeet counters (c + 1) rs in pick (recordIsSound r (getD counters c 0)) q false
 
+-- the two words of a context's flows
+unfoldable pub flowIsSound : ℕ → ℕ → ℕ → Bool
+flowIsSound m low high = ltb low (2 ^ 32) && ltb high (2 ^ 32) && squareIsSound m (squareOf low high)
+
+-- the flows from context c on, the members being counted in a row of counters
+unfoldable pub flowsMeet : List ℕ → ℕ → List ℕ → Bool
+flowsMeet counters c [] = true
+flowsMeet counters c (low ∷ []) = false
+flowsMeet counters c (low ∷ high ∷ fs) = let q = flowsMeet counters (c + 1) fs in pick (flowIsSound (getD counters c 0) low high) q false
+
+-- the places of a square of m members that must be 0: n of row i from place j on, and n rows from row i on, in a row
+unfoldable pub barredRow : ℕ → ℕ → ℕ → ℕ → List Bool
+barredRow m i j zero = []
+barredRow m i j (suc n) = not (mayFlow m i j) ∷ barredRow m i (j + 1) n
+
+unfoldable pub barredRows : ℕ → ℕ → ℕ → List Bool
+barredRows m i zero = []
+barredRows m i (suc n) = barredRow m i 0 8 ++ barredRows m (i + 1) n
+
+unfoldable pub barredBits : ℕ → List Bool
+barredBits m = barredRows m 0 8
+
 -- the tests of `sound` on a table of a good size
 unfoldable pub partsAreSound : List ℕ → Bool
 partsAreSound t =
     every (λ w. leb w contexts) (contextWords t)
     && every isPropertyWord (propertyWords t)
     && absentAreZero (ephemeralContexts t) (ephemeralProperties t)
-    && recordsAreSound (contextWords t) 1 (recordWords t)
+    && (recordsAreSound (contextWords t) 1 (recordWords t) && flowsAreSound (contextWords t) 1 (flowWords t))

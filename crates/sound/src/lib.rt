@@ -1,23 +1,31 @@
-// Whether a lent table is sound: a pass over the context words, one over the records, one over the lines' properties, one over the ephemerals',
-// one over the ephemerals' context words against the map.
+// Whether a lent table is sound: a pass over the context words, one over the records, one over the flows, one over the lines' properties, one over
+// the ephemerals', one over the ephemerals' context words against the map.
 // All but the first go on past a word that is wrong: tables are sound but for rare accidents, and without a way out the compiler takes several
 // words at a time.
 use table::CHANNELS;
 use table::CONTEXTS;
 use table::EPHEMERALS;
+use table::FLOWS;
 use table::MAP;
 use table::MOST;
 use table::MOST_TERMINATIONS;
 ghost use mathlib.Core.Path.{_≡_};
-ghost use mathlib.Core.Bool.{_&&_};
-ghost use Prim.Native.Nat.{_/_, _%_, _^_, _≤_, _<_};
-ghost use lib.ListN.{length};
+ghost use mathlib.Core.Bool.{true, _&&_};
+ghost use Prim.Native.Nat.{_+_, _-_, _*_, _/_, _%_, _^_, _≤_, _<_};
+ghost use lib.ListN.{length, getD, take, drop};
 ghost use lib.Dec.{leb, eqb};
 ghost use Rattle.base.specs.Pick.{pick};
 ghost use Rattle.base.specs.Lists.{every, same};
 ghost use Rattle.megaco.specs.Map.{digits, marks};
-ghost use Rattle.megaco.specs.Table.{contexts, isPropertyWord, absentAreZero, recordIsSound, recordsAreSound, Sized, sized, mapIsSound, sound};
-ghost use Rattle.sound.specs.Parts.{ephemeralIsSound, recordsMeet, partsAreSound};
+ghost use Rattle.megaco.specs.Square.{bits};
+ghost use Rattle.megaco.specs.Table.{contexts, isPropertyWord, absentAreZero, recordIsSound, recordsAreSound, flowsAreSound, Sized, sized, mapIsSound, sound};
+ghost use Rattle.sound.specs.Parts.{ephemeralIsSound, recordsMeet, flowIsSound, flowsMeet, barredBits, partsAreSound};
+
+// How many context words are tested at once for null.
+const AT_ONCE: usize = 32;
+
+// How many contexts' flows are looked at together.
+const TOGETHER: usize = 16;
 
 // Counters for contexts 0 to 128.
 const COUNTERS: usize = CONTEXTS as usize + 1;
@@ -42,7 +50,7 @@ fn is_sized(table: &[u32]) -> bool
     let n = table::terminations(table);
     (FEWEST_TERMINATIONS <= n)
         & (n <= MOST_TERMINATIONS)
-        & (table.len() == n + n + CONTEXTS as usize + MAP)
+        & (table.len() == n + n + CONTEXTS as usize + MAP + FLOWS)
 }
 
 fn parts_are_sound(table: &[u32]) -> bool
@@ -52,18 +60,23 @@ fn parts_are_sound(table: &[u32]) -> bool
     let n = table::terminations(table);
     let first = n - EPHEMERALS as usize;
     let records = n + n;
-    contexts_are_sound(&table[0..n], &table[records..records + CONTEXTS as usize])
+    let flows = records + CONTEXTS as usize + MAP;
+    contexts_are_sound(
+        &table[0..n],
+        &table[records..records + CONTEXTS as usize],
+        &table[flows..flows + FLOWS],
+    )
         & lines_are_sound(&table[n..n + first])
         & ephemerals_are_sound(&table[first..n], &table[n + first..records])
 }
 
 // ---- contexts
 
-// Each context word at most 128, and each record as its members ask. Counter c holds how many of the words passed are c; null is not
-// counted, for it is most often there and has no record.
-fn contexts_are_sound(row: &[u32], records: &[u32]) -> bool
-    requires { ⌜ (length (now row) ≤ 65536) × (length (now records) ≤ contexts) ⌝ }
-    ensures { λ r. ⌜ r ≡ (every (λ w. leb w contexts) (now (row .entry)) && recordsAreSound (now (row .entry)) 1 (now (records .entry))) ⌝ }
+// Each context word at most 128, and each record and its flows as its members ask. Counter c holds how many of the words passed are c; null
+// is not counted, for it is most often there and has no record.
+fn contexts_are_sound(row: &[u32], records: &[u32], flows: &[u32]) -> bool
+    requires { ⌜ (length (now row) ≤ 65536) × (length (now records) ≤ contexts) × (length (now flows) ≡ 2 * contexts) ⌝ }
+    ensures { λ r. ⌜ r ≡ (every (λ w. leb w contexts) (now (row .entry)) && (recordsAreSound (now (row .entry)) 1 (now (records .entry)) && flowsAreSound (now (row .entry)) 1 (now (flows .entry)))) ⌝ }
 {
     let mut counters = [0u32; COUNTERS];
     let mut i: usize = 0;
@@ -77,10 +90,33 @@ fn contexts_are_sound(row: &[u32], records: &[u32]) -> bool
             counters[c] = counters[c] + 1;
             i += 1;
         } else {
-            i += 1;
+            i = past_null(row, i);
         }
     }
-    records_meet(&counters, records)
+    meet(&counters, records, flows)
+}
+
+// Past a null and those that follow it: at the start of a run of AT_ONCE words past them all where each is null, else past one.
+fn past_null(row: &[u32], i: usize) -> usize
+    requires { ⌜ (i < length (now row)) × (getD (now row) i 0 ≤ 0) ⌝ }
+    ensures { λ r. ⌜ (i < r) × (r ≤ length (now (row .entry))) × (every (λ w. eqb w 0) (take (r - i) (drop i (now (row .entry)))) ≡ true) ⌝ }
+{
+    if i % AT_ONCE == 0 {
+        if AT_ONCE <= row.len() - i {
+            if is_zero(&row[i..i + AT_ONCE]) {
+                return i + AT_ONCE;
+            }
+        }
+    }
+    i + 1
+}
+
+// The records and the flows against the counters.
+fn meet(counters: &[u32], records: &[u32], flows: &[u32]) -> bool
+    requires { ⌜ (length (now counters) ≡ contexts + 1) × (length (now records) ≤ contexts) × (length (now flows) ≡ 2 * contexts) ⌝ }
+    ensures { λ r. ⌜ r ≡ (recordsMeet (now (counters .entry)) 1 (now (records .entry)) && flowsMeet (now (counters .entry)) 1 (now (flows .entry))) ⌝ }
+{
+    records_meet(counters, records) & flows_meet(counters, flows)
 }
 
 // The records from context 1 on against the counters.
@@ -101,6 +137,85 @@ fn record_is_sound(held: u32, members: u32) -> bool
     ensures { λ r. ⌜ r ≡ recordIsSound held members ⌝ }
 {
     (held <= 32) & ((members == 0) == (held == 0)) & (members as usize <= MOST)
+}
+
+// ---- flows
+
+// The flows from context 1 on against the counters.
+fn flows_meet(counters: &[u32], flows: &[u32]) -> bool
+    requires { ⌜ (length (now counters) ≡ contexts + 1) × (length (now flows) ≡ 2 * contexts) ⌝ }
+    ensures { λ r. ⌜ r ≡ flowsMeet (now (counters .entry)) 1 (now (flows .entry)) ⌝ }
+{
+    let mut good = true;
+    let mut b: usize = 0;
+    while b < CONTEXTS as usize / TOGETHER {
+        let i = TOGETHER * b;
+        good = good & some_meet(counters, i, &flows[2 * i..2 * i + 2 * TOGETHER]);
+        b += 1;
+    }
+    good
+}
+
+// The flows of the contexts after context i, TOGETHER of them: most often all are 0, and then they are sound whoever the members are.
+fn some_meet(counters: &[u32], i: usize, flows: &[u32]) -> bool
+    requires { ⌜ (i + 16 < length (now counters)) × (length (now flows) ≡ 32) ⌝ }
+    ensures { λ r. ⌜ r ≡ flowsMeet (now (counters .entry)) (i + 1) (now (flows .entry)) ⌝ }
+{
+    if is_zero(flows) {
+        return true;
+    }
+    each_meets(counters, i, flows)
+}
+
+// Whether all words are 0.
+fn is_zero(row: &[u32]) -> bool
+    ensures { λ r. ⌜ r ≡ every (λ w. eqb w 0) (now (row .entry)) ⌝ }
+{
+    let mut good = true;
+    let mut i: usize = 0;
+    while i < row.len() {
+        good = good & (row[i] == 0);
+        i += 1;
+    }
+    good
+}
+
+fn each_meets(counters: &[u32], i: usize, flows: &[u32]) -> bool
+    requires { ⌜ (i + 16 < length (now counters)) × (length (now flows) ≡ 32) ⌝ }
+    ensures { λ r. ⌜ r ≡ flowsMeet (now (counters .entry)) (i + 1) (now (flows .entry)) ⌝ }
+{
+    let mut good = true;
+    let mut k: usize = 0;
+    while k < TOGETHER {
+        good = good & flow_is_sound(counters[i + k + 1], flows[2 * k], flows[2 * k + 1]);
+        k += 1;
+    }
+    good
+}
+
+// The two words of a context with so many members: no bit of theirs is one that must be 0.
+fn flow_is_sound(members: u32, low: u32, high: u32) -> bool
+    ensures { λ r. ⌜ r ≡ flowIsSound members low high ⌝ }
+{
+    let w = (low as u64) + (high as u64) * 4294967296;
+    w & barred(members) == 0
+}
+
+// The bits that must be 0, those of row 0 lowest: the diagonal and the places that so many members leave unused.
+fn barred(members: u32) -> u64
+    ensures { λ r. ⌜ bits 64 r ≡ barredBits members ⌝ }
+{
+    match members {
+        0 => 0xffffffffffffffff,
+        1 => 0xffffffffffffffff,
+        2 => 0xfffffffffffffefd,
+        3 => 0xfffffffffffcfaf9,
+        4 => 0xfffffffff8f4f2f1,
+        5 => 0xfffffff0e8e4e2e1,
+        6 => 0xffffe0d0c8c4c2c1,
+        7 => 0xffc0a09088848281,
+        _ => 0x8040201008040201,
+    }
 }
 
 // ---- properties

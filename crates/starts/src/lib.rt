@@ -2,9 +2,12 @@
 ghost use mathlib.Core.Path.{_≡_};
 ghost use mathlib.Core.Bool.{true, false};
 ghost use Prim.Native.Nat.{_≤_};
-ghost use Rattle.megaco.specs.Table.{apply, priorityOf, emergencyOf};
-ghost use Rattle.megaco.specs.Running.{judge};
-ghost use Rattle.starts.specs.Starting.{overOne, setOne, startTests, wroteStart, propertiesIn, givenBy};
+ghost use Rattle.megaco.specs.Table.{Sized, apply, priorityOf, emergencyOf};
+ghost use Rattle.megaco.specs.Reading.{isProperty, wordHere};
+ghost use Rattle.megaco.specs.Topology.{anyTopology};
+ghost use Rattle.megaco.specs.Running.{numberOf};
+ghost use Rattle.topology.specs.Links.{flowsAfter};
+ghost use Rattle.starts.specs.Starting.{overOne, setOne, topologyOne, judgedStart, linked, Tests, propertyWrites, wroteStart, propertiesIn, givenBy};
 use megaco::Checked;
 use megaco::Context;
 use megaco::Property;
@@ -24,6 +27,7 @@ fn is_over(x: Property) -> bool
     match x {
         Property::Priority(n) => 15 < n,
         Property::Emergency => false,
+        Property::Topology => false,
     }
 }
 
@@ -35,6 +39,7 @@ fn set_one(x: Property, held: u32) -> u32
     match x {
         Property::Priority(n) => 1 + n + 16 * emergency(held),
         Property::Emergency => 1 + priority(held) + 16,
+        Property::Topology => held,
     }
 }
 
@@ -104,9 +109,56 @@ pub fn read_properties(s: &[u8], at: usize, held: u32) -> Given
     }
 }
 
-// The tests at the start: the code of an action error.
-pub fn judge_start(c: Context, any: bool, over: bool, alone: bool, held: u32) -> Checked
-    ensures { λ r. ⌜ r ≡ judge (startTests c any over alone held) ⌝ }
+// Whether topology is among the properties that begin here.
+fn has_topology(s: &[u8], at: usize) -> bool
+    ensures { λ r. ⌜ r ≡ anyTopology (propertiesIn (now (s .entry)) at) ⌝ }
+{
+    let mut i = at;
+    let mut n: usize = 0;
+    while n <= s.len() {
+        if actions::property_here(s, i) {
+            let p = outline::property_places(s, i);
+            let x = p.property;
+            let e = p.end;
+            if is_topology(x) {
+                return true;
+            }
+            if text::is_at(s, e, 0x2c) {
+                i = parts::past_comma(s, e);
+                n += 1;
+            } else {
+                return false;
+            }
+        } else {
+            return false;
+        }
+    }
+    false
+}
+
+fn is_topology(x: Property) -> bool
+    ensures { λ r. ⌜ r ≡ topologyOne x ⌝ }
+{
+    match x {
+        Property::Priority(_) => false,
+        Property::Emergency => false,
+        Property::Topology => true,
+    }
+}
+
+// ---- the tests
+
+// The tests at the start, those of the triples being made already: the code of an action error.
+fn judge_start(
+    c: Context,
+    any: bool,
+    over: bool,
+    topology: bool,
+    alone: bool,
+    held: u32,
+    linked: Checked,
+) -> Checked
+    ensures { λ r. ⌜ r ≡ judgedStart c any over topology alone held linked ⌝ }
 {
     match c {
         Context::Null => {
@@ -122,10 +174,10 @@ pub fn judge_start(c: Context, any: bool, over: bool, alone: bool, held: u32) ->
             if any & (held == 0) {
                 return Checked::Fails(411);
             }
-            Checked::Passes
+            linked
         }
         Context::Choose => {
-            if any & alone {
+            if any & alone | topology {
                 return Checked::Fails(421);
             }
             if over {
@@ -137,15 +189,90 @@ pub fn judge_start(c: Context, any: bool, over: bool, alone: bool, held: u32) ->
     }
 }
 
+// The tests of the triples, where there are some.
+fn judge_links(s: &[u8], body: usize, table: &[u32], c: Context, topology: bool) -> Checked
+    requires { ⌜ (Sized (now table)) × (topology ≡ anyTopology (propertiesIn (now s) body)) ⌝ }
+    ensures { λ r. ⌜ r ≡ linked c (propertiesIn (now (s .entry)) body) (now (table .entry)) ⌝ }
+{
+    if topology {
+        return topology::judge_topology(s, body, table, view::number_of(c));
+    }
+    Checked::Passes
+}
+
+// What an action's start comes to: whether topology is given, and the tests.
+pub struct Tested {
+    pub topology: bool,
+    pub checked: Checked,
+}
+
+// All tests at an action's start, `any` telling whether properties are given.
+pub fn test_start(
+    s: &[u8],
+    body: usize,
+    table: &[u32],
+    c: Context,
+    any: bool,
+    over: bool,
+    alone: bool,
+    held: u32,
+) -> Tested
+    requires { ⌜ (Sized (now table)) × (any ≡ isProperty (wordHere (now s) body)) ⌝ }
+    ensures { λ r. ⌜ Tests (propertiesIn (now (s .entry)) body) c (now (table .entry)) any over alone held r ⌝ }
+{
+    let t = topology_given(s, body, any);
+    let linked = judge_links(s, body, table, c, t);
+    Tested {
+        topology: t,
+        checked: judge_start(c, any, over, t, alone, held, linked),
+    }
+}
+
+// Whether topology is given, `any` telling whether properties are.
+fn topology_given(s: &[u8], body: usize, any: bool) -> bool
+    requires { ⌜ any ≡ isProperty (wordHere (now s) body) ⌝ }
+    ensures { λ r. ⌜ r ≡ anyTopology (propertiesIn (now (s .entry)) body) ⌝ }
+{
+    if any {
+        return has_topology(s, body);
+    }
+    false
+}
+
+// ---- what it sets
+
+// The record of a numbered context, and its flows where topology is given. The names of the triples are looked up before anything is written.
+fn write_properties(s: &[u8], body: usize, table: &mut [u32], n: u32, topology: bool, held: u32)
+    requires { ⌜ Sized (now table) ⌝ }
+    ensures { λ _. ⌜ now (table .exit) ≡ apply (propertyWrites n topology held (flowsAfter (propertiesIn (now (s .entry)) body) n (now (table .entry)))) (now (table .entry)) ⌝ }
+{
+    if topology {
+        let q = topology::flows_after(s, body, table, n);
+        table::set_record(table, n, held);
+        attempt::put_flows(table, n, q);
+    } else {
+        table::set_record(table, n, held);
+    }
+}
+
 // Sets the properties given in a numbered context.
-pub fn start_write(table: &mut [u32], c: Context, any: bool, held: u32)
-    ensures { λ _. ⌜ now (table .exit) ≡ apply (wroteStart c any held) (now (table .entry)) ⌝ }
+pub fn start_write(
+    s: &[u8],
+    body: usize,
+    table: &mut [u32],
+    c: Context,
+    any: bool,
+    topology: bool,
+    held: u32,
+)
+    requires { ⌜ Sized (now table) ⌝ }
+    ensures { λ _. ⌜ now (table .exit) ≡ apply (wroteStart c any topology held (flowsAfter (propertiesIn (now (s .entry)) body) (numberOf c) (now (table .entry)))) (now (table .entry)) ⌝ }
 {
     match c {
         Context::Null => {}
         Context::Numbered(n) => {
             if any {
-                table::set_record(table, n, held);
+                write_properties(s, body, table, n, topology, held);
             }
         }
         Context::Choose => {}

@@ -1,7 +1,7 @@
 -- No reader goes back: what it finds is at or past the place where it began.
 use Prim.Native.Nat.{ℕ, zero, suc, _+_, _-_, _≤_}
 use mathlib.Core.Path.{_≡_, refl}
-use mathlib.Core.Bool.{Bool, false, _&&_}
+use mathlib.Core.Bool.{Bool, false, _&&_, _||_}
 use mathlib.Core.List.{List, [], _∷_}
 use native.Mathlib.Omega.{arith}
 use native.Mathlib.Nat.{le-refl, le-trans, le-add-right}
@@ -9,22 +9,22 @@ use lib.ListN.{drop}
 use lib.Dec.{ltb, leb}
 use Rattle.base.specs.Pick.{pick}
 use Rattle.base.specs.Lists.{isAt, part}
-use Rattle.megaco.specs.Bytes.{equal, comma, leftBrace, rightBrace, slash, quote, isDigit}
+use Rattle.megaco.specs.Bytes.{equal, comma, leftBrace, rightBrace, slash, quote, dollar, star, isDigit}
 use Rattle.megaco.specs.White.{after, goesOn, insideAfter, stopAt, whiteFrom, whiteAt}
 use Rattle.megaco.specs.Keywords.{spells}
-use Rattle.megaco.specs.Tokens.{markAt, signAt, rowAt, upTo64, letterAt, wordAt, keywordAt, numberEnd, numberFrom, numberAt, afterNumber, quotedAt, plainAt, valueAt}
+use Rattle.megaco.specs.Tokens.{markAt, signAt, rowAt, upTo64, letterAt, wordAt, keywordAt, pathStart, pathNameAt, terminationAt, numberEnd, numberFrom, numberAt, afterNumber, quotedAt, plainAt, valueAt}
 use Rattle.megaco.specs.Reading.{Read, unlimited, keyAt, wordHere}
 use Rattle.megaco.specs.declared.Parsed.{Parsed}
 use Rattle.megaco.specs.declared.Parsed.the-variants.{Next, Fault}
 use Rattle.megaco.specs.declared.Number.{Number}
 use Rattle.megaco.specs.declared.Number.the-variants.{Got, Bad}
 use Rattle.megaco.specs.declared.Class.{Class}
-use Rattle.megaco.specs.declared.Class.the-variants.{WordByte, SafeByte, QuotedByte}
+use Rattle.megaco.specs.declared.Class.the-variants.{WordByte, NameByte, SafeByte, QuotedByte}
 use Rattle.megaco.specs.declared.Token.{Token}
-use Rattle.megaco.specs.declared.Token.the-variants.{PriorityToken, EmergencyToken}
+use Rattle.megaco.specs.declared.Token.the-variants.{PriorityToken, EmergencyToken, TopologyToken}
 use Rattle.tokens.proofs.TokenLaws.{pick-ind, row-ahead}
 use Rattle.syntax.specs.Production.{Production, numberAfter, spacedAt, joinedAt, listAt}
-use Rattle.syntax.specs.Places.{secondAt, valueItemAt, bracesAt, headAt, emptyAt, orNoneAt, itemAt, itemsAt, priorityAt, propertyAt}
+use Rattle.syntax.specs.Places.{secondAt, valueItemAt, bracesAt, headAt, emptyAt, orNoneAt, itemAt, itemsAt, priorityAt, propertyAt, isDirection, directionAt, partyAt, tripleAt, triplesAt, topologyAt}
 
 abbrev pub Onward : ℕ → Parsed → Type 0
 Onward at x = (p : ℕ) → x ≡ Next p → at ≤ p
@@ -154,6 +154,52 @@ items-on (suc k) s at = list-on _ s (item-over (itemsAt k s) s (items-on k s) k)
 pub item-on : (k : ℕ) (s : List ℕ) (at : ℕ) → Onward at (itemAt k (itemsAt k s) s at .place)
 item-on k s at = item-over (itemsAt k s) s (items-on k s) k at
 
+-- ---- topology
+
+start-on : (s : List ℕ) (at : ℕ) → at ≤ pathStart s at
+unfolding pathStart
+start-on s at = pick-ind (λ p. at ≤ p) (isAt s at star) (at + 1) at (le-add-right at 1) (le-refl at)
+
+path-on : (s : List ℕ) (at : ℕ) → Onward at (pathNameAt s at)
+unfolding pathNameAt
+path-on s at =
+    pick-on at (letterAt s (pathStart s at)) _ _
+    (earlier at _ _ (le-trans (start-on s at) (row-on NameByte s (pathStart s at))) (up-to-on at _)) (fault-on at)
+
+termination-on : (s : List ℕ) (at : ℕ) → Onward at (terminationAt s at)
+unfolding terminationAt
+termination-on s at =
+    pick-on at (letterAt s (pathStart s at)) _ _ (path-on s at)
+    (pick-on at (isAt s at star || isAt s at dollar) _ _ (next-on at (at + 1) (le-add-right at 1)) (fault-on at))
+
+party-on : (s : List ℕ) (at : ℕ) → Onward at (partyAt s at .place)
+unfolding partyAt
+party-on s at = spaced-on s at (terminationAt s at) (termination-on s at)
+
+direction-on : (s : List ℕ) (at : ℕ) → Onward at (directionAt s at .place)
+unfolding directionAt
+direction-on s at = after-on at (wordAt s at) _ (word-on s at) (λ p. pick-on p (isDirection (part s at p)) _ _ (next-on p p (le-refl p)) (fault-on p))
+
+pub triple-on : (s : List ℕ) (at : ℕ) → Onward at (tripleAt s at .place)
+unfolding tripleAt
+triple-on s at =
+    after-on at (partyAt s at .place) _ (party-on s at)
+    (λ p. after-on p (signAt comma s p) _ (sign-past comma s p)
+    (λ q. after-on q (partyAt s q .place) _ (party-on s q)
+    (λ r. after-on r (signAt comma s r) _ (sign-past comma s r)
+    (λ u. spaced-on s u (directionAt s u .place) (direction-on s u)))))
+
+triples-on : (s : List ℕ) (at : ℕ) → Onward at (triplesAt s at .place)
+unfolding triplesAt
+triples-on s at = list-on (λ j. tripleAt s j .place) s (triple-on s) (unlimited s) at
+
+topology-on : (s : List ℕ) (at : ℕ) → Onward at (topologyAt s at .place)
+unfolding topologyAt
+topology-on s at =
+    after-on at (spacedAt s (wordAt s at)) _ (spaced-on s at (wordAt s at) (word-on s at))
+    (λ p. after-on p (signAt leftBrace s p) _ (sign-past leftBrace s p)
+    (λ q. after-on q (triplesAt s q .place) _ (triples-on s q) (sign-past rightBrace s)))
+
 -- ---- properties
 
 abbrev NumberOn : ℕ → Number → Type 0
@@ -202,4 +248,5 @@ unfolding propertyAt priorityAt
 property-on s at =
     pick-on at (spells EmergencyToken (wordHere s at)) _ _
     (spaced-on s at (wordAt s at) (word-on s at))
-    (spaced-on s at _ (after-number-on at _ (number-after-on at (keyAt PriorityToken s at) _ (key-on PriorityToken s at) (λ p. number-on s p 5 99999))))
+    (pick-on at (spells TopologyToken (wordHere s at)) _ _ (topology-on s at)
+    (spaced-on s at _ (after-number-on at _ (number-after-on at (keyAt PriorityToken s at) _ (key-on PriorityToken s at) (λ p. number-on s p 5 99999)))))

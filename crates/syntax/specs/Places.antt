@@ -3,7 +3,7 @@
 -- the second pass does; where the part does not read, these have no meaning. Places inside a production have names of their own.
 use Prim.Native.Nat.{ℕ, zero, suc, _+_}
 use mathlib.Core.Path.{_≡_, refl, sym}
-use mathlib.Core.Bool.{Bool, true, false, _&&_}
+use mathlib.Core.Bool.{Bool, true, false, _&&_, _||_}
 use mathlib.Core.List.{List, [], _∷_}
 use mathlib.Core.Option.{Option, none, some}
 use lib.Dec.{eqb}
@@ -14,16 +14,16 @@ use Rattle.megaco.specs.White.{after, whiteAt}
 use Rattle.megaco.specs.Keywords.{spells}
 use Rattle.megaco.specs.Items.{called}
 use Rattle.megaco.specs.Tokens.{markAt, signAt, wordAt, terminationAt, numberAt, valueAt}
-use Rattle.megaco.specs.Tree.{item, Command, command}
-use Rattle.megaco.specs.Reading.{Read, got, listR, unlimited, keyAt, secondR, valueOf, valueR, bracesR, mayBeEmpty, orNoneR, itemR, itemsR, prefixAt, prefixEnd, isProperty, orderR, commandR, contextR, wordHere, propertyR, Body, body, withProperty, propertyThen, bodyR, actionOf, actionR, actionsR}
+use Rattle.megaco.specs.Tree.{item, Command, command, triple, Property, priority, emergency, topology}
+use Rattle.megaco.specs.Reading.{Read, got, listR, unlimited, keyAt, secondR, valueOf, valueR, bracesR, mayBeEmpty, orNoneR, itemR, itemsR, prefixAt, prefixEnd, isProperty, orderR, commandR, contextR, wordHere, propertyR, Body, body, withProperty, propertyThen, bodyR, actionOf, actionR, actionsR, fault, directionR, partyR, tripleR, topologyR}
 use Rattle.megaco.specs.declared.Parsed.{Parsed}
 use Rattle.megaco.specs.declared.Parsed.the-variants.{Next, Fault}
 use Rattle.megaco.specs.declared.Number.{Number}
 use Rattle.megaco.specs.declared.Context.the-variants.{Null, Numbered, Choose, All}
-use Rattle.megaco.specs.declared.Property.{Property}
-use Rattle.megaco.specs.declared.Property.the-variants.{Priority, Emergency}
-use Rattle.megaco.specs.declared.Token.the-variants.{AuditToken, CtxToken, PriorityToken, EmergencyToken}
-use Rattle.syntax.specs.Production.{endOf, numberAfter, pastWhite, pastSign, wordEnd, spacedAt, joinedAt, Reads, Production, fault-reads, got-reads, bind-reads, map-reads, skip-reads, word-reads, after-assoc, faultP, gotP, tokenP, numberP, pickP, unlessP, bindP, mapP, skipP, signP, lastP, closeP, spacedP, behindP, placedP, keywordP, wordP, wordThenP, listP}
+use Rattle.megaco.specs.declared.Token.the-variants.{AuditToken, CtxToken, PriorityToken, EmergencyToken, TopologyToken, IsolateToken, OnewayToken, BothwayToken}
+use Rattle.syntax.specs.Production.{endOf, numberAfter, pastWhite, pastSign, wordEnd, spacedAt, joinedAt, Reads, Production, fault-reads, got-reads, bind-reads, map-reads, skip-reads, word-reads, after-assoc, faultP, gotP, tokenP, numberP, pickP, unlessP, bindP, mapP, skipP, signP, lastP, closeP, spacedP, behindP, placedP, keywordP, wordP, wordThenP, listP, pastWordP}
+use Rattle.megaco.specs.declared.Direction.{Direction}
+use Rattle.megaco.specs.declared.Direction.the-variants.{Isolate, Oneway, Bothway}
 use Rattle.syntax.specs.declared.Rest.{Rest}
 
 -- ---- items
@@ -157,14 +157,71 @@ contextAt s at =
     (pickP (isAt s at star) (gotP All (at + 1))
     (numberP (numberAt s at 10 4294967295) Numbered)))
 
+-- a direction: whether a word is one, and which
+unfoldable pub isDirection : List ℕ → Bool
+isDirection w = spells IsolateToken w || spells OnewayToken w || spells BothwayToken w
+
+unfoldable pub directionOf : List ℕ → Direction
+directionOf w = pick (spells IsolateToken w) Isolate (pick (spells OnewayToken w) Oneway Bothway)
+
+pub direction-reads : (x y z : Bool) (p : ℕ)
+    → Reads (pick x (got Isolate p) (pick y (got Oneway p) (pick z (got Bothway p) fault))) (pick (x || y || z) (Next p) Fault) (pick x Isolate (pick y Oneway Bothway)) p
+unfolding pick
+direction-reads true y z p = got-reads Isolate p
+direction-reads false true z p = got-reads Oneway p
+direction-reads false false true p = got-reads Bothway p
+direction-reads false false false p = fault-reads Bothway p
+
+unfoldable pub directionAt : (s : List ℕ) (at : ℕ) → Production (directionR s at)
+unfolding directionR isDirection directionOf
+directionAt s at =
+    wordThenP s at (λ w p.
+    record { place = pick (isDirection w) (Next p) Fault; tree = directionOf w; end = p; law = direction-reads (spells IsolateToken w) (spells OnewayToken w) (spells BothwayToken w) p })
+
+-- a name in a triple, and where it ends
+unfoldable pub partyAt : (s : List ℕ) (at : ℕ) → Production (partyR s at)
+unfolding partyR
+partyAt s at = spacedP s (tokenP (terminationAt s at) (part s at))
+
+unfoldable pub partyEnd : List ℕ → ℕ → ℕ
+partyEnd s at = endOf (terminationAt s at)
+
+-- where a triple's second name and its direction begin
+unfoldable pub twoStart : List ℕ → ℕ → ℕ
+twoStart s at = pastSign comma s (pastWhite s (partyEnd s at))
+
+unfoldable pub directionStart : List ℕ → ℕ → ℕ
+directionStart s at = pastSign comma s (pastWhite s (partyEnd s (twoStart s at)))
+
+unfoldable pub tripleAt : (s : List ℕ) (at : ℕ) → Production (tripleR s at)
+unfolding tripleR
+tripleAt s at =
+    bindP (partyAt s at) (λ a p.
+    signP comma s p (λ q.
+    bindP (partyAt s q) (λ b r.
+    signP comma s r (λ u.
+    mapP (triple a b) (spacedP s (directionAt s u))))))
+
+unfoldable pub triplesAt : (s : List ℕ) (at : ℕ) → Production (listR (tripleR s) s (unlimited s) at)
+triplesAt s at = listP (tripleAt s) s (unlimited s) at
+
+-- where the triples of a topology begin
+unfoldable pub triplesStart : List ℕ → ℕ → ℕ
+triplesStart s at = pastSign leftBrace s (pastWhite s (wordEnd s at))
+
+unfoldable pub topologyAt : (s : List ℕ) (at : ℕ) → Production (topologyR s at)
+unfolding topologyR spacedAt
+topologyAt s at = pastWordP s at (λ p. signP leftBrace s p (λ q. bindP (triplesAt s q) (λ ts e. closeP rightBrace s e (topology ts))))
+
 unfoldable pub priorityAt : List ℕ → ℕ → Number
 priorityAt s at = numberAfter (keyAt PriorityToken s at) (λ p. numberAt s p 5 99999)
 
 unfoldable pub propertyAt : (s : List ℕ) (at : ℕ) → Production (propertyR s at)
 unfolding propertyR priorityAt
 propertyAt s at =
-    pickP (spells EmergencyToken (wordHere s at)) (spacedP s (keywordP s at (λ e. Emergency)))
-    (behindP s (keyAt PriorityToken s at) (λ p. numberAt s p 5 99999) Priority)
+    pickP (spells EmergencyToken (wordHere s at)) (spacedP s (keywordP s at (λ e. emergency)))
+    (pickP (spells TopologyToken (wordHere s at)) (topologyAt s at)
+    (behindP s (keyAt PriorityToken s at) (λ p. numberAt s p 5 99999) priority))
 
 -- what stands in an action's braces. The second pass goes over the properties and over the commands by themselves, so its tree is told by both
 unfoldable pub bodyPlace : ℕ → List ℕ → ℕ → Parsed

@@ -194,6 +194,13 @@ module _ {B : Type 0} where
   skipP x {f} k =
       record { place = after x (λ p. k p .place); tree = k (endOf x) .tree; end = k (endOf x) .end; law = skip-reads x f (λ p. k p .place) (k (endOf x) .law) }
 
+  -- the same where the part's end is found by itself
+  pub skip-to : (x : Parsed) (e : ℕ) {f : ℕ → Read B} (k : (p : ℕ) → Production (f p)) → ((p : ℕ) → x ≡ Next p → e ≡ p)
+      → Reads (skip x f) (after x (λ p. k p .place)) (k e .tree) (k e .end)
+  unfolding skip after
+  skip-to (Next p) e k h = rw (h p refl) (k p .law)
+  skip-to Fault e k h = fault-reads _ _
+
   pub sign-reads : (b : ℕ) (s : List ℕ) (at : ℕ) {f : ℕ → Read B} (k : (p : ℕ) → Production (f p))
       → Reads (skip (signAt b s at) f) (after (signAt b s at) (λ p. k p .place)) (k (pastSign b s at) .tree) (k (pastSign b s at) .end)
   unfolding pastSign
@@ -284,6 +291,16 @@ wordThenP s at {f} k =
       end = k (part s at e) e .end;
       law = bind-reads f (λ p. k (part s at p) p .place) (word-reads s at) (k (part s at e) e .law);
     }
+
+-- a word of which only the place counts, white space, and what follows
+pub past-word-reads : {B : Type 0} (s : List ℕ) (at : ℕ) {f : ℕ → Read B} (k : (p : ℕ) → Production (f p))
+    → let e = pastWhite s (wordEnd s at) in Reads (skip (spacedAt s (wordAt s at)) f) (after (spacedAt s (wordAt s at)) (λ p. k p .place)) (k e .tree) (k e .end)
+past-word-reads s at k = skip-to (spacedAt s (wordAt s at)) (pastWhite s (wordEnd s at)) k (spaced-reads s (keyword-reads s at (λ e. e)) .ends)
+
+abbrev pub pastWordP : {B : Type 0} (s : List ℕ) (at : ℕ) {f : ℕ → Read B} → ((p : ℕ) → Production (f p)) → Production (skip (spacedAt s (wordAt s at)) f)
+pastWordP s at k =
+    let e : ℕ = pastWhite s (wordEnd s at) in
+    record { place = after (spacedAt s (wordAt s at)) (λ p. k p .place); tree = k e .tree; end = k e .end; law = past-word-reads s at k }
 
 -- ---- lists joined by commas
 

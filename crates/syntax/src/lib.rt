@@ -2,6 +2,7 @@
 ghost use mathlib.Core.Path.{_≡_};
 ghost use mathlib.Core.Bool.{_&&_, _||_};
 ghost use Prim.Native.Nat.{suc, min};
+ghost use Rattle.megaco.specs.declared.Token.the-variants.{TopologyToken};
 ghost use Rattle.megaco.specs.Reading.{prefixEnd, isProperty};
 ghost use Rattle.syntax.specs.Pieces.{Holds};
 ghost use Rattle.syntax.specs.Production.{spacedAt};
@@ -212,7 +213,7 @@ fn order_start(s: &[u8], at: usize) -> usize
 pub fn is_property(w: &[u8]) -> bool
     ensures { λ r. ⌜ r ≡ isProperty (now (w .entry)) ⌝ }
 {
-    text::spells(Token::PriorityToken, w) | text::spells(Token::EmergencyToken, w)
+    text::spells(Token::PriorityToken, w) | text::spells(Token::EmergencyToken, w) | text::spells(Token::TopologyToken, w)
 }
 
 // A command's word.

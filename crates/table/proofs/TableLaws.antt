@@ -1,10 +1,10 @@
 -- The laws of the table's words, in the form in which `search` uses them.
-use Prim.Native.Nat.{ℕ, zero, suc, _+_, _-_, _<_, _≤_}
-use mathlib.Core.Path.{_≡_, refl, sym, _∙_}
+use Prim.Native.Nat.{ℕ, zero, suc, _+_, _-_, _<_, _≤_, min}
+use mathlib.Core.Path.{_≡_, refl, sym, ap, _∙_}
 use mathlib.Core.List.{List, [], _∷_}
 use mathlib.Core.Bool.{Bool, true, false}
 use native.Mathlib.Numerals.{add-one}
-use native.Mathlib.Nat.{zero-add, suc-add, sub-zero}
+use native.Mathlib.Nat.{zero-add, suc-add, sub-zero, zero-min, min-zero, suc-min-suc}
 use native.Mathlib.Omega.{arith}
 use lib.ListN.{length, getD, set, take, drop, length-take, drop-of-length-le, List·getD-eq-default}
 use lib.Seq.{drop-cons, set-out, take-nil}
@@ -14,7 +14,7 @@ use mir.Val.{Fits, boolByte}
 use borrow.Author.Tests.{eq-eqb, ne-eqb}
 use Rattle.base.specs.Pick.{pick}
 use Rattle.base.specs.Lists.{count, lowestAbsent}
-use Rattle.megaco.specs.Table.{lineTerminations, terminations, fitted, contextWords, recordWords, members, freeContext}
+use Rattle.megaco.specs.Table.{flow, cell, lowFlow, highFlow, address, get, write, store, lineTerminations, terminations, fitted, contextWords, recordWords, known, members, placeIn, freeContext}
 
 -- past the end stands 0, and nothing is stored there
 pub read-past : (t : List ℕ) (k : ℕ) → length t ≤ k → 0 ≡ getD t k 0
@@ -28,6 +28,17 @@ store-past t k v h = sym (set-out t k v h)
 
 pub store-beyond : (t : List ℕ) (k i v : ℕ) → length t ≤ i → t ≡ set t (k + i) v
 store-beyond t k i v h = store-past t (k + i) v (omega arith)
+
+-- the second of a context's two words of flows
+module _ (t : List ℕ) (c k : ℕ) (e : k ≡ address (fitted t) (cell (flow (lowFlow c)))) where
+  next-flow : k + 1 ≡ address (fitted t) (cell (flow (highFlow c)))
+  next-flow = omega arith
+
+  pub high-read : (r : ℕ) → r ≡ getD t (k + 1) 0 → r ≡ get t (cell (flow (highFlow c)))
+  high-read r p = p ∙ ap (λ (m : ℕ). getD t m 0) next-flow
+
+  pub high-put : (u : List ℕ) (v : ℕ) → u ≡ set t (k + 1) v → u ≡ store (write (cell (flow (highFlow c))) v) t
+  high-put u v p = p ∙ ap (λ (m : ℕ). set t m v) next-flow
 
 -- a test as a number
 pub bit-small : (b : Bool) → boolByte b ≤ 1
@@ -95,6 +106,38 @@ drop-take (suc n) m (x ∷ l) = rw suc-add (drop-take n m l)
 pub members-part : (t : List ℕ) (c n r : ℕ) → n ≡ terminations (fitted t) → r ≡ count c (take (n - 0) (drop 0 t)) → r ≡ members c t
 unfolding members contextWords
 members-part t c n r e h = h ∙ rw (sub-zero, e)
+
+-- the first of the first
+take-first : (i n : ℕ) (l : List ℕ) → take i (take n l) ≡ take (min i n) l
+take-first zero n l = rw zero-min
+take-first (suc i) zero l = rw min-zero
+take-first (suc i) (suc n) [] = rw (suc-min-suc, take-nil)
+take-first (suc i) (suc n) (x ∷ l) = rw suc-min-suc (ap (λ (m : List ℕ). x ∷ m) (take-first i n l))
+
+count-part : (c n m : ℕ) (l : List ℕ) → count c (take (n + m) l) ≡ count c (take n l) + count c (take m (drop n l))
+unfolding count
+count-part c zero m l = rw (zero-add, zero-add)
+count-part c (suc n) m [] = rw (take-nil, take-nil)
+count-part c (suc n) m (x ∷ l) = rw (suc-add, count-part c n m l) (omega arith)
+
+-- two parts that the code takes, before number i and from it on
+module _ (t : List ℕ) (c i n k a : ℕ) (e : n ≡ terminations (fitted t)) (f : k ≡ min i n) (p : a ≡ count c (take (k - 0) (drop 0 t))) where
+  pub place-part : known c ≡ true → a ≡ placeIn c i t
+  unfolding placeIn contextWords pick
+  place-part h = p ∙ rw (sub-zero, f, e, h, take-first i (terminations (fitted t)) t)
+
+  pub both-parts : (b : ℕ) → b ≡ count c (take (n - k) (drop k t)) → a + b ≡ members c t
+  unfolding members contextWords
+  both-parts b q =
+      let s : k + (n - k) ≡ terminations (fitted t) = omega arith in
+      rw (p, sub-zero, q) (sym (count-part c k (n - k) t) ∙ rw s)
+
+pub known-yes : (x : Bool) (c : ℕ) → x ≡ known c → x ≡ true → known c ≡ true
+known-yes x c e h = sym e ∙ h
+
+pub place-none : (t : List ℕ) (c i : ℕ) (x : Bool) → x ≡ known c → x ≡ false → 0 ≡ placeIn c i t
+unfolding placeIn pick
+place-none t c i x e h = rw (← e, h)
 
 module _ (t : List ℕ) (n r : ℕ) (e : n ≡ terminations (fitted t)) where
   -- the records

@@ -1,12 +1,13 @@
 // The lent table, whose size tells the lines fitted, read and written by the number of a termination and by the number of a context.
 ghost use mathlib.Core.Path.{_≡_};
-ghost use Prim.Native.Nat.{_+_, _-_, _*_, _/_, _<_, _≤_};
+ghost use Prim.Native.Nat.{_+_, _-_, _*_, _/_, _<_, _≤_, min};
+ghost use mathlib.Core.Bool.{true};
 ghost use mathlib.Core.List.{_++_};
 ghost use lib.ListN.{length, getD, set};
 ghost use Rattle.base.specs.Pick.{pick};
 ghost use Rattle.base.specs.Lists.{count, lowestAbsent};
 ghost use Rattle.megaco.specs.Map.{digits, withDigit, inUse};
-ghost use Rattle.megaco.specs.Table.{lineTerminations, terminations, fitted, Sized, prop, rec, used, ctx, cell, address, get, write, store, places, isEphemeral, exists, members, freeContext, freeEphemeral, usedEphemerals};
+ghost use Rattle.megaco.specs.Table.{lineTerminations, terminations, fitted, Sized, prop, rec, used, flow, lowFlow, highFlow, ctx, cell, address, get, write, store, places, isEphemeral, exists, known, members, placeIn, freeContext, freeEphemeral, usedEphemerals};
 
 // The most lines that can be fitted.
 pub const MOST_LINES: u32 = 16;
@@ -27,8 +28,11 @@ pub const MOST_TERMINATIONS: usize = CHANNELS * MOST_LINES as usize + EPHEMERALS
 // The words of the map.
 pub const MAP: usize = 2;
 
+// The words of the flows, two for each context.
+pub const FLOWS: usize = 2 * CONTEXTS as usize;
+
 // The words of a table without lines, and those that each line adds.
-const NO_LINES: usize = 2 * EPHEMERALS as usize + CONTEXTS as usize + MAP;
+const NO_LINES: usize = 2 * EPHEMERALS as usize + CONTEXTS as usize + MAP + FLOWS;
 
 const LINE: usize = 2 * CHANNELS;
 
@@ -146,6 +150,50 @@ pub fn set_record(table: &mut [u32], c: u32, held: u32)
     put_word(table, k, held);
 }
 
+// ---- the flows
+
+// Where the first of a context's two words of flows stands.
+fn flow_place(table: &[u32], c: u32) -> usize
+    ensures { λ r. ⌜ r ≡ address (fitted (now (table .entry))) (cell (flow (lowFlow c))) ⌝ }
+{
+    let n = terminations(table);
+    if c == 0 {
+        n + (n + (CONTEXTS as usize + MAP))
+    } else {
+        n + (n + (CONTEXTS as usize + (MAP + 2 * (c as usize - 1))))
+    }
+}
+
+// Rows 0 to 3 of a context's flows.
+pub fn low_flow(table: &[u32], c: u32) -> u32
+    ensures { λ r. ⌜ r ≡ get (now (table .entry)) (cell (flow (lowFlow c))) ⌝ }
+{
+    let k = flow_place(table, c);
+    word_at(table, k)
+}
+
+// Rows 4 to 7.
+pub fn high_flow(table: &[u32], c: u32) -> u32
+    ensures { λ r. ⌜ r ≡ get (now (table .entry)) (cell (flow (highFlow c))) ⌝ }
+{
+    let k = flow_place(table, c);
+    word_at(table, k + 1)
+}
+
+pub fn set_low_flow(table: &mut [u32], c: u32, v: u32)
+    ensures { λ _. ⌜ now (table .exit) ≡ store (write (cell (flow (lowFlow c))) v) (now (table .entry)) ⌝ }
+{
+    let k = flow_place(table, c);
+    put_word(table, k, v);
+}
+
+pub fn set_high_flow(table: &mut [u32], c: u32, v: u32)
+    ensures { λ _. ⌜ now (table .exit) ≡ store (write (cell (flow (highFlow c))) v) (now (table .entry)) ⌝ }
+{
+    let k = flow_place(table, c);
+    put_word(table, k + 1, v);
+}
+
 // ---- the map of the ephemerals
 
 // The lowest number absent in a map, 0 if there is none.
@@ -252,6 +300,52 @@ pub fn members(table: &[u32], c: u32) -> usize
 {
     let n = terminations(table);
     count_in(&table[0..n], c) as usize
+}
+
+// The members of a context: how many of them have a lower number than one termination, and how many there are.
+pub struct Counted {
+    pub place: usize,
+    pub members: usize,
+}
+
+// How many terminations stand in a context, those with a lower number than i first. The context is one that there can be.
+pub fn count_members(table: &[u32], c: u32, i: usize) -> Counted
+    requires { ⌜ (Sized (now table)) × (known c ≡ true) ⌝ }
+    ensures { λ r. ⌜ (r .place ≡ placeIn c i (now (table .entry))) × (r .members ≡ members c (now (table .entry))) ⌝ }
+{
+    let n = terminations(table);
+    let k = low(i, n);
+    let before = count_in(&table[0..k], c) as usize;
+    let after = count_in(&table[k..n], c) as usize;
+    Counted {
+        place: before,
+        members: before + after,
+    }
+}
+
+// Whether there can be such a context.
+pub fn is_known(c: u32) -> bool
+    ensures { λ r. ⌜ r ≡ known c ⌝ }
+{
+    (0 < c) & (c <= CONTEXTS)
+}
+
+// The place of a termination among the members of a context.
+pub fn place_in(table: &[u32], c: u32, i: usize) -> usize
+    requires { ⌜ Sized (now table) ⌝ }
+    ensures { λ r. ⌜ r ≡ placeIn c i (now (table .entry)) ⌝ }
+{
+    if is_known(c) {
+        let n = count_members(table, c, i);
+        return n.place;
+    }
+    0
+}
+
+fn low(a: usize, b: usize) -> usize
+    ensures { λ r. ⌜ r ≡ min a b ⌝ }
+{
+    if a < b { a } else { b }
 }
 
 // The number of the first 0 in a row of words, counted from 1; 0 if there is none.

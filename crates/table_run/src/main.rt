@@ -11,7 +11,7 @@ ghost use Prim.Native.Nat.{_≤_};
 ghost use lib.ListN.{length};
 
 fn main() {
-    let mut room = [0u32; 755];
+    let mut room = [0u32; 1011];
     let mut input = io::buffer();
     let n = io::read_full(STDIN_FILENO, &mut input);
     run(&mut room, &input[..n]);
@@ -20,7 +20,7 @@ fn main() {
 // ---- lines
 
 fn run(room: &mut [u32], s: &[u8])
-    requires { ⌜ length (now room) ≡ 755 ⌝ }
+    requires { ⌜ length (now room) ≡ 1011 ⌝ }
 {
     let mut a: usize = 0;
     while a < s.len() {
@@ -47,13 +47,13 @@ fn line_end(s: &[u8], a: usize) -> usize
 }
 
 fn case(room: &mut [u32], line: &[u8])
-    requires { ⌜ length (now room) ≡ 755 ⌝ }
+    requires { ⌜ length (now room) ≡ 1011 ⌝ }
 {
     if line.len() < 2 {
         return;
     }
     if line[0] == b'T' {
-        table_case(&mut room[0..754], line);
+        table_case(&mut room[0..1010], line);
         return;
     }
     if line[0] == b'W' {
@@ -154,7 +154,7 @@ fn put_busy(t: &mut [u32]) {
 
 // 1: busy; 2: 128 contexts; 3: contexts of 8; 4: 64 ephemerals in contexts of 8; else fresh.
 fn start(t: &mut [u32], base: u32) {
-    put_run(t, 0, 754, 0);
+    put_run(t, 0, 1010, 0);
     if base == 1 {
         put_busy(t);
         return;
@@ -179,7 +179,7 @@ fn start(t: &mut [u32], base: u32) {
 }
 
 fn table_case(t: &mut [u32], line: &[u8])
-    requires { ⌜ length (now t) ≡ 754 ⌝ }
+    requires { ⌜ length (now t) ≡ 1010 ⌝ }
 {
     start(t, number(line, 1));
     table::put_word(t, number(line, 2) as usize, number(line, 3));
@@ -187,7 +187,7 @@ fn table_case(t: &mut [u32], line: &[u8])
 }
 
 fn report(t: &[u32], c: u32)
-    requires { ⌜ length (now t) ≡ 754 ⌝ }
+    requires { ⌜ length (now t) ≡ 1010 ⌝ }
 {
     say_sound(t);
     say_number(b", members ", table::members(t, c) as u64);
@@ -197,7 +197,7 @@ fn report(t: &[u32], c: u32)
 }
 
 fn length_case(room: &mut [u32], n: u32) {
-    put_run(room, 0, 755, 0);
+    put_run(room, 0, 1011, 0);
     let e = n as usize;
     if e <= room.len() {
         say_sound(&room[0..e]);

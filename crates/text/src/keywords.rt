@@ -19,14 +19,16 @@ pub enum Meaning {
 }
 
 // Annex B.2's tokens in its order. Error and Reply are written only: no reader asks for them.
-pub const KEYWORDS: [Row; 26] = [
+pub const KEYWORDS: [Row; 30] = [
     Row(Token::AddToken, *b"ADD                     ", *b"A "),
     Row(Token::AuditToken, *b"AUDIT                   ", *b"AT"),
     Row(Token::AuditValueToken, *b"AUDITVALUE              ", *b"AV"),
+    Row(Token::BothwayToken, *b"BOTHWAY                 ", *b"BW"),
     Row(Token::CtxToken, *b"CONTEXT                 ", *b"C "),
     Row(Token::EmergencyToken, *b"EMERGENCY               ", *b"EG"),
     Row(Token::ErrorToken, *b"ERROR                   ", *b"ER"),
     Row(Token::InactiveToken, *b"INACTIVE                ", *b"IN"),
+    Row(Token::IsolateToken, *b"ISOLATE                 ", *b"IS"),
     Row(Token::InSvcToken, *b"INSERVICE               ", *b"IV"),
     Row(Token::LocalControlToken, *b"LOCALCONTROL            ", *b"O "),
     Row(Token::LoopbackToken, *b"LOOPBACK                ", *b"LB"),
@@ -35,6 +37,7 @@ pub const KEYWORDS: [Row; 26] = [
     Row(Token::ModeToken, *b"MODE                    ", *b"MO"),
     Row(Token::ModifyToken, *b"MODIFY                  ", *b"MF"),
     Row(Token::MoveToken, *b"MOVE                    ", *b"MV"),
+    Row(Token::OnewayToken, *b"ONEWAY                  ", *b"OW"),
     Row(Token::OutOfSvcToken, *b"OUTOFSERVICE            ", *b"OS"),
     Row(Token::PriorityToken, *b"PRIORITY                ", *b"PR"),
     Row(Token::RecvonlyToken, *b"RECEIVEONLY             ", *b"RC"),
@@ -45,6 +48,7 @@ pub const KEYWORDS: [Row; 26] = [
     Row(Token::SubtractToken, *b"SUBTRACT                ", *b"S "),
     Row(Token::TerminationStateToken, *b"TERMINATIONSTATE        ", *b"TS"),
     Row(Token::TestToken, *b"TEST                    ", *b"TE"),
+    Row(Token::TopologyToken, *b"TOPOLOGY                ", *b"TP"),
     Row(Token::TransToken, *b"TRANSACTION             ", *b"T "),
 ];
 

@@ -45,7 +45,11 @@ fn row_at(i: usize) -> Row
         22 => t[22],
         23 => t[23],
         24 => t[24],
-        _ => t[25],
+        25 => t[25],
+        26 => t[26],
+        27 => t[27],
+        28 => t[28],
+        _ => t[29],
     }
 }
 
@@ -82,29 +86,33 @@ pub fn spells(k: Token, w: &[u8]) -> bool
         Token::AddToken => is_either(w, 0, 3, 1),
         Token::AuditToken => is_either(w, 1, 5, 2),
         Token::AuditValueToken => is_either(w, 2, 10, 2),
-        Token::CtxToken => is_either(w, 3, 7, 1),
-        Token::EmergencyToken => is_either(w, 4, 9, 2),
-        Token::ErrorToken => is_either(w, 5, 5, 2),
-        Token::InactiveToken => is_either(w, 6, 8, 2),
-        Token::InSvcToken => is_either(w, 7, 9, 2),
-        Token::LocalControlToken => is_either(w, 8, 12, 1),
-        Token::LoopbackToken => is_either(w, 9, 8, 2),
-        Token::MediaToken => is_either(w, 10, 5, 1),
-        Token::MegacopToken => is_either(w, 11, 6, 1),
-        Token::ModeToken => is_either(w, 12, 4, 2),
-        Token::ModifyToken => is_either(w, 13, 6, 2),
-        Token::MoveToken => is_either(w, 14, 4, 2),
-        Token::OutOfSvcToken => is_either(w, 15, 12, 2),
-        Token::PriorityToken => is_either(w, 16, 8, 2),
-        Token::RecvonlyToken => is_either(w, 17, 11, 2),
-        Token::ReplyToken => is_either(w, 18, 5, 1),
-        Token::SendonlyToken => is_either(w, 19, 8, 2),
-        Token::SendrecvToken => is_either(w, 20, 11, 2),
-        Token::ServiceStatesToken => is_either(w, 21, 13, 2),
-        Token::SubtractToken => is_either(w, 22, 8, 1),
-        Token::TerminationStateToken => is_either(w, 23, 16, 2),
-        Token::TestToken => is_either(w, 24, 4, 2),
-        Token::TransToken => is_either(w, 25, 11, 1),
+        Token::BothwayToken => is_either(w, 3, 7, 2),
+        Token::CtxToken => is_either(w, 4, 7, 1),
+        Token::EmergencyToken => is_either(w, 5, 9, 2),
+        Token::ErrorToken => is_either(w, 6, 5, 2),
+        Token::InactiveToken => is_either(w, 7, 8, 2),
+        Token::IsolateToken => is_either(w, 8, 7, 2),
+        Token::InSvcToken => is_either(w, 9, 9, 2),
+        Token::LocalControlToken => is_either(w, 10, 12, 1),
+        Token::LoopbackToken => is_either(w, 11, 8, 2),
+        Token::MediaToken => is_either(w, 12, 5, 1),
+        Token::MegacopToken => is_either(w, 13, 6, 1),
+        Token::ModeToken => is_either(w, 14, 4, 2),
+        Token::ModifyToken => is_either(w, 15, 6, 2),
+        Token::MoveToken => is_either(w, 16, 4, 2),
+        Token::OnewayToken => is_either(w, 17, 6, 2),
+        Token::OutOfSvcToken => is_either(w, 18, 12, 2),
+        Token::PriorityToken => is_either(w, 19, 8, 2),
+        Token::RecvonlyToken => is_either(w, 20, 11, 2),
+        Token::ReplyToken => is_either(w, 21, 5, 1),
+        Token::SendonlyToken => is_either(w, 22, 8, 2),
+        Token::SendrecvToken => is_either(w, 23, 11, 2),
+        Token::ServiceStatesToken => is_either(w, 24, 13, 2),
+        Token::SubtractToken => is_either(w, 25, 8, 1),
+        Token::TerminationStateToken => is_either(w, 26, 16, 2),
+        Token::TestToken => is_either(w, 27, 4, 2),
+        Token::TopologyToken => is_either(w, 28, 8, 2),
+        Token::TransToken => is_either(w, 29, 11, 1),
     }
 }
 
@@ -122,8 +130,8 @@ fn of(i: usize) -> Meaning
 fn letters_16(w: &[u8]) -> Meaning
     ensures { λ r. ⌜ told r ≡ meaningLater 16 0 (now (w .entry)) ⌝ }
 {
-    if is_long(w, 23, 16) {
-        return of(23);
+    if is_long(w, 26, 16) {
+        return of(26);
     }
     Meaning::Nothing
 }
@@ -131,8 +139,8 @@ fn letters_16(w: &[u8]) -> Meaning
 fn letters_13(w: &[u8]) -> Meaning
     ensures { λ r. ⌜ told r ≡ meaningLater 13 0 (now (w .entry)) ⌝ }
 {
-    if is_long(w, 21, 13) {
-        return of(21);
+    if is_long(w, 24, 13) {
+        return of(24);
     }
     Meaning::Nothing
 }
@@ -140,11 +148,11 @@ fn letters_13(w: &[u8]) -> Meaning
 fn letters_12(w: &[u8]) -> Meaning
     ensures { λ r. ⌜ told r ≡ meaningLater 12 0 (now (w .entry)) ⌝ }
 {
-    if is_long(w, 8, 12) {
-        return of(8);
+    if is_long(w, 10, 12) {
+        return of(10);
     }
-    if is_long(w, 15, 12) {
-        return of(15);
+    if is_long(w, 18, 12) {
+        return of(18);
     }
     Meaning::Nothing
 }
@@ -152,14 +160,14 @@ fn letters_12(w: &[u8]) -> Meaning
 fn letters_11(w: &[u8]) -> Meaning
     ensures { λ r. ⌜ told r ≡ meaningLater 11 0 (now (w .entry)) ⌝ }
 {
-    if is_long(w, 17, 11) {
-        return of(17);
-    }
     if is_long(w, 20, 11) {
         return of(20);
     }
-    if is_long(w, 25, 11) {
-        return of(25);
+    if is_long(w, 23, 11) {
+        return of(23);
+    }
+    if is_long(w, 29, 11) {
+        return of(29);
     }
     Meaning::Nothing
 }
@@ -176,11 +184,20 @@ fn letters_10(w: &[u8]) -> Meaning
 fn letters_9(w: &[u8]) -> Meaning
     ensures { λ r. ⌜ told r ≡ meaningLater 9 0 (now (w .entry)) ⌝ }
 {
-    if is_long(w, 4, 9) {
-        return of(4);
+    if is_long(w, 5, 9) {
+        return of(5);
     }
-    if is_long(w, 7, 9) {
-        return of(7);
+    if is_long(w, 9, 9) {
+        return of(9);
+    }
+    Meaning::Nothing
+}
+
+fn letters_8_from_5(w: &[u8]) -> Meaning
+    ensures { λ r. ⌜ told r ≡ meaningLater 8 5 (now (w .entry)) ⌝ }
+{
+    if is_long(w, 28, 8) {
+        return of(28);
     }
     Meaning::Nothing
 }
@@ -188,14 +205,11 @@ fn letters_9(w: &[u8]) -> Meaning
 fn letters_8(w: &[u8]) -> Meaning
     ensures { λ r. ⌜ told r ≡ meaningLater 8 0 (now (w .entry)) ⌝ }
 {
-    if is_long(w, 6, 8) {
-        return of(6);
+    if is_long(w, 7, 8) {
+        return of(7);
     }
-    if is_long(w, 9, 8) {
-        return of(9);
-    }
-    if is_long(w, 16, 8) {
-        return of(16);
+    if is_long(w, 11, 8) {
+        return of(11);
     }
     if is_long(w, 19, 8) {
         return of(19);
@@ -203,7 +217,10 @@ fn letters_8(w: &[u8]) -> Meaning
     if is_long(w, 22, 8) {
         return of(22);
     }
-    Meaning::Nothing
+    if is_long(w, 25, 8) {
+        return of(25);
+    }
+    letters_8_from_5(w)
 }
 
 fn letters_7(w: &[u8]) -> Meaning
@@ -212,17 +229,26 @@ fn letters_7(w: &[u8]) -> Meaning
     if is_long(w, 3, 7) {
         return of(3);
     }
+    if is_long(w, 4, 7) {
+        return of(4);
+    }
+    if is_long(w, 8, 7) {
+        return of(8);
+    }
     Meaning::Nothing
 }
 
 fn letters_6(w: &[u8]) -> Meaning
     ensures { λ r. ⌜ told r ≡ meaningLater 6 0 (now (w .entry)) ⌝ }
 {
-    if is_long(w, 11, 6) {
-        return of(11);
-    }
     if is_long(w, 13, 6) {
         return of(13);
+    }
+    if is_long(w, 15, 6) {
+        return of(15);
+    }
+    if is_long(w, 17, 6) {
+        return of(17);
     }
     Meaning::Nothing
 }
@@ -233,14 +259,14 @@ fn letters_5(w: &[u8]) -> Meaning
     if is_long(w, 1, 5) {
         return of(1);
     }
-    if is_long(w, 5, 5) {
-        return of(5);
+    if is_long(w, 6, 5) {
+        return of(6);
     }
-    if is_long(w, 10, 5) {
-        return of(10);
+    if is_long(w, 12, 5) {
+        return of(12);
     }
-    if is_long(w, 18, 5) {
-        return of(18);
+    if is_long(w, 21, 5) {
+        return of(21);
     }
     Meaning::Nothing
 }
@@ -248,14 +274,14 @@ fn letters_5(w: &[u8]) -> Meaning
 fn letters_4(w: &[u8]) -> Meaning
     ensures { λ r. ⌜ told r ≡ meaningLater 4 0 (now (w .entry)) ⌝ }
 {
-    if is_long(w, 12, 4) {
-        return of(12);
-    }
     if is_long(w, 14, 4) {
         return of(14);
     }
-    if is_long(w, 24, 4) {
-        return of(24);
+    if is_long(w, 16, 4) {
+        return of(16);
+    }
+    if is_long(w, 27, 4) {
+        return of(27);
     }
     Meaning::Nothing
 }
@@ -269,11 +295,26 @@ fn letters_3(w: &[u8]) -> Meaning
     Meaning::Nothing
 }
 
+fn letters_2_from_20(w: &[u8]) -> Meaning
+    ensures { λ r. ⌜ told r ≡ meaningLater 2 20 (now (w .entry)) ⌝ }
+{
+    if is_short(w, 27, 2) {
+        return of(27);
+    }
+    if is_short(w, 28, 2) {
+        return of(28);
+    }
+    Meaning::Nothing
+}
+
 fn letters_2_from_15(w: &[u8]) -> Meaning
     ensures { λ r. ⌜ told r ≡ meaningLater 2 15 (now (w .entry)) ⌝ }
 {
-    if is_short(w, 21, 2) {
-        return of(21);
+    if is_short(w, 20, 2) {
+        return of(20);
+    }
+    if is_short(w, 22, 2) {
+        return of(22);
     }
     if is_short(w, 23, 2) {
         return of(23);
@@ -281,7 +322,10 @@ fn letters_2_from_15(w: &[u8]) -> Meaning
     if is_short(w, 24, 2) {
         return of(24);
     }
-    Meaning::Nothing
+    if is_short(w, 26, 2) {
+        return of(26);
+    }
+    letters_2_from_20(w)
 }
 
 fn letters_2_from_10(w: &[u8]) -> Meaning
@@ -296,11 +340,11 @@ fn letters_2_from_10(w: &[u8]) -> Meaning
     if is_short(w, 17, 2) {
         return of(17);
     }
+    if is_short(w, 18, 2) {
+        return of(18);
+    }
     if is_short(w, 19, 2) {
         return of(19);
-    }
-    if is_short(w, 20, 2) {
-        return of(20);
     }
     letters_2_from_15(w)
 }
@@ -311,14 +355,14 @@ fn letters_2_from_5(w: &[u8]) -> Meaning
     if is_short(w, 7, 2) {
         return of(7);
     }
+    if is_short(w, 8, 2) {
+        return of(8);
+    }
     if is_short(w, 9, 2) {
         return of(9);
     }
-    if is_short(w, 12, 2) {
-        return of(12);
-    }
-    if is_short(w, 13, 2) {
-        return of(13);
+    if is_short(w, 11, 2) {
+        return of(11);
     }
     if is_short(w, 14, 2) {
         return of(14);
@@ -335,8 +379,8 @@ fn letters_2(w: &[u8]) -> Meaning
     if is_short(w, 2, 2) {
         return of(2);
     }
-    if is_short(w, 4, 2) {
-        return of(4);
+    if is_short(w, 3, 2) {
+        return of(3);
     }
     if is_short(w, 5, 2) {
         return of(5);
@@ -350,14 +394,14 @@ fn letters_2(w: &[u8]) -> Meaning
 fn letters_1_from_5(w: &[u8]) -> Meaning
     ensures { λ r. ⌜ told r ≡ meaningLater 1 5 (now (w .entry)) ⌝ }
 {
-    if is_short(w, 18, 1) {
-        return of(18);
-    }
-    if is_short(w, 22, 1) {
-        return of(22);
+    if is_short(w, 21, 1) {
+        return of(21);
     }
     if is_short(w, 25, 1) {
         return of(25);
+    }
+    if is_short(w, 29, 1) {
+        return of(29);
     }
     Meaning::Nothing
 }
@@ -368,17 +412,17 @@ fn letters_1(w: &[u8]) -> Meaning
     if is_short(w, 0, 1) {
         return of(0);
     }
-    if is_short(w, 3, 1) {
-        return of(3);
-    }
-    if is_short(w, 8, 1) {
-        return of(8);
+    if is_short(w, 4, 1) {
+        return of(4);
     }
     if is_short(w, 10, 1) {
         return of(10);
     }
-    if is_short(w, 11, 1) {
-        return of(11);
+    if is_short(w, 12, 1) {
+        return of(12);
+    }
+    if is_short(w, 13, 1) {
+        return of(13);
     }
     letters_1_from_5(w)
 }

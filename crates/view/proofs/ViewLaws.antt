@@ -10,12 +10,41 @@ use lib.ListN.{length, getD, set, take, drop, length-set, drop-of-length-le}
 use lib.Seq.{drop-cons}
 use Rattle.base.specs.Pick.{pick}
 use Rattle.base.specs.Bytes.{put}
-use Rattle.megaco.specs.Table.{terminations, fitted, contextWords}
-use Rattle.megaco.specs.Running.{numberOf, matchesFrom, matches}
+use Rattle.megaco.specs.Table.{prop, rec, flow, ctx, cell, lowFlow, highFlow, get, terminations, fitted, contextWords, known, members, placeIn}
+use Rattle.megaco.specs.Running.{unseen, seen, numberOf, freeAt, look, matchesFrom, matches}
+use Rattle.megaco.specs.declared.View.{View}
 use Rattle.megaco.specs.declared.Context.{Context}
 use Rattle.megaco.specs.declared.Op.{Op}
 use Rattle.megaco.specs.declared.Range.{Range}
+use Rattle.view.specs.Sight.{Finds}
+use Rattle.view.specs.declared.Found.{Found}
 use Rattle.view.specs.Noted.{isMatch, Noted, Matched}
+
+-- ---- contexts
+
+module _ (t : List ℕ) (c i : ℕ) where
+  pub found-known : (r : Found) → known c ≡ true → r .place ≡ placeIn c i t → r .seen .held ≡ get t (cell (rec c)) → r .seen .members ≡ members c t
+      → r .seen .low ≡ get t (cell (flow (lowFlow c))) → r .seen .high ≡ get t (cell (flow (highFlow c))) → Finds c i t r
+  unfolding seen pick
+  found-known r h p e m l g = record { context = rw h (λ k. record { held = e k; members = m k; low = l k; high = g k }); order = p }
+
+  pub found-none : (x : Bool) → x ≡ known c → x ≡ false → Finds c i t (record { seen = unseen; place = 0 })
+  unfolding seen placeIn pick
+  found-none x e h = record { context = rw (← e, h); order = rw (← e, h) }
+
+pub found-same : (t : List ℕ) (c d i : ℕ) (r : Found) → Finds c i t r → c ≡ d → Finds d i t r
+found-same t c d i r f e = rw e at f
+
+pub looked : (t : List ℕ) (at : Context) (i c : ℕ) (v : View) (a b : Found) → c ≡ numberOf at → v .here ≡ get t (ctx i) → Finds c i t a → Finds (v .here) i t b
+    → v .word ≡ get t (cell (prop i)) → v .free ≡ freeAt at t → v .lines ≡ fitted t → v .there ≡ a .seen → v .from ≡ b .seen → v .into ≡ a .place → v .out ≡ b .place
+    → v ≡ look at i t
+unfolding look
+looked t at i c v a b e h f g w r l p q m n =
+    let x : v .there ≡ seen (numberOf at) t = p ∙ f .context ∙ ap (λ (k : ℕ). seen k t) e in
+    let y : v .from ≡ seen (get t (ctx i)) t = q ∙ g .context ∙ ap (λ (k : ℕ). seen k t) h in
+    let z : v .into ≡ placeIn (numberOf at) i t = m ∙ f .order ∙ ap (λ (k : ℕ). placeIn k i t) e in
+    let u : v .out ≡ placeIn (get t (ctx i)) i t = n ∙ g .order ∙ ap (λ (k : ℕ). placeIn k i t) h in
+    (λ k. record { here = h k; word = w k; there = x k; from = y k; free = r k; lines = l k; into = z k; out = u k })
 
 -- ---- numbers put into a row
 

@@ -7,8 +7,10 @@ use megaco::View;
 ghost use mathlib.Core.Path.{_≡_};
 ghost use Prim.Native.Nat.{_<_};
 ghost use lib.ListN.{length};
-ghost use Rattle.megaco.specs.Table.{Sized};
-ghost use Rattle.megaco.specs.Running.{seen, numberOf, freeAt, look, wanted, matchesFrom, matches};
+ghost use mathlib.Core.Bool.{true};
+ghost use Rattle.megaco.specs.Table.{Sized, known};
+ghost use Rattle.megaco.specs.Running.{numberOf, freeAt, look, wanted, matchesFrom, matches};
+ghost use Rattle.view.specs.Sight.{Finds};
 ghost use Rattle.view.specs.Noted.{isMatch, Noted, Matched};
 
 // A context's number; null, `$` and `*` are 0.
@@ -36,22 +38,56 @@ fn free_at(table: &[u32], at: Context) -> u32
     }
 }
 
-// A context's record and how many stand in it; nothing where there can be no such context.
-fn seen(table: &[u32], c: u32) -> Seen
+// A context as it is seen, and the place of one termination among its members.
+pub struct Found {
+    pub seen: Seen,
+    pub place: usize,
+}
+
+// A context and the place of termination i in it; nothing where there can be no such context.
+fn find(table: &[u32], c: u32, i: usize) -> Found
     requires { ⌜ Sized (now table) ⌝ }
-    ensures { λ r. ⌜ r ≡ seen c (now (table .entry)) ⌝ }
+    ensures { λ r. ⌜ Finds c i (now (table .entry)) r ⌝ }
 {
-    if (0 < c) & (c <= table::CONTEXTS) {
-        Seen {
-            held: table::record_of(table, c),
-            members: table::members(table, c),
-        }
+    if table::is_known(c) {
+        find_known(table, c, i)
     } else {
-        Seen {
+        let s = Seen {
             held: 0,
             members: 0,
-        }
+            low: 0,
+            high: 0,
+        };
+        Found { seen: s, place: 0 }
     }
+}
+
+fn find_known(table: &[u32], c: u32, i: usize) -> Found
+    requires { ⌜ (Sized (now table)) × (known c ≡ true) ⌝ }
+    ensures { λ r. ⌜ Finds c i (now (table .entry)) r ⌝ }
+{
+    let n = table::count_members(table, c, i);
+    let s = Seen {
+        held: table::record_of(table, c),
+        members: n.members,
+        low: table::low_flow(table, c),
+        high: table::high_flow(table, c),
+    };
+    Found {
+        seen: s,
+        place: n.place,
+    }
+}
+
+// The same of context d, where it is not the one that was found already.
+fn find_other(table: &[u32], c: u32, found: Found, d: u32, i: usize) -> Found
+    requires { ⌜ (Sized (now table)) × (Finds c i (now table) found) ⌝ }
+    ensures { λ r. ⌜ Finds d i (now (table .entry)) r ⌝ }
+{
+    if c == d {
+        return found;
+    }
+    find(table, d, i)
 }
 
 // What an attempt sees: termination i, the action's context, and the context that i stands in.
@@ -60,18 +96,23 @@ pub fn look(table: &[u32], at: Context, i: usize) -> View
     ensures { λ r. ⌜ r ≡ look at i (now (table .entry)) ⌝ }
 {
     let here = table::context_of(table, i);
+    let c = number_of(at);
+    let there = find(table, c, i);
+    let from = find_other(table, c, there, here, i);
     let word = table::property_of(table, i);
-    let there = seen(table, number_of(at));
-    let from = seen(table, here);
     let free = free_at(table, at);
     let lines = table::lines(table);
+    let a = there.seen;
+    let b = from.seen;
     View {
         here,
         word,
-        there,
-        from,
+        there: a,
+        from: b,
         free,
         lines,
+        into: there.place,
+        out: from.place,
     }
 }
 

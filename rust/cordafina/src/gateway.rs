@@ -4,7 +4,7 @@ use crate::layout::{MID_BYTES, REPLY_BYTES};
 use crate::{answer, Refusal, Table};
 
 /// A table with the own mId and the reply buffer that its calls need: some
-/// 22,000 bytes, in place.
+/// 23,000 bytes, in place.
 #[derive(Clone)]
 pub struct Gateway {
     table: Table,

@@ -9,6 +9,8 @@ pub const CHANNELS: u32 = 31;
 pub const EPHEMERALS: usize = 64;
 /// The contexts, whatever the count of lines.
 pub const CONTEXTS: usize = 128;
+/// The most terminations of a context.
+pub const MEMBERS: usize = 8;
 /// The least length of a reply buffer; no reply is longer.
 pub const REPLY_BYTES: usize = 16_640;
 /// The least length of an output for the contexts as text; no text is longer.
@@ -46,8 +48,16 @@ pub const fn map_start(lines: u32) -> usize {
     records_start(lines) + CONTEXTS
 }
 
-/// Words of a table of so many lines: 754 for eight.
+/// Where the flows of the contexts 1 to 128 start, two words each, low half
+/// first, for so many lines: bit 8i + j is set when member i flows to member j,
+/// the members counted from 0 in ascending number.
+#[must_use]
+pub const fn flows_start(lines: u32) -> usize {
+    map_start(lines) + 2
+}
+
+/// Words of a table of so many lines: 1010 for eight.
 #[must_use]
 pub const fn table_words(lines: u32) -> usize {
-    map_start(lines) + 2
+    flows_start(lines) + 2 * CONTEXTS
 }

@@ -62,6 +62,22 @@
 //! # Ok::<(), cordafina::Refusal>(())
 //! ```
 //!
+//! Who hears whom in a context is asked by name, or read as a square of flows.
+//! Here a supervisor, `L/1/3`, listens unheard:
+//!
+//! ```
+//! # use cordafina::Termination::Line;
+//! # let mut gateway = cordafina::Gateway::new(b"[10.0.0.9]")?;
+//! gateway.answer(b"!/1 [10.0.0.1] T=7{C=${A=L/1/1,A=L/1/2,A=L/1/3}}")?;
+//! gateway.answer(b"!/1 [10.0.0.1] T=8{C=1{TP{L/1/1,L/1/3,OW,L/1/2,L/1/3,OW}}}")?;
+//! let context = gateway.table().context(1).unwrap();
+//! assert!(context.hears(Line(1, 3), Line(1, 1)));
+//! assert!(!context.hears(Line(1, 1), Line(1, 3)));
+//! assert_eq!(context.flows()[0][..3], [false, true, true]);
+//! assert_eq!(context.flows()[2][..3], [false, false, false]);
+//! # Ok::<(), cordafina::Refusal>(())
+//! ```
+//!
 //! The archive that is linked is the one that `rt staticlib cordafina` writes,
 //! or the one that the variable `CORDAFINA_LIB` names when this crate is built
 //! (from the top folder of the repository on, if the path is not absolute).
@@ -79,9 +95,11 @@ mod table;
 mod termination;
 
 pub use gateway::Gateway;
-pub use layout::{line_terminations, map_start, records_start, table_words, terminations};
-pub use layout::{CHANNELS, CONTEXTS, EPHEMERALS, MESSAGE_BYTES, MID_BYTES, MOST_LINES};
-pub use layout::{OUTPUT_BYTES, REPLY_BYTES};
+pub use layout::{
+    flows_start, line_terminations, map_start, records_start, table_words, terminations,
+};
+pub use layout::{CHANNELS, CONTEXTS, EPHEMERALS, MEMBERS, MESSAGE_BYTES, MID_BYTES};
+pub use layout::{MOST_LINES, OUTPUT_BYTES, REPLY_BYTES};
 pub use refusal::Refusal;
 pub use table::{Context, Table};
 pub use termination::{Mode, ServiceState, Termination, UnknownName};

@@ -2,13 +2,13 @@
 
 use core::{fmt, str};
 
-use crate::layout::{line_terminations, map_start, records_start, table_words, terminations};
-use crate::layout::{CONTEXTS, MOST_LINES, OUTPUT_BYTES};
+use crate::layout::{flows_start, line_terminations, map_start, records_start};
+use crate::layout::{table_words, terminations, CONTEXTS, MEMBERS, MOST_LINES, OUTPUT_BYTES};
 use crate::{contexts_word, in_use, lowest_absent, Mode, Refusal, ServiceState, Termination};
 
 /// The gateway's memory, for a count of lines: which context each termination
-/// stands in, its mode and state, and the contexts. It is always sound: made
-/// so, and calls keep it so.
+/// stands in, its mode and state, and the contexts with who hears whom in each.
+/// It is always sound: made so, and calls keep it so.
 ///
 /// ```
 /// use cordafina::{Gateway, Mode, ServiceState, Termination};
@@ -267,5 +267,34 @@ impl<'table> Context<'table> {
         (0..terminations(table.lines))
             .filter(move |&number| table.words[number] == context)
             .map(|number| Termination::at(table.lines, number))
+    }
+
+    /// Who flows to whom: `flows()[i][j]` is whether member i flows to member j,
+    /// so that j hears i, both counted from 0 in the order of
+    /// [`members`](Self::members). No member flows to itself, and none where
+    /// there is no such member.
+    #[must_use]
+    pub fn flows(&self) -> [[bool; MEMBERS]; MEMBERS] {
+        let start = flows_start(self.table.lines) + 2 * (self.number as usize - 1);
+        let [low, high] = [0, 1].map(|half| u64::from(self.table.words[start + half]));
+        let square = low | high << 32;
+        let mut flows = [[false; MEMBERS]; MEMBERS];
+        for (from, row) in flows.iter_mut().enumerate() {
+            for (to, flow) in row.iter_mut().enumerate() {
+                *flow = square >> (8 * from + to) & 1 == 1;
+            }
+        }
+        flows
+    }
+
+    /// Whether the listener hears the speaker: both are members, and the speaker
+    /// flows to the listener. None hears itself.
+    #[must_use]
+    pub fn hears(&self, listener: Termination, speaker: Termination) -> bool {
+        let place = |one| self.members().position(|member| member == one);
+        match (place(speaker), place(listener)) {
+            (Some(from), Some(to)) => self.flows()[from][to],
+            _ => false,
+        }
     }
 }

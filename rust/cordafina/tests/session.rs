@@ -1,7 +1,7 @@
 //! Document 01's session and refusals, and other counts of lines, through the
 //! archive that is linked.
 
-use cordafina::{answer, answer_word, in_use, lowest_absent};
+use cordafina::{answer, answer_word, flows_start, in_use, lowest_absent};
 use cordafina::{map_start, records_start, table_words, terminations};
 use cordafina::{Gateway, Refusal, Table, MESSAGE_BYTES, MOST_LINES, REPLY_BYTES};
 
@@ -147,7 +147,7 @@ fn tables_by_their_count() {
     }
     for lines in 1..=MOST_LINES {
         let table = Table::with_lines(lines).unwrap();
-        let words = vec![0; 2 * (31 * lines as usize + 64) + 128 + 2];
+        let words = vec![0; 2 * (31 * lines as usize + 64) + 128 + 2 + 256];
         assert_eq!((table.lines(), table.words()), (lines, &words[..]));
         assert_eq!(Table::from_words(lines, &words), Ok(table));
         let refused = Table::from_words(lines, &words[1..]);
@@ -176,6 +176,8 @@ fn every_count_of_lines() {
         words[ephemeral] = 1;
         words[records_start(lines)] = 1;
         words[map_start(lines)] = 1;
+        // Each of the two hears the other.
+        words[flows_start(lines)] = 0x0102;
         assert_eq!(gateway.table().words(), words);
         let request = format!("T=2{{C=1{{MF=*{{M{{TS{{SI=TE}}}}}},S=R/*,S=L/{lines}/*}}}}");
         let reply = format!("P=2{{C=1{{MF=L/{lines}/31,MF=R/1,S=R/1,S=L/{lines}/31}}}}");

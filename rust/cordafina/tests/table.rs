@@ -1,8 +1,8 @@
 //! What a table holds, read by name, against its words.
 
-use cordafina::{line_terminations, records_start, table_words, terminations};
+use cordafina::{flows_start, line_terminations, records_start, table_words, terminations};
 use cordafina::{Gateway, Mode, Refusal, ServiceState, Table, Termination, UnknownName};
-use cordafina::{MOST_LINES, OUTPUT_BYTES};
+use cordafina::{MEMBERS, MOST_LINES, OUTPUT_BYTES};
 
 const OWN: &[u8] = b"[10.0.0.9]";
 
@@ -88,6 +88,76 @@ fn read_by_name() {
         }
         let text = "contexts 2\n1 4 1 L/1/5 R/1\n2 15 0 L/1/31 R/3\n";
         assert_eq!(table.to_string(), text);
+    }
+}
+
+/// The names of those whom each member of a context hears, in the members'
+/// order; and that the square says the same.
+fn heard(table: &Table, context: u32) -> String {
+    let context = table.context(context).unwrap();
+    let members: Vec<_> = context.members().collect();
+    let flows = context.flows();
+    let mut heard = String::new();
+    for (to, &listener) in members.iter().enumerate() {
+        heard += &format!("{listener}:");
+        for (from, &speaker) in members.iter().enumerate() {
+            assert_eq!(flows[from][to], context.hears(listener, speaker));
+            if context.hears(listener, speaker) {
+                heard += &format!(" {speaker}");
+            }
+        }
+        heard += "\n";
+    }
+    for (from, row) in flows.iter().enumerate() {
+        for (to, &flow) in row.iter().enumerate() {
+            let places = from < members.len() && to < members.len() && from != to;
+            assert!(places || !flow, "{from} to {to}");
+        }
+    }
+    heard
+}
+
+#[test]
+fn who_hears_whom() {
+    for lines in 1..=MOST_LINES {
+        let mut requests = vec!["T=1{C=${A=L/1/1},C=${A=L/1/2,A=L/1/4}}"];
+        let all = "L/1/2: L/1/4\nL/1/4: L/1/2\n";
+        assert_eq!(heard(&after(lines, &requests), 1), "L/1/1:\n");
+        assert_eq!(heard(&after(lines, &requests), 2), all);
+        // L/1/4 hears L/1/2 and is not heard.
+        requests.push("T=2{C=2{TP{L/1/2,L/1/4,OW}}}");
+        let table = after(lines, &requests);
+        assert_eq!(heard(&table, 2), "L/1/2:\nL/1/4: L/1/2\n");
+        let context = table.context(2).unwrap();
+        let [one, two, four] = [1, 2, 4].map(|channel| Termination::Line(1, channel));
+        assert!(context.hears(four, two) && !context.hears(two, four));
+        assert!(!context.hears(two, one) && !context.hears(one, two));
+        assert!(!context.hears(two, two) && !context.hears(four, four));
+        let absent = Termination::Ephemeral(64);
+        assert!(!context.hears(two, absent) && !context.hears(absent, two));
+        // Row 0, place 1 of context 2, in the low half alone.
+        let words = &table.words()[flows_start(lines)..];
+        assert_eq!(words[..4], [0, 0, 0b10, 0]);
+        // One that joins between them is heard by both and hears both.
+        requests.push("T=3{C=2{MV=L/1/1,A=L/1/3}}");
+        let joined = "L/1/1: L/1/2 L/1/3 L/1/4\nL/1/2: L/1/1 L/1/3\n\
+                      L/1/3: L/1/1 L/1/2 L/1/4\nL/1/4: L/1/1 L/1/2 L/1/3\n";
+        assert_eq!(heard(&after(lines, &requests), 2), joined);
+        requests.push("T=4{C=2{S=L/1/3,S=L/1/1}}");
+        assert_eq!(heard(&after(lines, &requests), 2), "L/1/2:\nL/1/4: L/1/2\n");
+        // Eight of them, and the last flows to the first alone.
+        let eight = "T=1{C=${A=$,A=$,A=$,A=$,A=$,A=$,A=$,A=$}}";
+        let rows: String = (2..8).map(|n| format!(",R/8,R/{n},IS")).collect();
+        let topology = format!("T=2{{C=1{{TP{{R/8,R/1,OW{rows}}}}}}}");
+        let table = after(lines, &[eight, &topology]);
+        let flows = table.context(1).unwrap().flows();
+        assert_eq!(
+            flows[MEMBERS - 1],
+            [1, 0, 0, 0, 0, 0, 0, 0].map(|bit| bit == 1)
+        );
+        assert_eq!(flows[0], [0, 1, 1, 1, 1, 1, 1, 0].map(|bit| bit == 1));
+        assert_eq!(table.words()[flows_start(lines) + 1] >> 24, 1);
+        assert!(heard(&table, 1).ends_with("\nR/8:\n"));
     }
 }
 

@@ -3,7 +3,7 @@
 use std::collections::BTreeMap;
 use std::fmt;
 
-use reference::table::Lines;
+use reference::table::{Lines, CONTEXTS};
 use reference::{Answer, MESSAGE_BYTES, REPLY_BYTES};
 
 use crate::messages::{Scope, Writer};
@@ -353,6 +353,8 @@ pub struct Tally {
     lines: BTreeMap<u32, u64>,
     /// Calls that change the low and the high half of the map.
     map: [u64; 2],
+    /// Calls that change the flows.
+    flows: u64,
     /// Calls whose reply has the code.
     codes: BTreeMap<u32, u64>,
     /// Transactions' replies of exactly 2,048 bytes.
@@ -368,7 +370,9 @@ impl Tally {
         }
         if outcome.table() != case.table {
             *self.lines.entry(case.lines).or_default() += 1;
-            let map = case.table.len() - 2;
+            let flows = case.table.len() - 2 * CONTEXTS;
+            let map = flows - 2;
+            self.flows += u64::from(outcome.table()[flows..] != case.table[flows..]);
             for (half, changes) in self.map.iter_mut().enumerate() {
                 *changes += u64::from(outcome.table()[map + half] != case.table[map + half]);
             }
@@ -405,6 +409,9 @@ impl Tally {
         if self.map.contains(&0) {
             missing.push("a change of each half of the map".to_string());
         }
+        if self.flows == 0 {
+            missing.push("a change of the flows".to_string());
+        }
         if self.full == 0 {
             missing.push("a reply of 2,048 bytes".to_string());
         }
@@ -429,7 +436,11 @@ impl fmt::Display for Tally {
             write!(f, " {count}:{calls}")?;
         }
         let [low, high] = self.map;
-        write!(f, "; changes of the map low:{low} high:{high}; codes")?;
+        write!(
+            f,
+            "; changes of the map low:{low} high:{high}, of the flows:{}; codes",
+            self.flows
+        )?;
         for (code, calls) in &self.codes {
             write!(f, " {code}:{calls}")?;
         }

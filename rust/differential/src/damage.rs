@@ -64,9 +64,26 @@ fn flaw(numbers: &mut Numbers, message: &mut Vec<u8>) {
 /// What a hand writes that does not know the grammar well: something in a
 /// place where it must not stand.
 fn slip(numbers: &mut Numbers, message: &mut Vec<u8>) {
-    const AFTER_COMMA: [&[u8]; 14] = [
-        b"PR=3,", b"EG,", b"O-EG,", b"W-PR=1,", b"O-PR=3,", b"EG=1,", b"EG{a},", b"PR,", b"O-",
-        b"W-", b"W-O-", b"O- ", b",", b"A=$,",
+    const AFTER_COMMA: [&[u8]; 19] = [
+        b"PR=3,",
+        b"EG,",
+        b"TP{L/1/1,R/1,OW},",
+        b"TP{L/1/1,R/1},",
+        b"TP{},",
+        b"O-TP{R/1,R/2,IS},",
+        b"TP=1,",
+        b"O-EG,",
+        b"W-PR=1,",
+        b"O-PR=3,",
+        b"EG=1,",
+        b"EG{a},",
+        b"PR,",
+        b"O-",
+        b"W-",
+        b"W-O-",
+        b"O- ",
+        b",",
+        b"A=$,",
     ];
     const AFTER_EQUALS: [&[u8]; 10] = [
         b"**,A=", b"*/1,A=", b"$1,A=", b"*$,A=", b"$$,A=", b"-", b"=", b"0", b"1", b"\"\"",

@@ -129,7 +129,7 @@ fn contexts(seed: u64, count: u64) -> bool {
 
 fn pairs(seed: u64, count: u64) -> bool {
     let mut numbers = Numbers::new(seed);
-    let (mut apart, mut both_table, mut both_map) = (0, 0, 0);
+    let (mut apart, mut both_table, mut both_map, mut both_flows) = (0, 0, 0, 0);
     let (mut others, mut unlike) = (0, 0);
     while apart < count {
         let pair = Pair::new(&mut numbers);
@@ -144,6 +144,7 @@ fn pairs(seed: u64, count: u64) -> bool {
                 apart += 1;
                 both_table += u64::from(run.as_ref().is_ok_and(|both| both.table));
                 both_map += u64::from(run.as_ref().is_ok_and(|both| both.map));
+                both_flows += u64::from(run.as_ref().is_ok_and(|both| both.flows));
             }
             run => {
                 others += 1;
@@ -152,8 +153,8 @@ fn pairs(seed: u64, count: u64) -> bool {
         }
     }
     println!(
-        "seed {seed}, {apart} pairs that are apart, in {both_table} both change the table, in {both_map} the map: \
-         0 end unlike; of {others} other pairs {unlike} end unlike"
+        "seed {seed}, {apart} pairs that are apart, in {both_table} both change the table, in {both_map} the map, in \
+         {both_flows} the flows: 0 end unlike; of {others} other pairs {unlike} end unlike"
     );
     true
 }

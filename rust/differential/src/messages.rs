@@ -2,7 +2,7 @@
 //! and name, keywords long and short in any letter case, and white space in
 //! odd places.
 
-use reference::table::{write_name, write_number, Lines, CONTEXTS};
+use reference::table::{write_name, write_number, Lines, CONTEXTS, OUT_OF_SERVICE};
 
 use crate::numbers::Numbers;
 use crate::tables;
@@ -48,6 +48,9 @@ const VALUES: [Forms; 8] = [
 /// The values of Mode and of ServiceStates, as parts of `VALUES`.
 const MODES: &[Forms] = VALUES.split_at(5).0;
 const STATES: &[Forms] = VALUES.split_at(5).1;
+
+/// The directions of a triple.
+const DIRECTIONS: [Forms; 3] = [(b"Isolate", b"IS"), (b"Oneway", b"OW"), (b"Bothway", b"BW")];
 
 /// Words that stand in the wrong place now and then.
 const OTHERS: [Forms; 11] = [
@@ -359,7 +362,12 @@ impl<'a> Writer<'a> {
         self.keyword((b"Context", b"C"));
         self.sign(b'=');
         (self.context, self.null) = (0, false);
-        let context = self.numbers.pick(&self.scope.contexts);
+        let mut context = self.numbers.pick(&self.scope.contexts);
+        // Rather one in which somebody hears somebody.
+        let stands_in = self.table.iter().take(self.scope.lines.terminations());
+        if stands_in.filter(|&&word| word == context).count() < 2 {
+            context = self.numbers.pick(&self.scope.contexts);
+        }
         let absent = !tables::has_context(self.scope.lines, self.table, context);
         match self.numbers.under(32) {
             0 if !self.scope.plain => self.bytes.push(b'*'),
@@ -379,15 +387,19 @@ impl<'a> Writer<'a> {
 
     fn action(&mut self) {
         self.open_action();
-        let properties = match self.numbers.under(6) {
+        let properties = match self.numbers.under(5) {
             0 => self.numbers.within(1..=3),
             _ => 0,
         };
+        let topologies = self.numbers.one_in(3);
         for place in 0..properties {
             if place > 0 {
                 self.sign(b',');
             }
-            self.property();
+            match topologies {
+                true => self.topology(),
+                false => self.property(),
+            }
         }
         if properties == 0 || self.numbers.one_in(2) {
             if properties > 0 {
@@ -411,6 +423,9 @@ impl<'a> Writer<'a> {
 
     pub fn property(&mut self) {
         if self.numbers.one_in(3) {
+            return self.topology();
+        }
+        if self.numbers.one_in(3) {
             return self.keyword((b"Emergency", b"EG"));
         }
         let priority = match self.numbers.under(20) {
@@ -420,6 +435,53 @@ impl<'a> Writer<'a> {
         self.keyword((b"Priority", b"PR"));
         self.sign(b'=');
         self.number(priority, 5);
+    }
+
+    /// `TP{..}`, of members of the action's context for the most part.
+    fn topology(&mut self) {
+        self.keyword((b"Topology", b"TP"));
+        self.sign(b'{');
+        let triples = self.numbers.pick(&[1, 1, 2, 3, 8]);
+        let faults = self.numbers.one_in(3);
+        for place in 0..triples {
+            if place > 0 {
+                self.sign(b',');
+            }
+            self.pair(faults);
+            let direction = self.numbers.pick(&DIRECTIONS);
+            self.keyword(direction);
+        }
+        self.sign(b'}');
+    }
+
+    /// Two names and the commas behind them: two members of the action's
+    /// context, or now and then one of them or both at fault.
+    fn pair(&mut self, faults: bool) {
+        let member = self.suited(MODIFY);
+        let other = self.one_that(|writer, termination, context| {
+            context == writer.context && termination != member
+        });
+        let (foreign, second) = (self.suited(MOVE), self.numbers.one_in(2));
+        let fault = self.numbers.under(12);
+        for place in [second, !second] {
+            match fault {
+                _ if !faults => self.name(if place { member } else { other }),
+                0 if place => self.termination(MODIFY),
+                1 if place => self.name(foreign),
+                // One with another fault beside it, so that their order shows.
+                2 if place => self.name(foreign),
+                2 => {
+                    let name = self.numbers.pick(&UNKNOWN);
+                    self.letters(name);
+                }
+                3 if place => self.termination(MODIFY),
+                3 => self.name(foreign),
+                // A name twice.
+                4 => self.name(member),
+                _ => self.name(if place { member } else { other }),
+            }
+            self.sign(b',');
+        }
     }
 
     pub fn command(&mut self) {
@@ -455,6 +517,7 @@ impl<'a> Writer<'a> {
             2 => self.audit(),
             3..=9 if kind != SUBTRACT => self.media(),
             10..=24 if kind == MODIFY => self.media(),
+            10..=22 if kind == MOVE => self.media(),
             _ => {}
         }
     }
@@ -496,6 +559,19 @@ impl<'a> Writer<'a> {
                 let termination = self.suited(MODIFY);
                 self.name(termination);
             }
+            // The same, and one that is elsewhere, out of service.
+            17 if kind == MOVE => {
+                let termination = self.one_that(|writer, termination, context| {
+                    context == writer.context && writer.out_of_service(termination)
+                });
+                self.name(termination);
+            }
+            18..=23 if kind == MOVE => {
+                let termination = self.one_that(|writer, termination, context| {
+                    context != 0 && context != writer.context && writer.out_of_service(termination)
+                });
+                self.name(termination);
+            }
             _ => {
                 let termination = self.suited(kind);
                 self.name(termination);
@@ -524,19 +600,29 @@ impl<'a> Writer<'a> {
     /// one in null, Modify, Subtract and AuditValue one of the action's context,
     /// Move one of another context.
     fn suited(&mut self, kind: usize) -> usize {
-        let here = self.context;
+        self.one_that(|writer, _, context| match kind {
+            ADD => context == 0,
+            MODIFY | SUBTRACT | AUDIT_VALUE => context == writer.context,
+            _ => context != 0 && context != writer.context,
+        })
+    }
+
+    /// A termination that fits, by its number and its context, if there is one.
+    fn one_that(&mut self, fits: impl Fn(&Self, usize, u32) -> bool) -> usize {
         let start = self.numbers.under(self.scope.terminations.len());
         let (before, after) = self.scope.terminations.split_at(start);
-        let suits = |termination: &&usize| {
+        let fitting = |termination: &&usize| {
             let stands_in = self.table.get(**termination).copied().unwrap_or(0);
-            match kind {
-                ADD => stands_in == 0,
-                MODIFY | SUBTRACT | AUDIT_VALUE => stands_in == here,
-                _ => stands_in != 0 && stands_in != here,
-            }
+            fits(self, **termination, stands_in)
         };
-        let found = after.iter().chain(before).find(suits);
+        let found = after.iter().chain(before).find(fitting);
         found.copied().unwrap_or(after[0])
+    }
+
+    fn out_of_service(&self, termination: usize) -> bool {
+        let property = self.scope.lines.properties() + termination;
+        let word = self.table.get(property).copied().unwrap_or(0);
+        word / 8 == OUT_OF_SERVICE
     }
 
     // ---- items

@@ -4,7 +4,7 @@
 use std::fmt;
 
 use reference::table::{Lines, Name, CONTEXTS};
-use reference::text::{read, ContextId};
+use reference::text::{read, ContextId, Property};
 use reference::{MESSAGE_BYTES, REPLY_BYTES};
 
 use crate::calls::Call;
@@ -28,6 +28,8 @@ pub struct BothChange {
     pub table: bool,
     /// The map, whose words the ephemerals share.
     pub map: bool,
+    /// The flows.
+    pub flows: bool,
 }
 
 impl Pair {
@@ -93,10 +95,14 @@ impl Pair {
         let first = replied(&mut table, &[one])?;
         let between = table.clone();
         let second = replied(&mut table, &[two])?;
-        let map = self.lines.map();
+        let both = |part: std::ops::Range<usize>| {
+            between[part.clone()] != self.table[part.clone()]
+                && table[part.clone()] != between[part]
+        };
         let both_change = BothChange {
-            table: between != self.table && table != between,
-            map: between[map..] != self.table[map..] && table[map..] != between[map..],
+            table: both(0..self.lines.words()),
+            map: both(self.lines.map()..self.lines.flows()),
+            flows: both(self.lines.flows()..self.lines.words()),
         };
 
         let mut other = self.table.clone();
@@ -209,8 +215,18 @@ fn named(lines: Lines, transaction: &[u8]) -> Option<Named> {
             ContextId::Null => {}
             ContextId::Choose | ContextId::All => return None,
         }
-        for command in &action.commands {
-            match Name::of(lines, command.termination) {
+        // "there a name in a triple counts as written as a termination"
+        let triples = action
+            .properties
+            .iter()
+            .flat_map(|property| match property {
+                Property::Topology(triples) => &triples[..],
+                _ => &[],
+            });
+        let in_triples = triples.flat_map(|triple| triple.names);
+        let in_commands = action.commands.iter().map(|command| command.termination);
+        for name in in_triples.chain(in_commands) {
+            match Name::of(lines, name) {
                 Name::Termination(number) => named.terminations.push(number),
                 Name::Root | Name::Unknown => {}
                 _ => return None,

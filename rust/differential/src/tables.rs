@@ -66,7 +66,34 @@ pub fn sound(numbers: &mut Numbers, lines: Lines) -> Vec<u32> {
         }
     }
     set_map(lines, &mut table);
+    set_flows(numbers, lines, &mut table);
     table
+}
+
+/// Sets the flows of each context: all, none or some of those between two
+/// members.
+fn set_flows(numbers: &mut Numbers, lines: Lines, table: &mut [u32]) {
+    for context in 1..=CONTEXTS {
+        let stands_in = &table[..lines.terminations()];
+        let members = stands_in
+            .iter()
+            .filter(|&&word| word as usize == context)
+            .count();
+        let some = match numbers.under(4) {
+            0 => 0,
+            1 => numbers.word(),
+            _ => u64::MAX,
+        };
+        let mut flows = 0;
+        for from in 0..members {
+            for to in (0..members).filter(|&to| to != from) {
+                flows |= some & 1 << (8 * from + to);
+            }
+        }
+        let first = lines.flows() + 2 * (context - 1);
+        table[first] = flows as u32;
+        table[first + 1] = (flows >> 32) as u32;
+    }
 }
 
 /// A sound table on which the lowest ephemerals exist, so many that the next one
@@ -86,6 +113,7 @@ pub fn lowest(numbers: &mut Numbers, lines: Lines) -> Vec<u32> {
         table[lines.line_terminations() + missing] = 0;
     }
     set_map(lines, &mut table);
+    set_flows(numbers, lines, &mut table);
     table
 }
 
@@ -131,7 +159,7 @@ pub fn trampled(numbers: &mut Numbers, lines: Lines) -> Vec<u32> {
     let context = numbers.within(1..=CONTEXTS);
     let record = records + context - 1;
     let termination = numbers.under(lines.terminations());
-    let kind = numbers.under(16);
+    let kind = numbers.under(18);
     match kind {
         0 => {
             // One line less or more is 62 words.
@@ -180,7 +208,7 @@ pub fn trampled(numbers: &mut Numbers, lines: Lines) -> Vec<u32> {
                 false => table[ephemeral] = context as u32,
             }
         }
-        13 => table[lines.map()..].reverse(),
+        13 => table[lines.map()..lines.flows()].reverse(),
         14 => {
             let other = match numbers.under(5) {
                 0 => 0,
@@ -191,6 +219,16 @@ pub fn trampled(numbers: &mut Numbers, lines: Lines) -> Vec<u32> {
             };
             table[lines.map()] = other as u32;
             table[lines.map() + 1] = (other >> 32) as u32;
+        }
+        // "the diagonal and unused places 0"
+        16 => {
+            let first = lines.flows() + 2 * (context - 1);
+            table[first + numbers.under(2)] ^= 1 << numbers.under(32);
+        }
+        17 => {
+            let member = table[termination].max(1).min(CONTEXTS as u32) as usize;
+            let first = lines.flows() + 2 * (member - 1);
+            table[first + numbers.under(2)] ^= 1 << numbers.under(32);
         }
         // "at most 8 terminations in each non-null context"
         _ => {

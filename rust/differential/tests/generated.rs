@@ -18,9 +18,10 @@ fn counts_of_lines() {
     assert!([1, 8, 9, 16].iter().all(|&often| found[often] > 200));
     for count in 1..=16 {
         let lines = Lines::fitted(count);
-        assert_eq!(tables::lines_of(62 * count as usize + 258), lines);
+        assert_eq!(tables::lines_of(62 * count as usize + 514), lines);
     }
-    assert_eq!((tables::lines_of(752), tables::lines_of(0)), (None, None));
+    // Nor a table without the flows, or without map and flows.
+    assert_eq!([0, 752, 754].map(tables::lines_of), [None; 3]);
 }
 
 #[test]

@@ -30,8 +30,8 @@ struct Row {
     after: Vec<u32>,
 }
 
-/// A reader of the one shape of JSON that the rows have: strings without
-/// escapes, numbers, and lists of pairs, under fixed keys in a fixed order.
+/// A reader of the one shape of JSON that the rows have: strings, numbers, and
+/// lists of pairs, under fixed keys in a fixed order.
 struct Json<'a>(&'a str);
 
 impl<'a> Json<'a> {
@@ -52,12 +52,40 @@ impl<'a> Json<'a> {
         self.skip(":");
     }
 
-    fn string(&mut self) -> &'a str {
+    /// A string, with the character that each escape stands for.
+    fn string(&mut self) -> String {
         self.skip("\"");
-        let (string, rest) = self.0.split_once('"').expect("a closing quote");
-        assert!(!string.contains('\\'), "no escapes");
-        self.0 = rest;
+        let mut string = String::new();
+        let mut rest = self.0.chars();
+        loop {
+            match rest.next().expect("a closing quote") {
+                '"' => break,
+                '\\' => string.push(Self::escaped(&mut rest)),
+                plain => string.push(plain),
+            }
+        }
+        self.0 = rest.as_str();
         string
+    }
+
+    /// What an escape stands for, from behind its backslash on.
+    fn escaped(rest: &mut std::str::Chars) -> char {
+        match rest.next().expect("an escape") {
+            sign @ ('"' | '\\' | '/') => sign,
+            'b' => '\u{8}',
+            'f' => '\u{c}',
+            'n' => '\n',
+            'r' => '\r',
+            't' => '\t',
+            'u' => {
+                let digits = rest.as_str().get(..4).expect("four digits");
+                let number = u32::from_str_radix(digits, 16).expect("hex digits");
+                rest.nth(3);
+                // Half of a pair stands for no character by itself.
+                char::from_u32(number).unwrap_or(char::REPLACEMENT_CHARACTER)
+            }
+            other => panic!("no escape \\{other}"),
+        }
     }
 
     fn number<T: std::str::FromStr>(&mut self) -> T {
@@ -111,7 +139,7 @@ impl<'a> Json<'a> {
         let mut json = Json(line);
         json.skip("{");
         json.key("kind");
-        let kind = json.string().to_string();
+        let kind = json.string();
         json.skip(",");
         json.key("message");
         let message = json.hex();
@@ -165,6 +193,13 @@ impl<'a> Json<'a> {
             after,
         }
     }
+}
+
+#[test]
+fn escapes() {
+    let mut json = Json(r#" "a\"b\\n\n\u0041\u00e9/\/" ,"#);
+    assert_eq!(json.string(), "a\"b\\n\nA\u{e9}//");
+    assert_eq!(json.0, " ,");
 }
 
 /// Lets a side answer one row; gives what differs.

@@ -1,5 +1,5 @@
 //! A small Megaco (H.248.1) text gateway, in plain Rust, after document 01 and
-//! document 02's requests 10 and 5.
+//! document 02's requests 10, 5, 2 and 6.
 //!
 //! The count of lines, one message, a lent table and a lent reply buffer go in;
 //! an [`Answer`] comes out. The whole message is read to a tree before anything

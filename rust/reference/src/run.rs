@@ -5,7 +5,9 @@ use std::ops::Range;
 
 use crate::reply::Reply;
 use crate::table::{self, Name, Record, Table, Values, MEMBERS, OUT_OF_SERVICE};
-use crate::text::{keyword, Action, Command, ContextId, Item, Property, Transaction, Value};
+use crate::text::{
+    keyword, Action, Command, ContextId, Direction, Item, Property, Transaction, Triple, Value,
+};
 
 /// The commands that are built.
 #[derive(Clone, Copy, Debug, PartialEq, Eq)]
@@ -145,10 +147,14 @@ impl Runner<'_, '_> {
     /// The action errors at an action's start; then its properties are set.
     fn start(&mut self, action: &Action) -> Result<Target, Code> {
         let given = !action.properties.is_empty();
+        let topology = || action.properties.iter().filter_map(triples_of).flatten();
+        // A descriptor has a triple at least.
+        let hears = topology().next().is_some();
         let mut target = match action.context {
             ContextId::All => return Err(421),
             ContextId::Null if given => return Err(421),
-            ContextId::Choose if given && action.commands.is_empty() => return Err(421),
+            // "In `$`, `-` or `*`: 421 at its old place."
+            ContextId::Choose if given && (action.commands.is_empty() || hears) => return Err(421),
             ContextId::Null => Target::Null,
             ContextId::Choose => Target::Choose(Record::default()),
             ContextId::Number(number) => Target::Number(number),
@@ -166,12 +172,58 @@ impl Runner<'_, '_> {
             Target::Choose(record) => set_properties(record, &action.properties),
             Target::Number(number) => {
                 let context = self.table.context(*number).ok_or(411u32)?;
+                // "The triples of every TP in the action are set in order
+                // after 411, all or none."
+                let places = topology()
+                    .map(|triple| self.judge_triple(context, triple))
+                    .collect::<Result<Vec<_>, Code>>()?;
+                for ([from, to], direction) in places {
+                    let (there, back) = match direction {
+                        Direction::Isolate => (false, false),
+                        // "Oneway of A, B: A flows to B and B doesn't to A."
+                        Direction::Oneway => (true, false),
+                        Direction::Bothway => (true, true),
+                    };
+                    self.table.set_flow(context, from, to, there);
+                    self.table.set_flow(context, to, from, back);
+                }
                 let mut record = self.table.record(context);
                 set_properties(&mut record, &action.properties);
                 self.table.set_record(context, record);
             }
         }
         Ok(target)
+    }
+
+    /// The places of a triple's two members: "410 for a name twice in a triple,
+    /// one with `*` or `$`, or ROOT; 430; 435 for one not in the context".
+    fn judge_triple(
+        &self,
+        context: usize,
+        triple: &Triple,
+    ) -> Result<([usize; 2], Direction), Code> {
+        let names = triple.names.map(|name| Name::of(self.table.lines(), name));
+        let full = |name: &Name| matches!(name, Name::Termination(_) | Name::Unknown);
+        if triple.names[0].eq_ignore_ascii_case(triple.names[1]) || !names.iter().all(full) {
+            return Err(410);
+        }
+        let mut numbers = [0; 2];
+        for (number, name) in numbers.iter_mut().zip(names) {
+            match name {
+                Name::Termination(termination) if self.table.exists(termination) => {
+                    *number = termination;
+                }
+                _ => return Err(430),
+            }
+        }
+        if numbers
+            .iter()
+            .any(|&number| self.table.context_of(number) != context)
+        {
+            return Err(435);
+        }
+        let places = numbers.map(|number| self.table.place(context, number));
+        Ok((places, triple.direction))
     }
 
     /// Runs one command; `Break` ends the transaction.
@@ -393,10 +445,18 @@ fn keep<'w>(
 /// "Properties are then set, the last of a kind holding".
 fn set_properties(record: &mut Record, properties: &[Property]) {
     for property in properties {
-        match *property {
-            Property::Priority(priority) => record.priority = priority,
+        match property {
+            Property::Priority(priority) => record.priority = *priority,
             Property::Emergency => record.emergency = true,
+            Property::Topology(_) => {}
         }
+    }
+}
+
+fn triples_of<'p, 'm>(property: &'p Property<'m>) -> Option<&'p Vec<Triple<'m>>> {
+    match property {
+        Property::Topology(triples) => Some(triples),
+        _ => None,
     }
 }
 

@@ -2,10 +2,11 @@
 //!
 //! First "the context of each termination, 0 for null", then of each "its
 //! properties, mode + 8 × state", then "contexts 1..128, 0 if absent, else
-//! 1 + priority + 16 × emergency", then the map of the ephemerals. Where each
-//! part starts follows from the count of lines that are fitted; with eight of
-//! them the first three are document 01's words 0..311, 312..623 and 624..751,
-//! and the map is in words 752 and 753.
+//! 1 + priority + 16 × emergency", then the map of the ephemerals, then of each
+//! context its square of flows. Where each part starts follows from the count
+//! of lines that are fitted; with eight of them the first three are document
+//! 01's words 0..311, 312..623 and 624..751, the map is in words 752 and 753,
+//! and the flows are in words 754..1009.
 
 use std::ops::Range;
 
@@ -65,9 +66,15 @@ impl Lines {
         self.records() + CONTEXTS
     }
 
+    /// Where the flows start: "256 words at the table's end, two per context,
+    /// low half first".
+    pub const fn flows(self) -> usize {
+        self.map() + 2
+    }
+
     /// The words of a table.
     pub const fn words(self) -> usize {
-        self.map() + 2
+        self.flows() + 2 * CONTEXTS
     }
 }
 
@@ -110,9 +117,28 @@ pub struct Table<'t> {
     ephemerals: u64,
 }
 
-/// The two words of a map.
+/// The two words of a map, or of a square.
 fn halves(map: u64) -> [u32; 2] {
     [map as u32, (map >> 32) as u32]
+}
+
+/// "bit 8i + j set when member i flows to member j, both from 0"
+fn flow(from: usize, to: usize) -> u64 {
+    1 << (8 * from + to)
+}
+
+/// The square of so many members in which the flows are those that the test
+/// tells; "the diagonal and unused places 0".
+fn square(members: usize, flows: impl Fn(usize, usize) -> bool) -> u64 {
+    let mut all = 0;
+    for from in 0..members {
+        for to in (0..members).filter(|&to| to != from) {
+            if flows(from, to) {
+                all |= flow(from, to);
+            }
+        }
+    }
+    all
 }
 
 impl<'t> Table<'t> {
@@ -127,7 +153,8 @@ impl<'t> Table<'t> {
 
         let (stands_in, rest) = words.split_at(lines.properties());
         let (properties, rest) = rest.split_at(lines.terminations());
-        let (records, map) = rest.split_at(CONTEXTS);
+        let (records, rest) = rest.split_at(CONTEXTS);
+        let (map, squares) = rest.split_at(2);
         for (termination, (&context, &property)) in stands_in.iter().zip(properties).enumerate() {
             // "each context word at most 128"
             *members.get_mut(context as usize)? += 1;
@@ -151,6 +178,11 @@ impl<'t> Table<'t> {
                 return None;
             }
             contexts |= u128::from(count != 0) << place;
+            // "the diagonal and unused places 0"
+            let held = u64::from(squares[2 * place]) | u64::from(squares[2 * place + 1]) << 32;
+            if held & !square(usize::from(count), |_, _| true) != 0 {
+                return None;
+            }
         }
         // "2 also when map and words disagree"
         if map != halves(ephemerals) {
@@ -222,6 +254,15 @@ impl<'t> Table<'t> {
     /// Puts a termination that stands in null into a context; an ephemeral
     /// comes to be by it.
     pub fn enter(&mut self, termination: usize, context: usize) {
+        // "a termination that joins is bothway with every other"
+        let (held, own) = (self.square(context), self.place(context, termination));
+        let before = |place: usize| place - usize::from(place > own);
+        self.set_square(
+            context,
+            square(usize::from(self.members[context]) + 1, |from, to| {
+                from == own || to == own || held & flow(before(from), before(to)) != 0
+            }),
+        );
         self.words[termination] = context as u32;
         self.members[0] -= 1;
         self.members[context] += 1;
@@ -236,6 +277,15 @@ impl<'t> Table<'t> {
     /// properties are free again."
     pub fn leave(&mut self, termination: usize) {
         let context = self.context_of(termination);
+        // "one that leaves takes its pairs with it"
+        let (held, own) = (self.square(context), self.place(context, termination));
+        let before = |place: usize| place + usize::from(place >= own);
+        self.set_square(
+            context,
+            square(usize::from(self.members[context]) - 1, |from, to| {
+                held & flow(before(from), before(to)) != 0
+            }),
+        );
         self.words[termination] = 0;
         self.members[0] += 1;
         self.members[context] -= 1;
@@ -256,7 +306,31 @@ impl<'t> Table<'t> {
 
     fn set_map(&mut self, map: u64) {
         self.ephemerals = map;
-        self.words[self.lines.map()..].copy_from_slice(&halves(map));
+        self.words[self.lines.map()..][..2].copy_from_slice(&halves(map));
+    }
+
+    /// "its places being the members in ascending number": how many members of
+    /// a context have a lower number.
+    pub fn place(&self, context: usize, termination: usize) -> usize {
+        let lower = self.words[..termination].iter();
+        lower.filter(|&&word| word as usize == context).count()
+    }
+
+    fn square(&self, context: usize) -> u64 {
+        let first = self.lines.flows() + 2 * (context - 1);
+        u64::from(self.words[first]) | u64::from(self.words[first + 1]) << 32
+    }
+
+    fn set_square(&mut self, context: usize, square: u64) {
+        let first = self.lines.flows() + 2 * (context - 1);
+        self.words[first..][..2].copy_from_slice(&halves(square));
+    }
+
+    /// Sets whether the member at one place of a context flows to the one at
+    /// another.
+    pub fn set_flow(&mut self, context: usize, from: usize, to: usize, flows: bool) {
+        let held = self.square(context) & !flow(from, to);
+        self.set_square(context, held | if flows { flow(from, to) } else { 0 });
     }
 
     /// The service state held.

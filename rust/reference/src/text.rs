@@ -14,7 +14,7 @@ pub struct Transaction<'m> {
 #[derive(Debug)]
 pub struct Action<'m> {
     pub context: ContextId,
-    pub properties: Vec<Property>,
+    pub properties: Vec<Property<'m>>,
     pub commands: Vec<Command<'m>>,
 }
 
@@ -30,10 +30,40 @@ pub enum ContextId {
 }
 
 /// A property of a context.
-#[derive(Clone, Copy, Debug, PartialEq, Eq)]
-pub enum Property {
+#[derive(Clone, Debug, PartialEq, Eq)]
+pub enum Property<'m> {
     Priority(u32),
     Emergency,
+    /// `TP{..}`
+    Topology(Vec<Triple<'m>>),
+}
+
+/// "triples of two full names and Isolate/IS, Oneway/OW, Bothway/BW"
+#[derive(Clone, Copy, Debug, PartialEq, Eq)]
+pub struct Triple<'m> {
+    pub names: [&'m [u8]; 2],
+    pub direction: Direction,
+}
+
+#[derive(Clone, Copy, Debug, PartialEq, Eq)]
+pub enum Direction {
+    Isolate,
+    Oneway,
+    Bothway,
+}
+
+impl Direction {
+    fn of(word: &[u8]) -> Option<Self> {
+        if keyword(word, b"Isolate", b"IS") {
+            Some(Direction::Isolate)
+        } else if keyword(word, b"Oneway", b"OW") {
+            Some(Direction::Oneway)
+        } else if keyword(word, b"Bothway", b"BW") {
+            Some(Direction::Bothway)
+        } else {
+            None
+        }
+    }
 }
 
 /// "optional `O-`, optional `W-`, word `=` termination, optional `{` items `}`"
@@ -471,8 +501,8 @@ impl<'m> Reader<'m> {
     }
 
     /// The property that `word` begins, if it begins one: "PR `=` 1 to 5
-    /// digits; EG".
-    fn property(&mut self, word: &[u8]) -> Reads<Option<Property>> {
+    /// digits; EG", and TP with its triples in braces.
+    fn property(&mut self, word: &[u8]) -> Reads<Option<Property<'m>>> {
         if keyword(word, b"Priority", b"PR") {
             self.equals()?;
             // Five digits fit.
@@ -480,9 +510,40 @@ impl<'m> Reader<'m> {
             Ok(Some(Property::Priority(priority)))
         } else if keyword(word, b"Emergency", b"EG") {
             Ok(Some(Property::Emergency))
+        } else if keyword(word, b"Topology", b"TP") {
+            self.open()?;
+            Ok(Some(Property::Topology(self.triples()?)))
         } else {
             Ok(None)
         }
+    }
+
+    /// One triple or more, joined by commas, through the closing brace.
+    fn triples(&mut self) -> Reads<Vec<Triple<'m>>> {
+        let mut triples = Vec::new();
+        loop {
+            self.white()?;
+            let first = self.termination()?;
+            self.comma()?;
+            let second = self.termination()?;
+            self.comma()?;
+            let direction = Direction::of(self.word()?).ok_or(Broken)?;
+            triples.push(Triple {
+                names: [first, second],
+                direction,
+            });
+            if !self.another()? {
+                return Ok(triples);
+            }
+        }
+    }
+
+    /// `,` with the white space on both sides.
+    fn comma(&mut self) -> Reads<()> {
+        self.white()?;
+        self.expect(b',')?;
+        self.white()?;
+        Ok(())
     }
 
     /// "optional `{` items `}`", with so many levels left; empty without braces.

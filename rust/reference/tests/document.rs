@@ -38,12 +38,12 @@ fn inside_on(lines: u32, request: &str, table: &mut [u32]) -> String {
 }
 
 fn fresh(request: &str) -> String {
-    inside(request, &mut [0; 754])
+    inside(request, &mut [0; 1010])
 }
 
 /// From a table with L/1/1 alone in context 1.
 fn context_1(request: &str) -> String {
-    let mut table = [0; 754];
+    let mut table = [0; 1010];
     inside("T=1{C=${A=L/1/1}}", &mut table);
     inside(request, &mut table)
 }
@@ -75,14 +75,14 @@ fn words_of(table: &[u32]) -> Vec<(usize, u32)> {
 #[test]
 fn session() {
     let after: [&[(usize, u32)]; 6] = [
-        &[(4, 1), (248, 1), (624, 1), (752, 1)],
-        &[(4, 1), (248, 1), (624, 1), (752, 1)],
+        &[(4, 1), (248, 1), (624, 1), (752, 1), (754, 258)],
+        &[(4, 1), (248, 1), (624, 1), (752, 1), (754, 258)],
         &[(4, 2), (248, 1), (624, 1), (625, 1), (752, 1)],
         &[(4, 2), (625, 1)],
         &[(4, 2), (316, 3), (625, 1)],
         &[(4, 2), (316, 3), (625, 1)],
     ];
-    let mut table = [0; 754];
+    let mut table = [0; 1010];
     for ((request, reply), after) in SESSION.iter().zip(after) {
         assert_eq!(inside(request, &mut table), *reply);
         assert_eq!(words_of(&table), after);
@@ -150,9 +150,9 @@ fn short_cases() {
         ("T=1{C=${A=R/1}}", "P=1{C=${A=R/1{ER=430{}}}}"),
         ("T=1{C=-{MF=*}}", "P=1{ER=533{}}"),
     ] {
-        let mut table = [0; 754];
+        let mut table = [0; 1010];
         assert_eq!(inside(request, &mut table), reply, "{request}");
-        assert_eq!(table, [0; 754], "{request}");
+        assert_eq!(table, [0; 1010], "{request}");
     }
 }
 
@@ -161,7 +161,7 @@ fn turned_down() {
     let message = b"!/1 [10.0.0.1] T=7{C=${A=L/1/5,A=$}}";
     let long = [b' '; 4_097];
     let own_65 = [b'a'; 65];
-    let sound = [0; 754];
+    let sound = [0; 1010];
     let mut unsound = sound;
     unsound[751] = 1;
     for (message, words, own, length, expected) in [
@@ -193,20 +193,20 @@ fn turned_down() {
     assert_eq!(Answer::LinesUnfit.number(), 8);
     // A longer buffer, and an own mId of just 64 bytes, are fine.
     let mut reply = vec![FILL; 20_000];
-    let taken = answer(8, message, &mut [0; 754], &own_65[..64], &mut reply);
+    let taken = answer(8, message, &mut [0; 1010], &own_65[..64], &mut reply);
     assert_eq!(taken, Answer::Taken(4 + 64 + 1 + 23));
 }
 
 #[test]
 fn tables_not_sound() {
     // A sound one: L/1/1 and R/1 in context 3, priority 15 and emergency.
-    let mut sound = [0; 754];
+    let mut sound = [0; 1010];
     sound[0] = 3;
     sound[248] = 3;
     sound[626] = 32;
     sound[312] = 20;
     sound[752] = 1;
-    let taken = |table: &[u32; 754]| {
+    let taken = |table: &[u32; 1010]| {
         let mut reply = vec![FILL; 16_640];
         let got = answer(8, b"x", &mut table.clone(), OWN, &mut reply);
         got != Answer::TableUnsound
@@ -269,7 +269,7 @@ fn headers() {
         ("! /1 [1.1.1.1] T=1{C=-{MF=ROOT}}", "ER=400{}"),
         ("!", "ER=400{}"),
     ] {
-        let mut table = [0; 754];
+        let mut table = [0; 1010];
         assert_eq!(whole(message.as_bytes(), &mut table), reply, "{message:?}");
     }
 }
@@ -369,9 +369,9 @@ fn boundaries() {
 fn message_of_4096() {
     let mut message = format!("{HEADER_IN}T=1{{C=${{A=$}}}}").into_bytes();
     message.resize(4_096, b' ');
-    assert_eq!(whole(&message, &mut [0; 754]), "P=1{C=1{A=R/1}}");
+    assert_eq!(whole(&message, &mut [0; 1010]), "P=1{C=1{A=R/1}}");
     message.push(b' ');
-    let refused = answer(8, &message, &mut [0; 754], OWN, &mut [0; 16_640]);
+    let refused = answer(8, &message, &mut [0; 1010], OWN, &mut [0; 16_640]);
     assert_eq!(refused, Answer::MessageUnfit);
 }
 
@@ -412,7 +412,7 @@ fn out_of_service_does_not_move() {
     let request = "T=1{C=${A=L/1/1{M{TS{SI=OS}}}},C=${A=L/1/2},C=-{MF=L/1/3{M{TS{SI=OS}}}}}\
                    T=2{C=1{O-MV=L/1/3,O-MV=L/1/1},C=${O-MV=*,O-MV=L/1/1{M{TS{SI=IV}}},PR=1}}";
     assert_eq!(fresh(request), "P=2{ER=403{}}");
-    let mut table = [0; 754];
+    let mut table = [0; 1010];
     assert_eq!(
         inside(&request.replace(",PR=1", ""), &mut table),
         "P=1{C=1{A=L/1/1},C=2{A=L/1/2},C=-{MF=L/1/3}}\
@@ -438,7 +438,7 @@ fn out_of_service_does_not_move() {
 
 #[test]
 fn out_of_service_before_no_context_and_no_room() {
-    let mut table = [0; 754];
+    let mut table = [0; 1010];
     for place in 0..128 {
         (table[place], table[624 + place]) = (place as u32 + 1, 1);
     }
@@ -456,7 +456,7 @@ fn out_of_service_before_no_context_and_no_room() {
 
 #[test]
 fn subtracted_line_keeps_its_state() {
-    let mut table = [0; 754];
+    let mut table = [0; 1010];
     let request = "T=1{C=${A=L/1/1{M{TS{SI=te},O{mode=LoopBack}}},A=$,S=L/1/1}}";
     assert_eq!(
         inside(request, &mut table),
@@ -468,7 +468,7 @@ fn subtracted_line_keeps_its_state() {
 #[test]
 fn no_context_left() {
     // Contexts 1..128, each with one line termination; no ephemeral.
-    let mut table = [0; 754];
+    let mut table = [0; 1010];
     for context in 1..=128 {
         table[context as usize - 1] = context;
         table[623 + context as usize] = 1;
@@ -487,10 +487,10 @@ fn no_context_left() {
 
 /// The count, the words of its table, and where properties and records start.
 const SIZES: [(u32, usize, usize, usize); 4] = [
-    (1, 320, 95, 190),
-    (8, 754, 312, 624),
-    (9, 816, 343, 686),
-    (16, 1_250, 560, 1_120),
+    (1, 576, 95, 190),
+    (8, 1_010, 312, 624),
+    (9, 1_072, 343, 686),
+    (16, 1_506, 560, 1_120),
 ];
 
 #[test]
@@ -514,7 +514,7 @@ fn sizes_follow_from_the_count() {
 fn count_outside_1_to_16() {
     // "8 for a count outside 1..16, before 3": nothing else is right either.
     for count in [0, 17, 18, 255, 256, 264, 65_544, 1 << 31, u32::MAX] {
-        for (words, length) in [(0, 0), (754, 16_640), (1_312, 16_640)] {
+        for (words, length) in [(0, 0), (1010, 16_640), (1_312, 16_640)] {
             let mut table = vec![7; words];
             let mut reply = vec![FILL; length];
             let got = answer(count, b"", &mut table, b"", &mut reply);
@@ -604,6 +604,7 @@ fn other_counts() {
             (properties + ephemeral, 3),
             (records, 1),
             (records + 128, 1),
+            (records + 130, 258),
         ];
         assert_eq!(words_of(&table), after);
         let request = format!("T=2{{C=1{{S=L/{count}/*,S=R/*}}}}");
@@ -612,13 +613,13 @@ fn other_counts() {
         assert_eq!(words_of(&table), []);
     }
     // The session has the same replies on sixteen lines.
-    let mut table = vec![0; 1_250];
+    let mut table = vec![0; 1_506];
     for (request, reply) in SESSION {
         assert_eq!(inside_on(16, request, &mut table), reply);
     }
     assert_eq!(words_of(&table), [(4, 2), (564, 3), (1_121, 1)]);
     // One line has 64 ephemerals too.
-    let mut table = vec![0; 320];
+    let mut table = vec![0; 576];
     for context in 1..=8 {
         let reply = inside_on(1, "T=1{C=${A=$,A=$,A=$,A=$,A=$,A=$,A=$,A=$}}", &mut table);
         assert!(
@@ -635,7 +636,7 @@ fn other_counts() {
         ]
         .concat()
     );
-    assert_eq!(table[318..], [u32::MAX; 2]);
+    assert_eq!(table[318..320], [u32::MAX; 2]);
     assert_eq!(
         inside_on(1, "T=1{C=${A=$}}", &mut table),
         "P=1{C=${A=${ER=432{}}}}"
@@ -645,14 +646,15 @@ fn other_counts() {
 #[test]
 fn map_of_the_ephemerals() {
     // All 64; then one at a time goes and comes back as the lowest absent one.
-    for (count, words, ..) in SIZES {
+    for (count, words, _, records) in SIZES {
+        let map = records + 128..records + 130;
         let mut table = vec![0; words];
         for _ in 1..=8 {
             let request = "T=1{C=${A=$,A=$,A=$,A=$,A=$,A=$,A=$,A=$}}";
             inside_on(count, request, &mut table);
         }
         let full = table.clone();
-        assert_eq!(full[words - 2..], [u32::MAX; 2]);
+        assert_eq!(full[map.clone()], [u32::MAX; 2]);
         for (number, low, high) in [
             (1, !1, !0),
             (31, !(1 << 30), !0),
@@ -663,7 +665,7 @@ fn map_of_the_ephemerals() {
             let context = (number - 1) / 8 + 1;
             let request = format!("T=1{{C={context}{{S=r/{number}}}}}");
             inside_on(count, &request, &mut table);
-            assert_eq!(table[words - 2..], [low, high]);
+            assert_eq!(table[map.clone()], [low, high]);
             let request = format!("T=1{{C={context}{{A=$}}}}");
             let reply = format!("P=1{{C={context}{{A=R/{number}}}}}");
             assert_eq!(inside_on(count, &request, &mut table), reply);
@@ -671,16 +673,136 @@ fn map_of_the_ephemerals() {
         }
         // A Move changes no place of it.
         inside_on(count, "T=1{C=${MV=R/33,MV=R/1}}", &mut table);
-        assert_eq!(table[words - 2..], [u32::MAX; 2]);
+        assert_eq!(table[map.clone()], [u32::MAX; 2]);
         // Halves that are exchanged are unsound.
         inside_on(count, "T=1{C=1{S=*}}", &mut table);
-        let [low, high] = table[words - 2..] else {
+        let [low, high] = table[map.clone()] else {
             panic!("two words");
         };
         assert_eq!((low, high), (0xFFFF_FF01, u32::MAX));
-        table[words - 2..].reverse();
+        table[map.clone()].reverse();
         let got = answer(count, b"x", &mut table, OWN, &mut [0; 16_640]);
         assert_eq!(got, Answer::TableUnsound);
+    }
+}
+
+/// The flows of context 1 on eight lines: bit 8i + j, low half first.
+fn flows(table: &[u32; 1010]) -> u64 {
+    u64::from(table[754]) | u64::from(table[755]) << 32
+}
+
+/// Member i to member j for each pair given.
+fn pairs(all: &[(u32, u32)]) -> u64 {
+    all.iter()
+        .fold(0, |flows, (from, to)| flows | 1 << (8 * from + to))
+}
+
+#[test]
+fn figure_7() {
+    let mut table = [0; 1010];
+    inside("T=1{C=${A=L/1/1,A=L/1/2,A=L/1/3}}", &mut table);
+    let all = pairs(&[(0, 1), (1, 0), (0, 2), (2, 0), (1, 2), (2, 1)]);
+    assert_eq!(flows(&table), all);
+    let (t1, t2, t3) = ("L/1/1", "L/1/2", "L/1/3");
+    for (first, second, direction, left) in [
+        (t1, t2, "Isolate", pairs(&[(0, 2), (2, 0), (1, 2), (2, 1)])),
+        (t3, t2, "OW", pairs(&[(0, 2), (2, 0), (2, 1)])),
+        (t2, t3, "oneway", pairs(&[(0, 2), (2, 0), (1, 2)])),
+        (t2, t3, "BW", pairs(&[(0, 2), (2, 0), (1, 2), (2, 1)])),
+        (t1, t2, "bothway", all),
+    ] {
+        let request = format!("T=2{{C=1{{TP{{{first},{second},{direction}}}}}}}");
+        assert_eq!(inside(&request, &mut table), "P=2{C=1{PR=0}}");
+        assert_eq!(flows(&table), left, "{request}");
+    }
+}
+
+#[test]
+fn topology() {
+    // L/1/1 and R/1 in context 1, L/2/1 alone in context 2.
+    let mut start = [0; 1010];
+    inside("T=1{C=${A=L/1/1,A=$},C=${A=L/2/1}}", &mut start);
+    for (request, reply) in [
+        ("C=1{TP{L/1/1,R/1,OW}}", "C=1{PR=0}"),
+        ("C=1{tp { l/1/1 ,;c\nr/1 , Oneway } , EG}", "C=1{PR=0,EG}"),
+        (
+            "C=1{TP{L/1/1,R/1,OW,R/1,L/1/1,IS},TP{L/1/1,R/1,BW}}",
+            "C=1{PR=0}",
+        ),
+        ("C=1{TP{L/1/1,R/1,IS},MF=R/1}", "C=1{MF=R/1}"),
+        ("C=1{TP{foo,FOO,IS}}", "C=1{ER=410{}}"),
+        ("C=1{TP{L/1/1,l/1/1,IS}}", "C=1{ER=410{}}"),
+        ("C=1{TP{L/1/1,*,IS}}", "C=1{ER=410{}}"),
+        ("C=1{TP{R/9,R/$,IS}}", "C=1{ER=410{}}"),
+        ("C=1{TP{root,R/9,IS}}", "C=1{ER=410{}}"),
+        ("C=1{TP{L/1/1,L/01/1,IS}}", "C=1{ER=430{}}"),
+        ("C=1{PR=3,TP{L/2/1,R/9,IS}}", "C=1{ER=430{}}"),
+        (
+            "C=1{TP{L/1/1,R/1,OW,L/1/1,L/2/1,IS,foo,foo,IS}}",
+            "C=1{ER=435{}}",
+        ),
+        ("C=1{TP{L/1/1,L/1/2,IS},A=L/1/2}", "C=1{ER=435{}}"),
+        ("C=1{PR=16,TP{foo,foo,IS}}", "C=1{ER=449{}}"),
+        ("C=9{TP{a,a,IS}}", "C=9{ER=411{}}"),
+        ("C=${TP{L/1/1,R/1,IS},A=$}", "C=${ER=421{}}"),
+        ("C=-{TP{L/1/1,R/1,IS}}", "C=-{ER=421{}}"),
+        ("C=*{TP{L/1/1,R/1,IS}}", "C=*{ER=421{}}"),
+    ] {
+        let mut table = start;
+        let got = inside(&format!("T=1{{{request}}}"), &mut table);
+        assert_eq!(got, format!("P=1{{{reply}}}"), "{request}");
+        if reply.contains("ER=") {
+            assert_eq!(table, start, "{request}");
+        }
+    }
+    for request in [
+        "C=1{TP{L/1/1,R/1,XX}}",
+        "C=1{TP{L/1/1,R/1}}",
+        "C=1{TP{}}",
+        "C=1{TP=1}",
+        "C=1{TP}",
+        "C=1{O-TP{L/1/1,R/1,IS}}",
+        "C=1{MF=R/1,TP{L/1/1,R/1,IS}}",
+        "C=1{TP{L/1/1,R/1,IS,}}",
+    ] {
+        let got = inside(&format!("T=1{{{request}}}"), &mut start.clone());
+        assert_eq!(got, "P=1{ER=403{}}", "{request}");
+    }
+    // Places move with the members' order; a pair that is named stays.
+    let mut table = start;
+    inside("T=1{C=1{TP{R/1,L/1/1,OW}}}", &mut table);
+    assert_eq!(flows(&table), pairs(&[(1, 0)]));
+    inside("T=1{C=1{A=L/8/31}}", &mut table);
+    assert_eq!(
+        flows(&table),
+        pairs(&[(2, 0), (0, 1), (1, 0), (1, 2), (2, 1)])
+    );
+    inside("T=1{C=1{S=L/1/1}}", &mut table);
+    assert_eq!(flows(&table), pairs(&[(0, 1), (1, 0)]));
+    inside("T=1{C=2{MV=R/1}}", &mut table);
+    assert_eq!(flows(&table), 0);
+    assert_eq!(table[756], 258);
+}
+
+#[test]
+fn flows_not_sound() {
+    // Three members: any flow between two of them is sound, no other is.
+    let mut sound = [0; 1010];
+    inside("T=1{C=${A=L/1/1,A=L/1/2,A=L/1/3}}", &mut sound);
+    for bit in 0..64 {
+        let mut table = sound;
+        table[754 + bit / 32] ^= 1 << (bit % 32);
+        let (from, to) = (bit / 8, bit % 8);
+        let got = answer(8, b"x", &mut table, OWN, &mut [0; 16_640]);
+        let fits = from < 3 && to < 3 && from != to;
+        assert_eq!(got != Answer::TableUnsound, fits, "{bit}");
+    }
+    // An absent context has none.
+    for place in 756..1010 {
+        let mut table = sound;
+        table[place] = 2;
+        let got = answer(8, b"x", &mut table, OWN, &mut [0; 16_640]);
+        assert_eq!(got, Answer::TableUnsound, "{place}");
     }
 }
 
@@ -746,7 +868,7 @@ fn line_noise() {
         "\u{7f}",
     ];
     let mut numbers = Numbers(0x9E37_79B9_7F4A_7C15);
-    let mut table = [0; 754];
+    let mut table = [0; 1010];
     for round in 0..20_000 {
         let mut message = b"!/1 [1.2.3.4] T=5{C=${A=$".to_vec();
         for _ in 0..numbers.next(12) {
@@ -762,7 +884,7 @@ fn line_noise() {
         let sound = answer(8, b"x", &mut table, OWN, &mut [0; 16_640]);
         assert_ne!(sound, Answer::TableUnsound);
         if round % 64 == 0 {
-            table = [0; 754];
+            table = [0; 1010];
         }
     }
 }

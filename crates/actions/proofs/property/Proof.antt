@@ -14,5 +14,8 @@ property-spec =
     (λ c. unfold propertyAt in search parts depth 9)
     (λ c κs. search needs)
     (λ c κs. search needs)
+    (λ c. unfold propertyAt in search parts depth 9)
+    (λ c κs. search needs)
+    (λ c κs. search needs)
     (λ c κs. search needs)
     (λ c. unfold propertyAt in search parts depth 9))

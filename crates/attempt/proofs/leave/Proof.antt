@@ -1,5 +1,5 @@
-use borrow.Author.Needs.{needs}
 use Rattle.attempt.proofs.ChangeLaws.{leave-yes, leave-no}
+use borrow.Author.Needs.{needs}
 use Rattle.attempt.proofs.leave.Statement.{statement}
 use Rattle.attempt.proofs.leave.Tie as tie
 
@@ -7,7 +7,10 @@ pub leave-spec : {M : Type 1} → statement M
 leave-spec =
     tie.close
     (tie.spec
-    (λ c κs. search needs)
-    (λ c. search needs)
-    (λ c. search leave-yes)
-    (λ c. search leave-no))
+      (λ c κs. search needs)
+      (λ c κs. search needs)
+      (λ c κs. search needs)
+      (λ c. search needs)
+      (λ c. search leave-yes)
+      (λ c. search needs)
+      (λ c. search leave-no))

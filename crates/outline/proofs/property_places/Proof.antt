@@ -1,4 +1,4 @@
-use Rattle.outline.proofs.OutlineLaws.{emergency-found, priority-found}
+use Rattle.outline.proofs.OutlineLaws.{emergency-found, topology-found, priority-found}
 use borrow.Author.Needs.{needs}
 use Rattle.outline.proofs.property_places.Statement.{statement}
 use Rattle.outline.proofs.property_places.Tie as tie
@@ -11,6 +11,9 @@ property-places-spec =
     (λ c κs. search needs)
     (λ c κs. search needs)
     (λ c. search emergency-found)
+    (λ c κs. search needs)
+    (λ c κs. search needs)
+    (λ c. search topology-found)
     (λ c κs. search needs)
     (λ c κs. search needs)
     (λ c κs. search needs)

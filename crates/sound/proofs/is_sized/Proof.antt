@@ -12,4 +12,5 @@ is-sized-spec =
     (λ c. search needs)
     (λ c. search needs)
     (λ c. search needs)
+    (λ c. search needs)
     (λ c. search sized-by))

@@ -1,5 +1,5 @@
+use Rattle.starts.proofs.StartLaws.{over-priority, over-emergency, over-topology}
 use borrow.Author.Needs.{needs}
-use Rattle.starts.proofs.StartLaws.{over-priority, over-emergency}
 use Rattle.starts.proofs.is_over.Statement.{statement}
 use Rattle.starts.proofs.is_over.Tie as tie
 
@@ -9,5 +9,7 @@ is-over-spec =
     (tie.spec
     (λ c. search needs)
     (λ c. search needs)
+    (λ c. search needs)
     (λ c. search over-priority)
-    (λ c. search over-emergency))
+    (λ c. search over-emergency)
+    (λ c. search over-topology))

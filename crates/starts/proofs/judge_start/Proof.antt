@@ -1,7 +1,6 @@
-use borrow.Author.Needs.{needs}
 use mathlib.Core.Path.{refl}
-use Rattle.attempt.proofs.JudgeLaws.{fails-here, next-test, no-test}
-use Rattle.starts.proofs.StartLaws.{test-null, test-numbered, test-choose, test-all}
+use Rattle.starts.proofs.StartLaws.{test-null, test-numbered, test-choose, test-all, here, not-here}
+use borrow.Author.Needs.{needs}
 use Rattle.starts.proofs.judge_start.Statement.{statement}
 use Rattle.starts.proofs.judge_start.Tie as tie
 
@@ -10,15 +9,15 @@ judge-start-spec =
     tie.close
     (tie.spec
     (λ c. search needs)
-    (λ c. search (test-null, fails-here, next-test, no-test))
+    (λ c. search (test-null, here, not-here))
     (λ c. search needs)
-    (λ c. search (test-numbered, fails-here, next-test, no-test))
-    (λ c. search (test-numbered, fails-here, next-test, no-test))
+    (λ c. search (test-numbered, here, not-here))
+    (λ c. search (test-numbered, here, not-here))
     (λ c. search needs)
-    (λ c. search (test-choose, fails-here, next-test, no-test))
-    (λ c. search (test-choose, fails-here, next-test, no-test))
+    (λ c. search (test-choose, here, not-here))
+    (λ c. search (test-choose, here, not-here))
     (λ c. search needs)
-    (λ c. search (test-null, fails-here, next-test, no-test))
-    (λ c. search (test-numbered, fails-here, next-test, no-test))
-    (λ c. search (test-choose, fails-here, next-test, no-test))
+    (λ c. search (test-null, here, not-here))
+    (λ c. search (test-numbered, here, not-here))
+    (λ c. search (test-choose, here, not-here))
     (λ c. search test-all))

@@ -1,7 +1,7 @@
-use borrow.Author.Needs.{needs}
 use native.Mathlib.Omega.{arith}
 use Prim.Native.Nat.{_≤_}
-use Rattle.starts.proofs.StartLaws.{priority-small, set-priority, priority-fits, set-emergency}
+use Rattle.starts.proofs.StartLaws.{priority-small, set-priority, priority-fits, set-emergency, set-topology}
+use borrow.Author.Needs.{needs}
 use Rattle.starts.proofs.set_one.Statement.{statement}
 use Rattle.starts.proofs.set_one.Tie as tie
 
@@ -18,5 +18,7 @@ set-one-spec =
     (λ c κs. search needs)
     (λ c. search needs)
     (λ c. search needs)
+    (λ c. search needs)
     (λ c. (search set-priority, search priority-fits))
-    (λ c. (search set-emergency, search needs)))
+    (λ c. (search set-emergency, search needs))
+    (λ c. (search set-topology, search needs)))

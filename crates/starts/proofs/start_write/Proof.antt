@@ -1,5 +1,5 @@
-use borrow.Author.Needs.{needs}
 use Rattle.starts.proofs.StartLaws.{wrote-null, wrote-choose, wrote-all, wrote-record, wrote-none}
+use borrow.Author.Needs.{needs}
 use Rattle.starts.proofs.start_write.Statement.{statement}
 use Rattle.starts.proofs.start_write.Tie as tie
 

@@ -9,4 +9,5 @@ is-property-spec =
     (tie.spec
     (λ c κs. search needs)
     (λ c κs. search needs)
-    (λ c. unfold isProperty in rw (c .before .spells .ensures, c .spells2 .ensures)))
+    (λ c κs. search needs)
+    (λ c. unfold isProperty in rw (c .before .before .spells .ensures, c .before .spells2 .ensures, c .spells3 .ensures)))

@@ -26,4 +26,5 @@ letters-8-spec =
     (λ c κs. unfold tokenAt formsOf longOf in refl)
     (λ c κs. search needs)
     (λ c. rw (letters-8-is _) (search (pick-yes-by, pick-no-by) depth 20))
-    (λ c. unfold told in rw (letters-8-is _) (search (pick-yes-by, pick-no-by) depth 20)))
+    (λ c κs. search needs)
+    (λ c. rw (letters-8-is _) (search (pick-yes-by, pick-no-by) depth 20)))

@@ -1,0 +1,25 @@
+use Rattle.syntax.specs.Places.{topologyAt}
+use Rattle.syntax.proofs.ListLaws.{steps}
+use borrow.Author.Needs.{needs}
+use Rattle.actions.proofs.topology.Statement.{statement}
+use Rattle.actions.proofs.topology.Tie as tie
+
+pub topology-spec : {M : Type 1} → statement M
+topology-spec =
+    tie.close
+    (tie.spec
+    (λ c κs. search needs)
+    (λ c κs. search needs)
+    (λ c. search needs)
+    (λ c. search needs)
+    (λ c. unfold topologyAt in search steps depth 9)
+    (λ c κs. search needs)
+    (λ c. search needs)
+    (λ c. search needs)
+    (λ c. unfold topologyAt in search steps depth 9)
+    (λ c κs. search needs)
+    (λ c. search needs)
+    (λ c. search needs)
+    (λ c. unfold topologyAt in search steps depth 9)
+    (λ c κs. search needs)
+    (λ c. unfold topologyAt in search steps depth 9))
