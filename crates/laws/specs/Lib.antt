@@ -30,3 +30,8 @@ pub mod Kept
 pub mod Figure7
 pub mod Hears
 pub mod Hearing
+pub mod Merging
+pub mod Folding
+pub mod Shortest
+pub mod FoldedStart
+pub mod FoldedSample
