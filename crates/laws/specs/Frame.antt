@@ -5,18 +5,19 @@ use mathlib.Core.Path.{_≡_, refl, sym, ap, _∙_, subst}
 use mathlib.Core.Logic.{_≢_}
 use mathlib.Core.Bool.{false}
 use mathlib.Core.List.{List, [], _∷_}
-use lib.ListN.{length, getD, set}
-use lib.Seq.{getD-set-same, getD-set-other}
+use lib.ListN.{length}
 use lib.Dec.{eqb}
 use borrow.Author.Tests.{ne-eqb}
-use native.Mathlib.Omega.{arith}
-use native.Mathlib.Decide.{ℕ-discrete}
-use Rattle.megaco.specs.Table.{terminations, contexts, words, fitted, prop, rec, used, flow, Cell, Slot, ctx, cell, get, Write, write, store, apply}
+use Rattle.megaco.specs.Table.{terminations, contexts, words, fitted, prop, rec, used, flow, Slot, ctx, cell, get, Write, write, store, apply}
 use Rattle.megaco.proofs.Sizes.{fitted-is}
-use Rattle.laws.specs.Slots.{Valid, length-store, fitted-store, get-other, store-comm}
+use Rattle.laws.specs.Slots.{Valid, held, length-store, fitted-store, get-other, store-comm, alike, alike-same, get-store}
+use Rattle.base.proofs.TestLaws.{pick-of}
 
-two-kinds : (i : ℕ) (x : Cell) → ctx i ≢ cell x
-two-kinds i x e = let z : _≡_ {A = ℕ} 0 1 = cc in omega (arith, z)
+-- after a write a slot holds what was written, if it is that slot, or what it held
+stored : (n : ℕ) (P : ℕ → Type 0) (r s : Slot) (v : ℕ) (t : List ℕ) → Valid n r → Valid n s → length t ≡ words n → (r ≡ s → P (held s v)) → P (get t s)
+    → P (get (store (write r v) t) s)
+stored n P r s v t hr hs l f g =
+    subst P (sym (get-store n r s v t hr hs l)) (pick-of P (alike r s) (λ e. let q : r ≡ s = alike-same r s e in subst (λ (x : Slot). P (held x v)) (sym q) (f q)) (λ e. g))
 
 -- whose a slot is
 pub data Owner : Type 0 where
@@ -82,19 +83,11 @@ module _ (lines : ℕ) (N K : ℕ → Type 0) where
 
   -- a write of the footprint keeps it closed
   closed-store : Foot → (s : Slot) (v : ℕ) (t : List ℕ) → Ours s v → Closed t → Closed (store (write s v) t)
-  closed-store F (cell x) v t o c =
+  closed-store F s v t o c =
       record {
-        long = length-store (write (cell x) v) t ∙ c .long;
-        home = λ i m. subst (λ (y : ℕ). 0 < y → K y) (sym (get-other lines (ctx i) (cell x) v t (fitted-is lines t (c .long)) (F .small i m) (o .valid) (two-kinds i x))) (c .home i m);
+        long = length-store (write s v) t ∙ c .long;
+        home = λ i m. stored lines (λ (x : ℕ). 0 < x → K x) s (ctx i) v t (o .valid) (F .small i m) (c .long) (λ e. subst (λ (r : Slot). Fits r v) e (o .fits)) (c .home i m);
       }
-  closed-store F (ctx j) v t o c = record { long = length-store (write (ctx j) v) t ∙ c .long; home = λ i m. at i m (ℕ-discrete i j) }
-    where
-      at : (i : ℕ) → N i → Dec (i ≡ j) → 0 < getD (set t j v) i 0 → K (getD (set t j v) i 0)
-      at i m (yes e) =
-          let h : i < length t = rw (c .long) (let k : i < terminations lines = F .small i m in omega arith) in
-          let g : getD (set t j v) i 0 ≡ v = rw (← e) (getD-set-same t i v 0 h) in
-          subst (λ (x : ℕ). 0 < x → K x) (sym g) (o .fits)
-      at i m (no d) = subst (λ (x : ℕ). 0 < x → K x) (sym (getD-set-other t j i v 0 d)) (c .home i m)
 
   pub closed-apply : Foot → (ws : List Write) (t : List ℕ) → AllOurs ws → Closed t → Closed (apply ws t)
   unfolding apply
@@ -127,20 +120,13 @@ module _ (lines : ℕ) (N K M L : ℕ → Type 0) where
       record {
         long = sym (length-store (write r v) t);
         same = λ s h m. sym (get-other lines s r v t (fitted-is lines t (c .long)) h (o .valid) (differ D s r m (o .mine)));
-        stand = at r o;
+        stand = λ d k i h. stored lines (λ (x : ℕ). eqb (get t (ctx i)) d ≡ eqb x d) r (ctx i) v t (o .valid) h (c .long) (at d k i) refl;
       }
     where
-      at : (r : Slot) → Ours lines M L r v → (d : ℕ) → K d → (i : ℕ) → i < terminations lines → eqb (get t (ctx i)) d ≡ eqb (get (store (write r v) t) (ctx i)) d
-      at (cell x) o d k i h = ap (λ (y : ℕ). eqb y d) (sym (get-other lines (ctx i) (cell x) v t (fitted-is lines t (c .long)) h (o .valid) (two-kinds i x)))
-      at (ctx j) o d k i h = by (ℕ-discrete i j)
-        where
-          by : Dec (i ≡ j) → eqb (get t (ctx i)) d ≡ eqb (getD (set t j v) i 0) d
-          by (yes e) =
-              let b : i < length t = rw (c .long) (omega arith) in
-              let g : getD (set t j v) i 0 ≡ v = rw (← e) (getD-set-same t i v 0 b) in
-              let m : M i = subst M (sym e) (o .mine) in
-              strange D d (getD t i 0) k (c .home i m) ∙ sym (ap (λ (x : ℕ). eqb x d) g ∙ strange D d v k (o .fits))
-          by (no f) = ap (λ (x : ℕ). eqb x d) (sym (getD-set-other t j i v 0 f))
+      at : (d : ℕ) → K d → (i : ℕ) → r ≡ ctx i → eqb (get t (ctx i)) d ≡ eqb v d
+      at d k i e =
+          let m : M i = subst (λ (x : Slot). Mine lines M L (owner x)) e (o .mine) in
+          strange D d (get t (ctx i)) k (c .home i m) ∙ sym (strange D d v k (subst (λ (x : Slot). Fits lines M L x v) e (o .fits)))
 
   pub apply-agree : Disjoint → (ws : List Write) (t : List ℕ) → AllOurs lines M L ws → Closed lines M L t → Agree lines N K t (apply ws t)
   unfolding apply

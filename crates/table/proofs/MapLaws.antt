@@ -13,7 +13,8 @@ use borrow.Author.Tests.{lt-ltb, le-ltb, ltb-true, ltb-false, eq-eqb, ne-eqb}
 use Rattle.base.specs.Pick.{pick}
 use Rattle.base.specs.Lists.{lowestAbsent}
 use Rattle.megaco.specs.Map.{digits, ofDigits, withDigit, inUse}
-use Rattle.megaco.specs.Table.{lineTerminations, terminations, fitted, used, cell, write, store, places, freeEphemeral, usedEphemerals}
+use Rattle.megaco.specs.Table.{lineTerminations, terminations, mapStart, regions, fitted, used, cell, wordOf, address, write, store, places, freeEphemeral, usedEphemerals}
+use Rattle.megaco.proofs.Regions.{place-is}
 use Rattle.megaco.proofs.Places.{digits-back, digits-joined}
 
 -- ---- the lowest absent number
@@ -157,11 +158,11 @@ one-digit true = refl
 one-digit false = refl
 
 -- the word of a place, with the place set
-pub put-digit : (t u : List ℕ) (i k a w x : ℕ) (on? : Bool) → k ≡ i - lineTerminations (fitted t) → a ≡ terminations (fitted t) + (terminations (fitted t) + (128 + k / 32))
+pub put-digit : (t u : List ℕ) (i k a w x : ℕ) (on? : Bool) → k ≡ i - lineTerminations (fitted t) → a ≡ mapStart (fitted t) + k / 32
     → w ≡ getD t a 0 → x ≡ withDigit (k % 32) (pick on? 1 0) w → u ≡ set t a x → u ≡ store (write (cell (used i)) (pick on? 1 0)) t
 put-digit t u i k a w x on? p q e f g =
     let y : x ≡ withDigit (k % 32) (pick on? 1 0 % 2) (getD t a 0) = f ∙ rw (one-digit on?, e) in
-    let z : a ≡ terminations (fitted t) + (terminations (fitted t) + (128 + (i - lineTerminations (fitted t)) / 32)) = q ∙ rw p in
+    let z : a ≡ address (fitted t) (cell (used i)) = q ∙ rw p (place-is 3 (regions (fitted t)) (wordOf (fitted t) (cell (used i)))) in
     g ∙ ap (set t a) y ∙ (λ j. set t (z j) (withDigit (p j % 32) (pick on? 1 0 % 2) (getD t (z j) 0)))
 
 pub map-by : (t : List ℕ) (n l h r : ℕ) → n ≡ terminations (fitted t) → l ≡ getD t (n + n + 128) 0 → h ≡ getD t (n + n + 128 + 1) 0

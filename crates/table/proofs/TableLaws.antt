@@ -14,7 +14,8 @@ use mir.Val.{Fits, boolByte}
 use borrow.Author.Tests.{eq-eqb, ne-eqb}
 use Rattle.base.specs.Pick.{pick}
 use Rattle.base.specs.Lists.{count, lowestAbsent}
-use Rattle.megaco.specs.Table.{flow, cell, lowFlow, highFlow, address, get, write, store, lineTerminations, terminations, fitted, contextWords, recordWords, known, members, placeIn, freeContext}
+use Rattle.megaco.specs.Table.{regions, place, flow, cell, lowFlow, highFlow, address, get, write, store, lineTerminations, terminations, fitted, contextWords, recordWords, known, members, placeIn, freeContext}
+use Rattle.megaco.proofs.Regions.{place-is}
 
 -- past the end stands 0, and nothing is stored there
 pub read-past : (t : List ℕ) (k : ℕ) → length t ≤ k → 0 ≡ getD t k 0
@@ -29,10 +30,14 @@ store-past t k v h = sym (set-out t k v h)
 pub store-beyond : (t : List ℕ) (k i v : ℕ) → length t ≤ i → t ≡ set t (k + i) v
 store-beyond t k i v h = store-past t (k + i) v (omega arith)
 
+-- the next word of a region
+next-word : (k : ℕ) (rs : List ℕ) (i : ℕ) → place k rs i + 1 ≡ place k rs (i + 1)
+next-word k rs i = omega (arith, place-is k rs i, place-is k rs (i + 1))
+
 -- the second of a context's two words of flows
 module _ (t : List ℕ) (c k : ℕ) (e : k ≡ address (fitted t) (cell (flow (lowFlow c)))) where
   next-flow : k + 1 ≡ address (fitted t) (cell (flow (highFlow c)))
-  next-flow = omega arith
+  next-flow = ap (λ (m : ℕ). m + 1) e ∙ next-word 4 (regions (fitted t)) (lowFlow c)
 
   pub high-read : (r : ℕ) → r ≡ getD t (k + 1) 0 → r ≡ get t (cell (flow (highFlow c)))
   high-read r p = p ∙ ap (λ (m : ℕ). getD t m 0) next-flow

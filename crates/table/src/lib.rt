@@ -7,7 +7,7 @@ ghost use lib.ListN.{length, getD, set};
 ghost use Rattle.base.specs.Pick.{pick};
 ghost use Rattle.base.specs.Lists.{count, lowestAbsent};
 ghost use Rattle.megaco.specs.Map.{digits, withDigit, inUse};
-ghost use Rattle.megaco.specs.Table.{lineTerminations, terminations, fitted, Sized, prop, rec, used, flow, lowFlow, highFlow, ctx, cell, address, get, write, store, places, isEphemeral, exists, known, members, placeIn, freeContext, freeEphemeral, usedEphemerals};
+ghost use Rattle.megaco.specs.Table.{lineTerminations, terminations, mapStart, fitted, Sized, prop, rec, used, flow, lowFlow, highFlow, ctx, cell, address, get, write, store, places, isEphemeral, exists, known, members, placeIn, freeContext, freeEphemeral, usedEphemerals};
 
 // The most lines that can be fitted.
 pub const MOST_LINES: u32 = 16;
@@ -261,7 +261,7 @@ fn ephemeral_number(table: &[u32], i: usize) -> usize
 
 // Where the map's place of an ephemeral stands, k being its number.
 fn map_place(table: &[u32], k: usize) -> usize
-    ensures { λ r. ⌜ r ≡ terminations (fitted (now (table .entry))) + (terminations (fitted (now (table .entry))) + (128 + k / 32)) ⌝ }
+    ensures { λ r. ⌜ r ≡ mapStart (fitted (now (table .entry))) + k / 32 ⌝ }
 {
     let n = terminations(table);
     n + (n + (CONTEXTS as usize + k / 32))
