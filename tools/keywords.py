@@ -1,10 +1,10 @@
 #!/usr/bin/env python3
-"""The table of keywords: the constant in crates/text/src/keywords.rt.
+"""The table of keywords: the constant in crates/keywords/src/lib.rt.
 
 keywords.py          compares the constant with the rows of the definition (crates/megaco/specs/Keywords.antt), with the tokens
                      (crates/megaco/src/lib.rt) and with the page (docs/KEYWORDS.md), and the derived files with what it would write.
                      Exit 1 on a difference.
-keywords.py --write  writes the derived files: src/rows.rt, proofs/LengthLaws.antt and proofs/rows/ of crates/text. Nothing that it
+keywords.py --write  writes the derived files: src/rows.rt, proofs/LengthLaws.antt and proofs/rows/ of crates/keywords. Nothing that it
                      writes is trusted: the check proves it.
 """
 import os
@@ -12,12 +12,12 @@ import re
 import sys
 
 ROOT = os.path.join(os.path.dirname(os.path.abspath(__file__)), "..")
-TABLE = "crates/text/src/keywords.rt"
+TABLE = "crates/keywords/src/lib.rt"
 DEFINITION = "crates/megaco/specs/Keywords.antt"
 TOKENS = "crates/megaco/src/lib.rt"
 PAGE = "docs/KEYWORDS.md"
-SRC = "crates/text/src/rows.rt"
-PROOFS = "crates/text/proofs"
+SRC = "crates/keywords/src/rows.rt"
+PROOFS = "crates/keywords/proofs"
 MOST = 5  # tests in one function by length
 
 
@@ -91,29 +91,36 @@ def law(n, j):
 
 
 def source(rows):
-    out = """// A word's row and its meaning. Derived from the table in keywords.rt: tools/keywords.py --write.
+    out = """// A word's row and its meaning. Derived from the table in lib.rt: tools/keywords.py --write.
 ghost use mathlib.Core.Path.{_≡_};
 ghost use mathlib.Core.Option.{some};
 ghost use lib.ListN.{length};
 ghost use Rattle.base.specs.Lists.{same};
 ghost use Rattle.megaco.specs.Bytes.{capitals};
-ghost use Rattle.megaco.specs.Keywords.{formsOf, spells, meaningOf};
-ghost use Rattle.text.specs.Page.{rowOf, tokenAt, longOf, shortOf, told, meaningLater};
-use crate::keywords::KEYWORDS;
-use crate::keywords::Meaning;
-use crate::keywords::Row;
+ghost use Rattle.megaco.specs.Keywords.{page, formsOf, spells, meaningOf};
+ghost use Rattle.keywords.specs.Page.{rowOf, rowsOf, tokenAt, longOf, shortOf, told, meaningLater};
+use crate::KEYWORDS;
+use crate::Meaning;
+use crate::Row;
 use megaco::Token;
 
 // ---- rows
+
+// The table, laid down by itself: where its rows are also told apart the check is far dearer.
+fn table() -> [Row; %d]
+    ensures { λ r. ⌜ r ≡ rowsOf page ⌝ }
+{
+    KEYWORDS
+}
 
 // The row at a place, past the end the last one. Places and lengths are numbers that stand in the code where a form is asked for, so that
 // the compiler makes constants of the table; a table that is read at a variable place is laid down first.
 fn row_at(i: usize) -> Row
     ensures { λ r. ⌜ r ≡ rowOf (tokenAt i) ⌝ }
 {
-    let t = KEYWORDS;
+    let t = table();
     match i {
-"""
+""" % len(rows)
     for i in range(len(rows) - 1):
         out += "        %d => t[%d],\n" % (i, i)
     out += "        _ => t[%d],\n" % (len(rows) - 1)
@@ -126,7 +133,7 @@ fn is_long(w: &[u8], i: usize, n: usize) -> bool
 {
     let r = row_at(i);
     let f = r.1;
-    crate::keywords::is_form(w, &f[0..n])
+    crate::is_form(w, &f[0..n])
 }
 
 fn is_short(w: &[u8], i: usize, n: usize) -> bool
@@ -135,7 +142,7 @@ fn is_short(w: &[u8], i: usize, n: usize) -> bool
 {
     let r = row_at(i);
     let f = r.2;
-    crate::keywords::is_form(w, &f[0..n])
+    crate::is_form(w, &f[0..n])
 }
 
 fn is_either(w: &[u8], i: usize, long: usize, short: usize) -> bool
@@ -195,7 +202,7 @@ use Rattle.base.specs.Pick.{pick}
 use Rattle.base.specs.Lists.{same}
 use Rattle.megaco.specs.Bytes.{capitals}
 use Rattle.megaco.specs.Keywords.{formsOf}
-use Rattle.text.specs.Page.{longOf, shortOf, tokenAt, spellingsOf, firstOf, sized, later, meaningLater}
+use Rattle.keywords.specs.Page.{longOf, shortOf, tokenAt, spellingsOf, firstOf, sized, later, meaningLater}
 """
     for n, j, fs, more in pieces(rows):
         out += "\npub %s : (w : List ℕ) → meaningLater %d %d w\n" % (law(n, j), n, j)
@@ -214,8 +221,8 @@ def proof(fn, uses, unfolding, answers):
     return (
         "use borrow.Author.Needs.{needs}\n"
         + "".join("use %s\n" % u for u in uses)
-        + "use Rattle.text.proofs.rows.%s.Statement.{statement}\n" % fn
-        + "use Rattle.text.proofs.rows.%s.Tie as tie\n\n" % fn
+        + "use Rattle.keywords.proofs.rows.%s.Statement.{statement}\n" % fn
+        + "use Rattle.keywords.proofs.rows.%s.Tie as tie\n\n" % fn
         + "pub %s : {M : Type 1} → statement M\n" % spec
         + ("unfolding %s\n" % unfolding if unfolding else "")
         + "%s =\n    tie.close\n    (tie.spec\n" % spec
@@ -230,40 +237,50 @@ def proofs(rows):
     told = lambda i: "enum-told" + (str(i + 1) if i else "")
     out = {}
     last = len(rows) - 1
+    out["table"] = proof(
+        "table",
+        [
+            "mathlib.Core.Path.{refl}",
+            "Rattle.megaco.specs.Keywords.{formsOf}",
+            "Rattle.keywords.specs.Page.{rowOf, rowsOf, longOf, shortOf, padded}",
+        ],
+        "rowOf rowsOf longOf shortOf padded formsOf",
+        ["(λ c. refl)"],
+    )
     out["row_at"] = proof(
         "row_at",
         [
             "mathlib.Core.Path.{refl}",
-            "Rattle.megaco.specs.Keywords.{formsOf}",
-            "Rattle.text.specs.Page.{rowOf, tokenAt, longOf, shortOf, padded}",
-            "Rattle.text.proofs.RowLaws.{row-is, last-row}",
+            "Rattle.keywords.specs.Page.{rowsOf, tokenAt}",
+            "Rattle.keywords.proofs.RowLaws.{laid, row-is, last-row}",
         ],
-        "rowOf tokenAt longOf shortOf padded formsOf",
-        [need] * len(rows)
-        + ["(λ c. row-is _ %d _ (c .before .match .keys%d) refl)" % (i, i + 1) for i in range(last)]
-        + ["(λ c. last-row %d _ _ refl (c .before .match .rest) refl)" % last],
+        "rowsOf tokenAt",
+        [call]
+        + [need] * len(rows)
+        + ["(λ c. row-is _ %d _ (c .before .match .keys%d) (laid _ %d _ (c .before .before .table .ensures) refl))" % (i, i + 1, i) for i in range(last)]
+        + ["(λ c. last-row %d _ _ refl (c .before .match .rest) (laid _ %d _ (c .before .before .table .ensures) refl))" % (last, last)],
     )
     for kind in ("long", "short"):
         out["is_" + kind] = proof(
             "is_" + kind,
-            ["Rattle.text.proofs.RowLaws.{%s-fits, %s-formed, %s-is}" % (kind, kind, kind)],
+            ["Rattle.keywords.proofs.RowLaws.{%s-fits, %s-formed, %s-is}" % (kind, kind, kind)],
             "",
             [call, need, need, "(λ c. search %s-fits)" % kind, "(λ c κs. search %s-formed)" % kind, "(λ c. search %s-is)" % kind],
         )
-    out["is_either"] = proof("is_either", ["Rattle.text.proofs.RowLaws.{either-is}"], "", [call, call, "(λ c. search either-is)"])
+    out["is_either"] = proof("is_either", ["Rattle.keywords.proofs.RowLaws.{either-is}"], "", [call, call, "(λ c. search either-is)"])
     out["spells"] = proof(
         "spells",
         [
             "mathlib.Core.Path.{refl}",
             "Rattle.megaco.specs.Keywords.{formsOf}",
-            "Rattle.text.specs.Page.{tokenAt, longOf, shortOf}",
-            "Rattle.text.proofs.RowLaws.{spells-at}",
+            "Rattle.keywords.specs.Page.{tokenAt, longOf, shortOf}",
+            "Rattle.keywords.proofs.RowLaws.{spells-at}",
         ],
         "",
         [need, "(λ c κs. unfold tokenAt formsOf longOf shortOf in (refl, refl))"] * len(rows)
         + ["(λ c. spells-at %d _ _ _ _ (c .before .%s .given .1) (unfold tokenAt in refl) (c .is-either%s .ensures))" % (i, told(i), str(i + 1) if i else "") for i in range(len(rows))],
     )
-    out["of"] = proof("of", ["Rattle.text.proofs.RowLaws.{of-row}"], "", [call, "(λ c. search of-row)"])
+    out["of"] = proof("of", ["Rattle.keywords.proofs.RowLaws.{of-row}"], "", [call, "(λ c. search of-row)"])
     for n, j, fs, more in pieces(rows):
         ret = "(λ c. rw (%s _) (search (pick-yes-by, pick-no-by) depth 20))" % law(n, j)
         last = ret if more else "(λ c. unfold told in rw (%s _) (search (pick-yes-by, pick-no-by) depth 20))" % law(n, j)
@@ -273,8 +290,8 @@ def proofs(rows):
                 "mathlib.Core.Path.{refl}",
                 "Rattle.base.specs.Pick.{pick-yes-by, pick-no-by}",
                 "Rattle.megaco.specs.Keywords.{formsOf}",
-                "Rattle.text.specs.Page.{tokenAt, longOf, shortOf, told}",
-                "Rattle.text.proofs.LengthLaws.{%s}" % law(n, j),
+                "Rattle.keywords.specs.Page.{tokenAt, longOf, shortOf, told}",
+                "Rattle.keywords.proofs.LengthLaws.{%s}" % law(n, j),
             ],
             "",
             [x for _, kind in fs for x in (size % (kind + "Of"), call, ret)] + ([call] if more else []) + [last],
@@ -289,8 +306,8 @@ def proofs(rows):
             "mathlib.Core.List.{[], _∷_}",
             "Rattle.base.specs.Pick.{pick}",
             "Rattle.base.specs.Lists.{has}",
-            "Rattle.text.specs.Page.{spellingsOf}",
-            "Rattle.text.proofs.RowLaws.{at-length, lengthsIn, no-length}",
+            "Rattle.keywords.specs.Page.{spellingsOf}",
+            "Rattle.keywords.proofs.RowLaws.{at-length, lengthsIn, no-length}",
         ],
         "",
         [call, "(λ c. search at-length)"] * len(lengths)

@@ -13,7 +13,7 @@ use Rattle.base.proofs.TestLaws.{and-both}
 use Rattle.megaco.specs.Square.{Square, squareOf, ofBits, ofRows, lowOf, highOf, upTo, joinedFlow, joinedRow, joined, parted}
 use Rattle.megaco.specs.Table.{Write, write, ctx, cell, prop, rec, used, flow, lowFlow, highFlow, most, isEphemeral, store, apply}
 use Rattle.megaco.specs.Items.{update}
-use Rattle.megaco.specs.Running.{numberOf, isChoose, target, flowsOf, flowing, joining, leaving, placed, marking, added, subtracted, changes}
+use Rattle.megaco.specs.Attempt.{numberOf, isChoose, target, flowsOf, flowing, joining, leaving, placed, marking, added, subtracted, changes}
 use Rattle.megaco.specs.declared.Op.{Op}
 use Rattle.megaco.specs.declared.Op.the-variants.{Add, Modify, Subtract, Move, AuditValue}
 use Rattle.megaco.specs.declared.Context.{Context}
@@ -64,8 +64,16 @@ flows-put c low high q t t₁ t₂ e p f r = r ∙ rw (p, e, f)
 joined-full : (q : Square) (m k : ℕ) → 8 ≤ m → joined q 8 k ≡ joined q (m + 1) k
 unfolding joined joinedRow joinedFlow upTo
 joined-full q m k h =
-    rw (lt-ltb 0 (m + 1) (omega arith), lt-ltb 1 (m + 1) (omega arith), lt-ltb 2 (m + 1) (omega arith), lt-ltb 3 (m + 1) (omega arith),
-    lt-ltb 4 (m + 1) (omega arith), lt-ltb 5 (m + 1) (omega arith), lt-ltb 6 (m + 1) (omega arith), lt-ltb 7 (m + 1) (omega arith))
+    rw (
+      lt-ltb 0 (m + 1) (omega arith),
+      lt-ltb 1 (m + 1) (omega arith),
+      lt-ltb 2 (m + 1) (omega arith),
+      lt-ltb 3 (m + 1) (omega arith),
+      lt-ltb 4 (m + 1) (omega arith),
+      lt-ltb 5 (m + 1) (omega arith),
+      lt-ltb 6 (m + 1) (omega arith),
+      lt-ltb 7 (m + 1) (omega arith),
+    )
 
 pub joined-is : (s : Seen) (k n : ℕ) (q r : Square) → q ≡ squareOf (s .low) (s .high) → n ≡ pick (ltb (s .members) most) (s .members + 1) most → r ≡ joined q n k
     → r ≡ joined (flowsOf s) (s .members + 1) k
@@ -91,6 +99,7 @@ two-put c t t₁ t₂ e f = flows-put c 258 0 (joined [] 2 0) t t₁ t₂ low e 
   where
     low : 258 ≡ lowOf (joined [] 2 0)
     low = refl
+
     high : 0 ≡ highOf (joined [] 2 0)
     high = refl
 
@@ -100,7 +109,7 @@ join-two c k s t t′ h e =
     let b = and-both (eqb (s .members) 1) (ltb k 2) h in
     let m : 2 ≡ s .members + 1 = omega (arith, eqb-true (s .members) 1 (b .0)) in
     let j : joined [] 2 0 ≡ joined (flowsOf s) (s .members + 1) k =
-            sym (two-flow (flowsOf s) k (ltb-true k 2 (b .1))) ∙ ap (λ (n : ℕ). joined (flowsOf s) n k) m in
+    sym (two-flow (flowsOf s) k (ltb-true k 2 (b .1))) ∙ ap (λ (n : ℕ). joined (flowsOf s) n k) m in
     e ∙ ap (λ (q : Square). apply (flowing c q []) t) j
 
 pub join-more : (c k : ℕ) (s : Seen) (q : Square) (t t′ : List ℕ) → q ≡ joined (flowsOf s) (s .members + 1) k → t′ ≡ apply (flowing c q []) t

@@ -8,7 +8,7 @@ use lib.Dec.{eqb}
 use borrow.Author.Tests.{eq-eqb, ne-eqb, le-leb, lt-leb}
 use Rattle.base.specs.Pick.{pick}
 use Rattle.megaco.specs.Table.{stateOf}
-use Rattle.megaco.specs.Running.{Check, check, judge, numberOf, roomChecks, checks}
+use Rattle.megaco.specs.Attempt.{Check, check, judge, numberOf, roomChecks, checks}
 use Rattle.megaco.specs.declared.Op.{Op}
 use Rattle.megaco.specs.declared.Op.the-variants.{Add, Modify, Subtract, Move, AuditValue}
 use Rattle.megaco.specs.declared.Context.{Context}

@@ -14,7 +14,7 @@ ghost use lib.Dec.{ltb};
 ghost use Rattle.megaco.specs.Square.{joined, parted};
 ghost use Rattle.megaco.specs.Table.{most, apply};
 ghost use Rattle.megaco.specs.Items.{update};
-ghost use Rattle.megaco.specs.Running.{judge, isChoose, target, roomChecks, checks, flowsOf, flowing, joining, leaving, placed, marking, added, subtracted, changes, settled};
+ghost use Rattle.megaco.specs.Attempt.{judge, isChoose, target, roomChecks, checks, flowsOf, flowing, joining, leaving, placed, marking, added, subtracted, changes, settled};
 ghost use Rattle.attempt.specs.Judging.{valueOr, Fair};
 
 // ---- judging
@@ -51,7 +51,7 @@ fn judge_room(at: Context, view: View) -> Checked
 pub fn judge_attempt(op: Op, at: Context, view: View) -> Checked
     ensures { λ r. ⌜ r ≡ judge (checks op at view) ⌝ }
 {
-    let c = view::number_of(at);
+    let c = attempt_view::number_of(at);
     match op {
         Op::Add => {
             if view.here != 0 {
@@ -99,7 +99,7 @@ fn target(at: Context, view: View) -> u32
     if is_choose(at) {
         view.free
     } else {
-        view::number_of(at)
+        attempt_view::number_of(at)
     }
 }
 
@@ -222,7 +222,7 @@ fn join(table: &mut [u32], at: Context, given: u32, view: View)
         table::set_record(table, view.free, given);
     } else {
         let there = view.there;
-        join_flows(table, view::number_of(at), there, view.into);
+        join_flows(table, attempt_view::number_of(at), there, view.into);
     }
 }
 

@@ -11,7 +11,10 @@ use Rattle.megaco.specs.Table.{Write, apply}
 use Rattle.megaco.specs.State.{State, wrote}
 use Rattle.megaco.specs.Reply.{Acted}
 use Rattle.megaco.specs.Topology.{Link, linksOf, triplesOf}
-use Rattle.megaco.specs.Running.{judge, checks, changes, seen, numberOf, look, concluded, effect, Effect, Outcome, tries, missed, actionError, Aim, misses, gateway, meets, aimed, opOf, barred, lost, named, tested, unlessOptional, ordered, runCommand, startChecks, startWrites, anyGiven, over15, startedBy, started, Step, start, order, orders, noCommands, steps, Course, course, begin, advance, proceed, step, run, fresh, runTransaction}
+use Rattle.megaco.specs.Attempt.{judge, checks, changes, seen, numberOf, look, concluded, effect, Effect}
+use Rattle.megaco.specs.Command.{Outcome, attempts, commandError, actionError, Targets, noTarget, gateway, targets, runTargets, opOf, forbiddenInNull, noContext, named, tested, unlessOptional, ordered, runCommand}
+use Rattle.megaco.specs.Action.{startChecks, startWrites, anyGiven, over15, startedBy, started}
+use Rattle.megaco.specs.Transaction.{Step, start, commandStep, commandSteps, noCommands, steps, Course, course, begin, advance, proceed, step, run, fresh, runTransaction}
 use Rattle.megaco.specs.declared.Context.{Context}
 use Rattle.megaco.specs.declared.Context.the-variants.{Null, Numbered, Choose, All}
 use Rattle.megaco.specs.declared.Op.{Op}
@@ -40,27 +43,27 @@ module _ (wild : Bool) (name : List ℕ) (given : ℕ) (vs : Values) where
   unfolding apply
   effect-keeps i at st = ap (λ (ws : List Write). wrote ws st) (no-writes i at (look at i (st .table)))
 
-  tries-keep : (is : List ℕ) (at : Context) (st : State) → tries AuditValue wild name given vs is at st .state ≡ st
-  unfolding tries
-  tries-keep [] at st = refl
-  tries-keep (i ∷ is) at st = tries-keep is _ _ ∙ effect-keeps i at st
+  attempts-keep : (is : List ℕ) (at : Context) (st : State) → attempts AuditValue wild name given vs is at st .state ≡ st
+  unfolding attempts
+  attempts-keep [] at st = refl
+  attempts-keep (i ∷ is) at st = attempts-keep is _ _ ∙ effect-keeps i at st
 
-aimed-keeps : (name : List ℕ) (given : ℕ) (vs : Values) (a : Aim) (at : Context) (st : State) → aimed AuditValue name given vs a at st .state ≡ st
-unfolding aimed missed
-aimed-keeps name given vs (misses code) at st = refl
-aimed-keeps name given vs gateway at st = refl
-aimed-keeps name given vs (meets wild is) at st = tries-keep wild name given vs is at st
+targets-keep : (name : List ℕ) (given : ℕ) (vs : Values) (a : Targets) (at : Context) (st : State) → runTargets AuditValue name given vs a at st .state ≡ st
+unfolding runTargets commandError
+targets-keep name given vs (noTarget code) at st = refl
+targets-keep name given vs gateway at st = refl
+targets-keep name given vs (targets wild is) at st = attempts-keep wild name given vs is at st
 
 named-keeps : (name : List ℕ) (given : ℕ) (items : Bool) (j : Judged) (at : Context) (st : State) → named AuditValue name given items j at st .state ≡ st
-unfolding named missed
+unfolding named commandError
 named-keeps name given items (Wrong code) at st = refl
-named-keeps name given items (Right vs) at st = aimed-keeps name given vs _ at st
+named-keeps name given items (Right vs) at st = targets-keep name given vs _ at st
 
 ordered-keeps : (o : Bool) (name : List ℕ) (items : Items) (given : ℕ) (at : Context) (st : State) → ordered o (some AuditValue) name items given at st .state ≡ st
-unfolding ordered actionError unlessOptional tested missed
+unfolding ordered actionError unlessOptional tested commandError
 ordered-keeps o name items given at st =
-    pick-of (λ (x : Outcome). x .state ≡ st) (barred AuditValue at) (λ _. refl)
-    (λ _. pick-of (λ (x : Outcome). x .state ≡ st) (lost AuditValue at (seen (numberOf at) (st .table) .held)) (λ _. refl) (λ _. named-keeps name given _ _ at st))
+    pick-of (λ (x : Outcome). x .state ≡ st) (forbiddenInNull AuditValue at) (λ _. refl)
+    (λ _. pick-of (λ (x : Outcome). x .state ≡ st) (noContext AuditValue at (seen (numberOf at) (st .table) .held)) (λ _. refl) (λ _. named-keeps name given _ _ at st))
 
 pub stays : Stays
 unfolding runCommand
@@ -73,7 +76,7 @@ stays (command o w word name items) e given at st =
 data Still : List Step → Type 0 where
   ends : Still []
   starts : {c : Context} {alone : Bool} {ss : List Step} → Still ss → Still (start c [] alone ∷ ss)
-  audits : {c : Command} {ss : List Step} → IsAudit c → Still ss → Still (order c ∷ ss)
+  audits : {c : Command} {ss : List Step} → IsAudit c → Still ss → Still (commandStep c ∷ ss)
 
 still-start : (c : Context) (alone : Bool) (there : Seen) (links : List Link) → started c [] alone there links .writes ≡ []
 unfolding started startedBy startWrites anyGiven pick
@@ -90,7 +93,7 @@ start-keeps : (c : Context) (alone : Bool) (st : State) (acts : List Acted) → 
 unfolding proceed begin apply
 start-keeps c alone st acts = ap (λ (ws : List Write). wrote ws st) (still-start c alone (seen (numberOf c) (st .table)) (linksOf (numberOf c) (st .table) (triplesOf [])))
 
-audit-keeps : (c : Command) → IsAudit c → (st : State) (acts : List Acted) → proceed (order c) st acts .state ≡ st
+audit-keeps : (c : Command) → IsAudit c → (st : State) (acts : List Acted) → proceed (commandStep c) st acts .state ≡ st
 unfolding proceed advance
 audit-keeps c e st [] = refl
 audit-keeps c e st (a ∷ acts) = stays c e (a .given) (a .at) st
@@ -103,10 +106,10 @@ run-keeps : (ss : List Step) → Still ss → (x : Course) → run ss x .state �
 unfolding run
 run-keeps _ ends x = refl
 run-keeps _ (starts {c} {alone} {ss} h) x = run-keeps ss h _ ∙ step-keeps (start c [] alone) x (start-keeps c alone (x .state) (x .progress .acts))
-run-keeps _ (audits {c} {ss} e h) x = run-keeps ss h _ ∙ step-keeps (order c) x (audit-keeps c e (x .state) (x .progress .acts))
+run-keeps _ (audits {c} {ss} e h) x = run-keeps ss h _ ∙ step-keeps (commandStep c) x (audit-keeps c e (x .state) (x .progress .acts))
 
-orders-still : (cs : List Command) (rest : List Step) → Audits cs → Still rest → Still (orders cs rest)
-unfolding orders
+orders-still : (cs : List Command) (rest : List Step) → Audits cs → Still rest → Still (commandSteps cs rest)
+unfolding commandSteps
 orders-still _ rest no-more h = h
 orders-still _ rest (more {c} {cs} e k) h = audits e (orders-still cs rest k h)
 

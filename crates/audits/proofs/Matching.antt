@@ -18,16 +18,18 @@ use Rattle.megaco.specs.State.{State}
 use Rattle.megaco.specs.Names.{inRange, nameOf, nameText}
 use Rattle.megaco.specs.Items.{given?}
 use Rattle.megaco.specs.Reply.{Report, refused}
-use Rattle.megaco.specs.Running.{numberOf, seen, isChoose, lost, wanted, matchesFrom, matches, Aim, aimMatches, notForRoot, aim, aimed, missed, opOf, runCommand}
+use Rattle.megaco.specs.Attempt.{numberOf, seen, isChoose}
+use Rattle.megaco.specs.Command.{noContext, wanted, matchesFrom, matches, Targets, matchTargets, notForRoot, targetsOf, runTargets, commandError, opOf, runCommand}
 use Rattle.megaco.specs.declared.Context.{Context}
 use Rattle.megaco.specs.declared.Op.the-variants.{AuditValue}
 use Rattle.megaco.specs.declared.Range.{Range}
 use Rattle.megaco.specs.declared.Name.the-variants.{Wildcard}
 use Rattle.megaco.specs.declared.Values.{Values}
 use Rattle.laws.specs.Membership.{_∈_}
-use Rattle.laws.specs.Sound.{Whole, sound-whole, context-words, context-at}
+use Rattle.laws.specs.Sound.{Whole}
+use Rattle.laws.proofs.Sound.{sound-whole, context-words, context-at}
 use Rattle.audits.specs.Audits.{heldReport, Rising, no-more, more, Covered, reportsOf, Wild, ReportsWild}
-use Rattle.audits.proofs.Reporting.{reported, tries-report, settled-place, aims}
+use Rattle.audits.proofs.Reporting.{reported, attempts-report, settled-place, targets-run}
 
 -- ---- they rise
 
@@ -133,18 +135,18 @@ held-all wild name given vs at t (i ∷ is) h =
 
 -- the reports, by the matches
 wild-reports : (name : List ℕ) (given : ℕ) (vs : Values) (at : Context) (st : State) (is : List ℕ) → isChoose at ≡ false → ((i : ℕ) → i ∈ is → get (st .table) (ctx i) ≡ numberOf at)
-    → (aimed AuditValue name given vs (aimMatches is) at st .reports ≡ reportsOf (heldReport vs (st .table)) is) ⊎ ((is ≡ []) × (aimed AuditValue name given vs (aimMatches is) at st .reports ≡ refused AuditValue name 431 ∷ []))
-unfolding aimMatches aimed missed
+    → (runTargets AuditValue name given vs (matchTargets is) at st .reports ≡ reportsOf (heldReport vs (st .table)) is) ⊎ ((is ≡ []) × (runTargets AuditValue name given vs (matchTargets is) at st .reports ≡ refused AuditValue name 431 ∷ []))
+unfolding matchTargets runTargets commandError
 wild-reports name given vs at st [] n h = inr (refl, refl)
-wild-reports name given vs at st (i ∷ is) n h = inl (tries-report true name given vs (i ∷ is) at st n ∙ held-all true name given vs at (st .table) (i ∷ is) h)
+wild-reports name given vs at st (i ∷ is) n h = inl (attempts-report true name given vs (i ∷ is) at st n ∙ held-all true name given vs at (st .table) (i ∷ is) h)
 
 pub reports-wild : ReportsWild
-unfolding aim
+unfolding targetsOf
 reports-wild o w word name items vs given at st r s e l j n =
     let t : List ℕ = st .table in
     let W = sound-whole t s in
     let is : List ℕ = matches AuditValue at r t in
-    let same : runCommand (command o w word name items) given at st .reports ≡ aimed AuditValue name given vs (aimMatches is) at st .reports = aims o w word name items vs given at st e l j ∙ rw n in
+    let same : runCommand (command o w word name items) given at st .reports ≡ runTargets AuditValue name given vs (matchTargets is) at st .reports = targets-run o w word name items vs given at st e l j ∙ rw n in
     record {
       matched = is;
       exactly = λ i. (in-covered r at t (W .long) i, covered-in r at t (W .long) i);

@@ -15,7 +15,8 @@ use Rattle.megaco.specs.State.{State, wrote}
 use Rattle.megaco.specs.Names.{nameOf, nameText}
 use Rattle.megaco.specs.Items.{given?, judgeItems}
 use Rattle.megaco.specs.Reply.{nothing, Report, done, refused, failed}
-use Rattle.megaco.specs.Running.{Check, check, judge, checks, seen, numberOf, look, isChoose, settled, told, concluded, effect, Effect, Outcome, tries, missed, actionError, Aim, misses, gateway, meets, isNull, isSubtract, inPlace, notForRoot, aim, aimed, opOf, barred, lost, named, tested, unlessOptional, ordered, runCommand}
+use Rattle.megaco.specs.Attempt.{Check, check, judge, checks, seen, numberOf, look, isChoose, settled, detailOf, concluded, effect, Effect}
+use Rattle.megaco.specs.Command.{Outcome, attempts, commandError, actionError, Targets, noTarget, gateway, targets, isNull, isSubtract, inPlace, notForRoot, targetsOf, runTargets, opOf, forbiddenInNull, noContext, named, tested, unlessOptional, ordered, runCommand}
 use Rattle.megaco.specs.declared.Context.{Context}
 use Rattle.megaco.specs.declared.Context.the-variants.{Null, Numbered, Choose, All}
 use Rattle.megaco.specs.declared.Op.{Op}
@@ -33,8 +34,8 @@ use Rattle.audits.proofs.Keeping.{effect-keeps}
 -- ---- one attempt
 
 -- a context in which audits come to be tried: null or a number
-pub settled-place : (at : Context) (held : ℕ) → lost AuditValue at held ≡ false → isChoose at ≡ false
-unfolding lost isChoose inPlace isSubtract
+pub settled-place : (at : Context) (held : ℕ) → noContext AuditValue at held ≡ false → isChoose at ≡ false
+unfolding noContext isChoose inPlace isSubtract
 settled-place Null held e = refl
 settled-place (Numbered c) held e = refl
 settled-place Choose held e = absurd (clash e)
@@ -61,15 +62,15 @@ module _ (wild : Bool) (name : List ℕ) (given : ℕ) (vs : Values) where
       by Passes = unfold concluded settled pick in rw n
       by (Fails code) = unfold concluded in refl
 
-  pub tries-report : (is : List ℕ) (at : Context) (st : State) → isChoose at ≡ false
-      → tries AuditValue wild name given vs is at st .reports ≡ reportsOf (λ i. reported at (st .table) i (eqb (get (st .table) (ctx i)) (numberOf at))) is
-  unfolding tries
-  tries-report [] at st n = refl
-  tries-report (i ∷ is) at st n =
+  pub attempts-report : (is : List ℕ) (at : Context) (st : State) → isChoose at ≡ false
+      → attempts AuditValue wild name given vs is at st .reports ≡ reportsOf (λ i. reported at (st .table) i (eqb (get (st .table) (ctx i)) (numberOf at))) is
+  unfolding attempts
+  attempts-report [] at st n = refl
+  attempts-report (i ∷ is) at st n =
       let e : Effect = effect AuditValue wild name given vs i at (look at i (st .table)) in
-      let r : Context → State → List Report = λ c u. tries AuditValue wild name given vs is c u .reports in
+      let r : Context → State → List Report = λ c u. attempts AuditValue wild name given vs is c u .reports in
       let same : r (e .at) (wrote (e .writes) st) ≡ r at st = ap₂ r (effect-at i at (st .table) n) (effect-keeps wild name given vs i at st) in
-      ap₂ (λ (x : Report) (xs : List Report). x ∷ xs) (effect-reports i at (st .table)) (same ∙ tries-report is at st n)
+      ap₂ (λ (x : Report) (xs : List Report). x ∷ xs) (effect-reports i at (st .table)) (same ∙ attempts-report is at st n)
 
   -- ---- all are honest
 
@@ -82,23 +83,23 @@ module _ (wild : Bool) (name : List ℕ) (given : ℕ) (vs : Values) where
   all-honest at t [] = no-more
   all-honest at t (i ∷ is) = more (one-honest at t i (eqb (get t (ctx i)) (numberOf at)) refl) (all-honest at t is)
 
-aimed-honest : (name : List ℕ) (given : ℕ) (vs : Values) (a : Aim) (at : Context) (st : State) → isChoose at ≡ false → AllHonest at (st .table) (aimed AuditValue name given vs a at st .reports)
-unfolding aimed missed
-aimed-honest name given vs (misses code) at st n = more (of-none name code) no-more
-aimed-honest name given vs gateway at st n = more of-root no-more
-aimed-honest name given vs (meets wild is) at st n =
-    subst (AllHonest at (st .table)) (sym (tries-report wild name given vs is at st n)) (all-honest wild name given vs at (st .table) is)
+targets-honest : (name : List ℕ) (given : ℕ) (vs : Values) (a : Targets) (at : Context) (st : State) → isChoose at ≡ false → AllHonest at (st .table) (runTargets AuditValue name given vs a at st .reports)
+unfolding runTargets commandError
+targets-honest name given vs (noTarget code) at st n = more (of-none name code) no-more
+targets-honest name given vs gateway at st n = more of-root no-more
+targets-honest name given vs (targets wild is) at st n =
+    subst (AllHonest at (st .table)) (sym (attempts-report wild name given vs is at st n)) (all-honest wild name given vs at (st .table) is)
 
 named-honest : (name : List ℕ) (given : ℕ) (items : Bool) (j : Judged) (at : Context) (st : State) → isChoose at ≡ false → AllHonest at (st .table) (named AuditValue name given items j at st .reports)
-unfolding named missed
+unfolding named commandError
 named-honest name given items (Wrong code) at st n = more (of-none name code) no-more
-named-honest name given items (Right vs) at st n = aimed-honest name given vs _ at st n
+named-honest name given items (Right vs) at st n = targets-honest name given vs _ at st n
 
 ordered-honest : (o : Bool) (name : List ℕ) (items : Items) (given : ℕ) (at : Context) (st : State) → AllHonest at (st .table) (ordered o (some AuditValue) name items given at st .reports)
-unfolding ordered actionError unlessOptional tested missed
+unfolding ordered actionError unlessOptional tested commandError
 ordered-honest o name items given at st =
-    pick-of (λ (x : Outcome). AllHonest at (st .table) (x .reports)) (barred AuditValue at) (λ _. more (of-action 421) no-more)
-    (λ _. pick-of (λ (x : Outcome). AllHonest at (st .table) (x .reports)) (lost AuditValue at (seen (numberOf at) (st .table) .held)) (λ _. more (of-none name 411) no-more)
+    pick-of (λ (x : Outcome). AllHonest at (st .table) (x .reports)) (forbiddenInNull AuditValue at) (λ _. more (of-action 421) no-more)
+    (λ _. pick-of (λ (x : Outcome). AllHonest at (st .table) (x .reports)) (noContext AuditValue at (seen (numberOf at) (st .table) .held)) (λ _. more (of-none name 411) no-more)
     (λ l. named-honest name given _ _ at st (settled-place at _ l)))
 
 pub reports-held : ReportsHeld
@@ -108,23 +109,23 @@ reports-held (command o w word name items) e given at st =
 
 -- ---- a command that comes to its attempts
 
-never-barred : (at : Context) → barred AuditValue at ≡ false
-unfolding barred isNull inPlace
-never-barred Null = refl
-never-barred (Numbered c) = refl
-never-barred Choose = refl
-never-barred All = refl
+never-421 : (at : Context) → forbiddenInNull AuditValue at ≡ false
+unfolding forbiddenInNull isNull inPlace
+never-421 Null = refl
+never-421 (Numbered c) = refl
+never-421 Choose = refl
+never-421 All = refl
 
 -- tests 1 to 3 passed
-pub aims : (o w : Bool) (word name : List ℕ) (items : Items) (vs : Values) (given : ℕ) (at : Context) (st : State) → opOf w word ≡ some AuditValue
-    → lost AuditValue at (seen (numberOf at) (st .table) .held) ≡ false → judgeItems AuditValue items ≡ Right vs
+pub targets-run : (o w : Bool) (word name : List ℕ) (items : Items) (vs : Values) (given : ℕ) (at : Context) (st : State) → opOf w word ≡ some AuditValue
+    → noContext AuditValue at (seen (numberOf at) (st .table) .held) ≡ false → judgeItems AuditValue items ≡ Right vs
     → runCommand (command o w word name items) given at st .reports
-    ≡ aimed AuditValue name given vs (aim AuditValue at (notForRoot AuditValue (given? items) vs) (nameOf (fitted (st .table)) name) (st .table)) at st .reports
+    ≡ runTargets AuditValue name given vs (targetsOf AuditValue at (notForRoot AuditValue (given? items) vs) (nameOf (fitted (st .table)) name) (st .table)) at st .reports
 unfolding runCommand ordered tested named unlessOptional pick
-aims o w word name items vs given at st e l j = rw (e, never-barred at, l, j)
+targets-run o w word name items vs given at st e l j = rw (e, never-421 at, l, j)
 
 pub reports-named : ReportsNamed
-unfolding aim aimed pick
+unfolding targetsOf runTargets pick
 reports-named o w word name items vs given at st i e l j n x h =
-    aims o w word name items vs given at st e l j
-    ∙ rw (n, x) (tries-report false name given vs (i ∷ []) at st (settled-place at _ l) ∙ rw (eq-eqb (get (st .table) (ctx i)) (numberOf at) h))
+    targets-run o w word name items vs given at st e l j
+    ∙ rw (n, x) (attempts-report false name given vs (i ∷ []) at st (settled-place at _ l) ∙ rw (eq-eqb (get (st .table) (ctx i)) (numberOf at) h))

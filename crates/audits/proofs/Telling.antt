@@ -10,8 +10,9 @@ use Rattle.base.specs.Pick.{pick}
 use Rattle.base.specs.Bytes.{text, _then_}
 use Rattle.megaco.specs.Table.{terminations, fitted, cell, prop, get, modeOf, stateOf, sound}
 use Rattle.megaco.specs.Reply.{media, stateText, modeText, serviceStates, localControl, descriptors, detailText}
-use Rattle.megaco.specs.Running.{told}
-use Rattle.laws.specs.Sound.{SoundWord, sound-whole}
+use Rattle.megaco.specs.Attempt.{detailOf}
+use Rattle.laws.specs.Sound.{SoundWord}
+use Rattle.laws.proofs.Sound.{sound-whole}
 use Rattle.audits.specs.Audits.{TextsTell}
 
 -- the state by the first letter of its text, the mode by the second of its
@@ -54,8 +55,8 @@ told-back (suc (suc (suc s))) m h k = absurd (omega arith)
 word-by : (w v : ℕ) → modeOf w ≡ modeOf v → stateOf w ≡ stateOf v → w ≡ v
 word-by w v e f = omega arith
 
-word-told : (w v : ℕ) → SoundWord w → SoundWord v → detailText (told true w) ≡ detailText (told true v) → w ≡ v
-unfolding told pick
+word-told : (w v : ℕ) → SoundWord w → SoundWord v → detailText (detailOf true w) ≡ detailText (detailOf true v) → w ≡ v
+unfolding detailOf pick
 word-told w v a b e =
     let p = told-back (stateOf w) (modeOf w) (a .state) (a .mode) in
     let q = told-back (stateOf v) (modeOf v) (b .state) (b .mode) in

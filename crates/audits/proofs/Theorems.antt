@@ -8,7 +8,7 @@ use Rattle.megaco.specs.Tree.{Transaction, wellFormed, fault400, fault403, faul
 use Rattle.megaco.specs.Reading.{messageR}
 use Rattle.megaco.specs.State.{State}
 use Rattle.megaco.specs.Call.{call}
-use Rattle.laws.specs.Bounds.{fault-keeps}
+use Rattle.laws.proofs.Bounds.{fault-keeps}
 use Rattle.audits.specs.Audits.{Faulty, AsBefore, Trusted}
 use Rattle.audits.proofs.Keeping.{stays, transaction-stays}
 use Rattle.audits.proofs.Reporting.{reports-held, reports-named}

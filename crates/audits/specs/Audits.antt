@@ -13,7 +13,9 @@ use Rattle.megaco.specs.State.{State}
 use Rattle.megaco.specs.Names.{inRange, nameOf, nameText}
 use Rattle.megaco.specs.Items.{judgeItems}
 use Rattle.megaco.specs.Reply.{nothing, media, Report, done, refused, failed, detailText}
-use Rattle.megaco.specs.Running.{seen, numberOf, lost, told, matches, opOf, runCommand, runTransaction}
+use Rattle.megaco.specs.Attempt.{seen, numberOf, detailOf}
+use Rattle.megaco.specs.Command.{noContext, matches, opOf, runCommand}
+use Rattle.megaco.specs.Transaction.{runTransaction}
 use Rattle.megaco.specs.Call.{call}
 use Rattle.megaco.specs.declared.Context.{Context}
 use Rattle.megaco.specs.declared.Op.the-variants.{AuditValue}
@@ -50,7 +52,7 @@ TransactionStays = (id : ℕ) (acts : List Action) → OnlyAudits acts → (st :
 
 -- what an audit of a termination reports: its name and, where Media is audited, the state and the mode in its word of the table
 abbrev pub heldReport : Values → List ℕ → ℕ → Report
-heldReport vs t i = done AuditValue (nameText (fitted t) i) (told (vs .audited) (get t (cell (prop i))))
+heldReport vs t i = done AuditValue (nameText (fitted t) i) (detailOf (vs .audited) (get t (cell (prop i))))
 
 -- a report that an audit may give: of a termination that stands in the action's context, what the table holds; of ROOT the name; or an error
 pub data Honest (at : Context) (t : List ℕ) : Report → Type 0 where
@@ -71,7 +73,7 @@ ReportsHeld = (c : Command) → IsAudit c → (given : ℕ) (at : Context) (st :
 abbrev pub ReportsNamed : Type 0
 ReportsNamed =
     (o w : Bool) (word name : List ℕ) (items : Items) (vs : Values) (given : ℕ) (at : Context) (st : State) (i : ℕ) → opOf w word ≡ some AuditValue
-    → lost AuditValue at (seen (numberOf at) (st .table) .held) ≡ false → judgeItems AuditValue items ≡ Right vs → nameOf (fitted (st .table)) name ≡ Termination i
+    → noContext AuditValue at (seen (numberOf at) (st .table) .held) ≡ false → judgeItems AuditValue items ≡ Right vs → nameOf (fitted (st .table)) name ≡ Termination i
     → exists (fitted (st .table)) i (get (st .table) (ctx i)) ≡ true → get (st .table) (ctx i) ≡ numberOf at
     → runCommand (command o w word name items) given at st .reports ≡ heldReport vs (st .table) i ∷ []
 
@@ -79,7 +81,7 @@ ReportsNamed =
 abbrev pub TextsTell : Type 0
 TextsTell =
     (t : List ℕ) → sound t ≡ true → (i j : ℕ) → i < terminations (fitted t) → j < terminations (fitted t)
-    → detailText (told true (get t (cell (prop i)))) ≡ detailText (told true (get t (cell (prop j)))) → get t (cell (prop i)) ≡ get t (cell (prop j))
+    → detailText (detailOf true (get t (cell (prop i)))) ≡ detailText (detailOf true (get t (cell (prop j)))) → get t (cell (prop i)) ≡ get t (cell (prop j))
 
 -- ---- (c) wildcards
 
@@ -110,7 +112,7 @@ pub record Wild (r : Range) (vs : Values) (name : List ℕ) (at : Context) (t : 
 abbrev pub ReportsWild : Type 0
 ReportsWild =
     (o w : Bool) (word name : List ℕ) (items : Items) (vs : Values) (given : ℕ) (at : Context) (st : State) (r : Range) → sound (st .table) ≡ true → opOf w word ≡ some AuditValue
-    → lost AuditValue at (seen (numberOf at) (st .table) .held) ≡ false → judgeItems AuditValue items ≡ Right vs → nameOf (fitted (st .table)) name ≡ Wildcard r
+    → noContext AuditValue at (seen (numberOf at) (st .table) .held) ≡ false → judgeItems AuditValue items ≡ Right vs → nameOf (fitted (st .table)) name ≡ Wildcard r
     → Wild r vs name at (st .table) (runCommand (command o w word name items) given at st .reports)
 
 -- ---- (d) the afternoon: after a message that is answered with 400, 403 or 406 any message, and so any audit, is answered as it would have been before it

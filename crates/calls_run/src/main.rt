@@ -3,7 +3,7 @@
 // then the mId, the message, the runs (21 bytes each: from, to, word) and a line end. Each call is told in one line: its number, the
 // refusal or the reply's length and its bytes, the sum of the table and the sum of the whole buffer. tools/call_cases.py writes the
 // input and the output.
-use gateway::Outcome;
+use gateway::CallOutcome;
 use libc::STDIN_FILENO;
 use libc::STDOUT_FILENO;
 ghost use Prim.Native.Nat.{_<_, _≤_};
@@ -220,15 +220,15 @@ fn sum_bytes(reply: &[u8]) -> u32 {
 
 // ---- writing
 
-fn tell(k: u64, a: Outcome, reply: &[u8]) {
+fn tell(k: u64, a: CallOutcome, reply: &[u8]) {
     io::print_decimal(STDOUT_FILENO, k);
     match a {
-        Outcome::Taken(n) => say_reply(reply, n),
-        Outcome::MessageUnfit => say(b" refused 1"),
-        Outcome::TableUnsound => say(b" refused 2"),
-        Outcome::ReplyTooShort => say(b" refused 3"),
-        Outcome::MidUnfit => say(b" refused 4"),
-        Outcome::LinesUnfit => say(b" refused 8"),
+        CallOutcome::Taken(n) => say_reply(reply, n),
+        CallOutcome::MessageUnfit => say(b" refused 1"),
+        CallOutcome::TableUnsound => say(b" refused 2"),
+        CallOutcome::ReplyTooShort => say(b" refused 3"),
+        CallOutcome::MidUnfit => say(b" refused 4"),
+        CallOutcome::LinesUnfit => say(b" refused 8"),
     }
 }
 

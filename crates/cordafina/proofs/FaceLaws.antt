@@ -6,14 +6,14 @@ use native.Mathlib.Omega.{arith}
 use Rattle.megaco.specs.State.{State}
 use Rattle.megaco.specs.Call.{Called}
 use Rattle.gateway.specs.Answers.{refusalOf, sizeOf, Answered, numberOf, Packed}
-use Rattle.gateway.specs.declared.Outcome.{Outcome}
-use Rattle.gateway.specs.declared.Outcome.the-variants.{Taken, ReplyTooShort, TableUnsound, MidUnfit, MessageUnfit, LinesUnfit}
+use Rattle.gateway.specs.declared.CallOutcome.{CallOutcome}
+use Rattle.gateway.specs.declared.CallOutcome.the-variants.{Taken, ReplyTooShort, TableUnsound, MidUnfit, MessageUnfit, LinesUnfit}
 
-pub packs : (c : Called) (t′ : State) (o′ : List ℕ) (a : Outcome) (r : ℕ) → Answered c t′ o′ a → r ≡ numberOf a → Packed c t′ o′ r
+pub packs : (c : Called) (t′ : State) (o′ : List ℕ) (a : CallOutcome) (r : ℕ) → Answered c t′ o′ a → r ≡ numberOf a → Packed c t′ o′ r
 unfolding numberOf
 packs c t′ o′ a r d e = record { answer = e ∙ (λ i. d .size i + 4294967296 * d .refusal i); state = d .state; reply = d .reply }
 
-module _ (a : Outcome) where
+module _ (a : CallOutcome) where
   pub number-taken : (n : ℕ) → a ≡ Taken n → n ≡ numberOf a
   unfolding numberOf sizeOf refusalOf
   number-taken n e = rw e (omega arith)

@@ -3,7 +3,7 @@
 pub mod contexts;
 pub mod digit_maps;
 
-use gateway::Outcome;
+use gateway::CallOutcome;
 ghost use mathlib.Core.Path.{_≡_};
 ghost use Rattle.base.specs.Lists.{lowestAbsent};
 ghost use Rattle.megaco.specs.Map.{digits, inUse};
@@ -12,16 +12,16 @@ ghost use Rattle.megaco.specs.Call.{call};
 ghost use Rattle.gateway.specs.Answers.{numberOf, Packed};
 
 // An answer as one number: the reply's length in the low 32 bits, the number of the refusal in the high 32, 0 for a call that is taken.
-fn number_of(a: Outcome) -> u64
+fn number_of(a: CallOutcome) -> u64
     ensures { λ r. ⌜ r ≡ numberOf a ⌝ }
 {
     match a {
-        Outcome::Taken(n) => n as u64,
-        Outcome::ReplyTooShort => 3 * 4294967296,
-        Outcome::TableUnsound => 2 * 4294967296,
-        Outcome::MidUnfit => 4 * 4294967296,
-        Outcome::MessageUnfit => 4294967296,
-        Outcome::LinesUnfit => 8 * 4294967296,
+        CallOutcome::Taken(n) => n as u64,
+        CallOutcome::ReplyTooShort => 3 * 4294967296,
+        CallOutcome::TableUnsound => 2 * 4294967296,
+        CallOutcome::MidUnfit => 4 * 4294967296,
+        CallOutcome::MessageUnfit => 4294967296,
+        CallOutcome::LinesUnfit => 8 * 4294967296,
     }
 }
 

@@ -10,15 +10,15 @@ use Rattle.megaco.specs.Tree.{Transaction, Message, wellFormed, fault400, fault
 use Rattle.megaco.specs.Reading.{messageR}
 use Rattle.megaco.specs.State.{State}
 use Rattle.megaco.specs.Reply.{headerText, errorText, replyText}
-use Rattle.megaco.specs.Running.{Ran, ran, runTransactions, runMessage}
+use Rattle.megaco.specs.Transaction.{Ran, ran, runTransactions, runMessage}
 use Rattle.megaco.specs.Call.{Called, written, replied, taken, call}
 use Rattle.grammar.specs.Grammar.{megacoMessage}
 use Rattle.grammar.specs.Faults.{Fault403, Fault406}
-use Rattle.grammar.proofs.Theorems.{sound, complete, one-meaning, fault-400, fault-403, fault-406}
-use Rattle.laws.specs.Bounds.{reply-fits}
+use Rattle.grammar.proofs.Theorems.{read-derives, complete, one-meaning, fault-400, fault-403, fault-406}
+use Rattle.laws.proofs.Bounds.{reply-fits}
 use Rattle.gateway.specs.Answers.{refusalOf, sizeOf}
-use Rattle.gateway.specs.declared.Outcome.{Outcome}
-use Rattle.gateway.specs.declared.Outcome.the-variants.{Taken, ReplyTooShort, TableUnsound, MidUnfit, MessageUnfit, LinesUnfit}
+use Rattle.gateway.specs.declared.CallOutcome.{CallOutcome}
+use Rattle.gateway.specs.declared.CallOutcome.the-variants.{Taken, ReplyTooShort, TableUnsound, MidUnfit, MessageUnfit, LinesUnfit}
 use Rattle.demands.specs.Demands.{Made, replyWith, Leaves, Admitted, Fault400, Demand-2}
 use Rattle.demands.proofs.Turning.{Fits, fits, fit-call, number-is}
 use Rattle.demands.proofs.Telling.{run-told, told-400, told-403, told-406}
@@ -42,7 +42,7 @@ put-is (y ∷ o) (b ∷ x) h = ap (λ (z : List ℕ). b ∷ z) (put-is o x (omeg
 
 -- ---- a call that is taken leaves what its message does
 
-taken-answer : (r : Outcome) → refusalOf r ≡ 0 → r ≡ Taken (sizeOf r)
+taken-answer : (r : CallOutcome) → refusalOf r ≡ 0 → r ≡ Taken (sizeOf r)
 unfolding refusalOf sizeOf
 taken-answer (Taken n) e = refl
 taken-answer ReplyTooShort e = absurd (omega (arith, e))
@@ -90,7 +90,7 @@ module _ {n : ℕ} {m : List ℕ} {st : State} {own o : List ℕ} (c : Made n m 
   run : Admitted m ↔ ((xs : List Transaction) × Leaves c (runTransactions xs st))
   run = (
     λ d. (d .0, gives (d .0) (d .1)),
-    λ l. let r = run-told st (messageR m) (l .0) (one-text left (l .1)) in (r .0, sound m (r .0) (r .1)),
+    λ l. let r = run-told st (messageR m) (l .0) (one-text left (l .1)) in (r .0, read-derives m (r .0) (r .1)),
   )
 
   on-406 : Fault406 m ↔ Leaves c (ran st (errorText 406))
@@ -115,7 +115,7 @@ one-of : (m : List ℕ) → Admitted m ⊎ Fault406 m ⊎ ((id : ℕ) × Fault40
 one-of m = go (messageR m) refl
   where
     go : (y : Message) → messageR m ≡ y → Admitted m ⊎ Fault406 m ⊎ ((id : ℕ) × Fault403 m id) ⊎ Fault400 m
-    go (wellFormed xs) q = inl (xs, sound m xs q)
+    go (wellFormed xs) q = inl (xs, read-derives m xs q)
     go fault406 q = inr (inl (fault-406 m .0 q))
     go (fault403 id) q = inr (inr (inl (id, fault-403 m id .0 q)))
     go fault400 q = inr (inr (inr (elsewhere m .0 q)))

@@ -9,9 +9,9 @@ use Rattle.megaco.specs.Tree.{Transaction, Message, wellFormed, fault400, fault
 use Rattle.megaco.specs.Reading.{messageR}
 use Rattle.megaco.specs.State.{State}
 use Rattle.megaco.specs.Reply.{headerText}
-use Rattle.megaco.specs.Running.{runMessage}
+use Rattle.megaco.specs.Transaction.{runMessage}
 use Rattle.megaco.specs.Call.{Called, call}
-use Rattle.laws.specs.Bounds.{fault-keeps}
+use Rattle.laws.proofs.Bounds.{fault-keeps}
 use Rattle.gateway.specs.Answers.{refusalOf, sizeOf}
 use Rattle.demands.specs.Demands.{Made, replyWith, replyOf}
 use Rattle.demands.specs.Afternoon.{Faulted, with-400, with-406, with-403, SameAs, Afternoon}

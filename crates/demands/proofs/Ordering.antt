@@ -9,13 +9,14 @@ use Rattle.base.proofs.TextLaws.{then-none}
 use Rattle.megaco.specs.Tree.{Transaction}
 use Rattle.megaco.specs.Table.{words, sound}
 use Rattle.megaco.specs.State.{State}
-use Rattle.megaco.specs.Running.{Ran, ran, runTransaction, runTransactions}
+use Rattle.megaco.specs.Transaction.{Ran, ran, runTransaction, runTransactions}
 use Rattle.megaco.proofs.Sizes.{fitted-is}
-use Rattle.laws.specs.Sound.{sound-whole}
+use Rattle.laws.proofs.Sound.{sound-whole}
 use Rattle.laws.specs.Apart.{Apart}
-use Rattle.laws.specs.Demand.{EitherOrder, either-order, any-mixture}
+use Rattle.laws.specs.Demand.{EitherOrder}
+use Rattle.laws.proofs.Demand.{either-order, any-mixture}
 use Rattle.gateway.specs.Answers.{refusalOf, sizeOf}
-use Rattle.gateway.specs.declared.Outcome.the-variants.{Taken}
+use Rattle.gateway.specs.declared.CallOutcome.the-variants.{Taken}
 use Rattle.grammar.specs.Grammar.{megacoMessage}
 use Rattle.demands.specs.Demands.{Made, LinesFit, BufferFits, TableFits, OwnFits, MessageFits, allFit, InRange, replyWith, Leaves, Conditions, Sent, replyOf, Alike, Demand-3}
 use Rattle.demands.proofs.Turning.{number-is, demand-1}

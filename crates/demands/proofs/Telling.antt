@@ -13,7 +13,7 @@ use Rattle.base.proofs.PickLaws.{pick-ind}
 use Rattle.megaco.specs.Tree.{Transaction, transaction, Message, wellFormed, fault400, fault403, fault406}
 use Rattle.megaco.specs.State.{State}
 use Rattle.megaco.specs.Reply.{Acted, actionText, earlierText, actionsText, errorText, replyText, limited, transactionText}
-use Rattle.megaco.specs.Running.{runTransaction, runTransactions, runMessage}
+use Rattle.megaco.specs.Transaction.{runTransaction, runTransactions, runMessage}
 use Rattle.grammar.specs.Grammar.{valueFrom}
 
 -- ---- a number in decimal is digits, and tells the number

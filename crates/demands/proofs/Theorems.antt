@@ -1,5 +1,5 @@
 -- The three demands, met.
-use Rattle.laws.specs.Sound.{sound-whole, whole-sound}
+use Rattle.laws.proofs.Sound.{sound-whole, whole-sound}
 use Rattle.demands.specs.Demands.{From-C, Soundness, Demand-1, Demand-2, Demand-3, Pair}
 use Rattle.demands.proofs.Turning
 use Rattle.demands.proofs.Admitting

@@ -17,12 +17,12 @@ use Rattle.megaco.specs.State.{State}
 use Rattle.megaco.specs.Names.{within}
 use Rattle.megaco.specs.Call.{Called, written, replied, taken, call}
 use Rattle.grammar.proofs.OwnLaws.{own-mid}
-use Rattle.laws.specs.Bounds.{refusal-keeps, call-bounded}
-use Rattle.laws.specs.Runs.{call-length}
-use Rattle.laws.specs.Kept.{call-sound}
+use Rattle.laws.proofs.Bounds.{refusal-keeps, call-bounded}
+use Rattle.laws.proofs.Runs.{call-length}
+use Rattle.laws.proofs.Kept.{call-sound}
 use Rattle.gateway.specs.Answers.{refusalOf, sizeOf}
-use Rattle.gateway.specs.declared.Outcome.{Outcome}
-use Rattle.gateway.specs.declared.Outcome.the-variants.{Taken, ReplyTooShort, TableUnsound, MidUnfit, MessageUnfit, LinesUnfit}
+use Rattle.gateway.specs.declared.CallOutcome.{CallOutcome}
+use Rattle.gateway.specs.declared.CallOutcome.the-variants.{Taken, ReplyTooShort, TableUnsound, MidUnfit, MessageUnfit, LinesUnfit}
 use Rattle.demands.specs.Demands.{Made, From-C, LinesFit, BufferFits, TableFits, OwnFits, MessageFits, Refusal, linesUnfit, bufferUnfit, tableUnfit, ownUnfit, messageUnfit, allFit, Untouched, InRange, Demand-1}
 
 -- ---- each test of the call, and what it tests
@@ -146,7 +146,7 @@ demand-1 n m st own o c = record { number = number-is c; down = untouched c; tak
 -- ---- an answer for each refusal: a call from C
 
 record Outcomes (k s : ℕ) : Type 0 where
-  outcome : Outcome
+  outcome : CallOutcome
   refusal : refusalOf outcome ≡ k
   size : sizeOf outcome ≡ s
 

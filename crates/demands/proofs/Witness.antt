@@ -18,7 +18,8 @@ use Rattle.grammar.specs.Grammar.{atMost, transactionList, lastRequest, nextReq
 use Rattle.grammar.specs.Grammar
 use Rattle.grammar.proofs.Theorems
 use Rattle.grammar.proofs.OwnLaws.{own-mid}
-use Rattle.laws.specs.Witness.{message, read, start, one, two, tests, reads-one, reads-two, start-sound, both-change, apart}
+use Rattle.laws.specs.Witness.{message, read, start, one, two}
+use Rattle.laws.proofs.Witness.{tests, reads-one, reads-two, start-sound, both-change, apart}
 use Rattle.demands.specs.Demands.{WellFormed, Pair}
 
 -- a transaction that the grammar finds in a message is well-formed
@@ -51,10 +52,10 @@ unfolding tests
 own-is = refl
 
 admits-one : megacoMessage (message one) 1 (read one ∷ [])
-admits-one = Theorems.sound (message one) (read one ∷ []) reads-one
+admits-one = Theorems.read-derives (message one) (read one ∷ []) reads-one
 
 admits-two : megacoMessage (message two) 1 (read two ∷ [])
-admits-two = Theorems.sound (message two) (read two ∷ []) reads-two
+admits-two = Theorems.read-derives (message two) (read two ∷ []) reads-two
 
 pub pair : Pair
 pair =

@@ -10,25 +10,24 @@ use Rattle.megaco.specs.Tree.{Transaction}
 use Rattle.megaco.specs.Table.{words, fitted, sound}
 use Rattle.megaco.specs.State.{State}
 use Rattle.megaco.specs.Reply.{headerText, errorText, replyText}
-use Rattle.megaco.specs.Running.{Ran, ran, runTransaction, runTransactions}
+use Rattle.megaco.specs.Transaction.{Ran, ran, runTransaction, runTransactions}
 use Rattle.megaco.specs.Call.{call}
 use Rattle.grammar.specs.Grammar.{mId, transactionRequest, megacoMessage}
 use Rattle.grammar.specs.Faults.{Fault403, Fault406}
 use Rattle.laws.specs.Sound.{Whole}
-use Rattle.laws.specs.Mix.{Mixture, mixed}
+use Rattle.laws.specs.Mix.{Mixture, mixed, stepsOf, bothFresh}
 use Rattle.laws.specs.Apart.{ContextsPlain, NamesPlain, TerminationsApart, ContextsApart}
-use Rattle.laws.specs.Reaching.{stepsOf, outset}
 use Rattle.laws.specs.Demand.{EitherOrder, AsOneAfterOther}
 use Rattle.gateway.specs.Answers.{refusalOf, sizeOf, Answered, Packed}
-use Rattle.gateway.specs.declared.Outcome.{Outcome}
-use Rattle.gateway.specs.declared.Outcome.the-variants.{Taken}
+use Rattle.gateway.specs.declared.CallOutcome.{CallOutcome}
+use Rattle.gateway.specs.declared.CallOutcome.the-variants.{Taken}
 
 -- a call of `answer` that was made with n lines, the message m, the state st (the table), the gateway's own mId and the reply buffer o: the
 -- state and the buffer that it left and what it answered, of which its contract promises `Answered`. It has no `requires`
 pub record Made (n : ℕ) (m : List ℕ) (st : State) (own o : List ℕ) : Type 0 where
   pub state : State
   pub buffer : List ℕ
-  pub answer : Outcome
+  pub answer : CallOutcome
   pub promise : Answered (call n m st own o) state buffer answer
 
 -- a call of `cordafina_answer`, from C, is such a call with the answer in one number: so all that is said here of calls is said of these
@@ -201,7 +200,7 @@ pub record Orders (st : State) (x y : Transaction) : Type 0 where
   pub calls : (n : ℕ) (own m k : List ℕ) → Sent n st own m k x y → (o₁ o₂ o₃ o₄ : List ℕ) → BufferFits o₁ → BufferFits o₂ → BufferFits o₃ → BufferFits o₄
       → (a : Made n m st own o₁) (b : Made n k (a .state) own o₂) (c : Made n k st own o₃) (d : Made n m (c .state) own o₄) → Alike a b c d
   -- document 02, CR 13: "in any mixture that keeps each one's own order"
-  pub mixture : (z : Mixture (stepsOf x) (stepsOf y)) → AsOneAfterOther st x y (mixed z (outset st))
+  pub mixture : (z : Mixture (stepsOf x) (stepsOf y)) → AsOneAfterOther st x y (mixed z (bothFresh st))
 
 abbrev pub Demand-3 : Type 0
 Demand-3 =

@@ -28,7 +28,7 @@ enum Settings {
 }
 
 // LF.
-const LINE_END: u8 = 10;
+const LINE_END: u8 = b'\n';
 
 // ---- lines taken
 

@@ -2,7 +2,7 @@
 ghost use mathlib.Core.Path.{_≡_};
 ghost use mathlib.Core.Bool.{false};
 ghost use mathlib.Core.List.{[], _∷_};
-ghost use Prim.Native.Nat.{_<_, _≤_, min};
+ghost use Prim.Native.Nat.{_<_, _≤_};
 ghost use lib.ListN.{length, take};
 ghost use Rattle.base.specs.Out.{Appended};
 ghost use Rattle.digits.specs.Symbols.{symbolsOf};
@@ -172,7 +172,7 @@ fn list(s: &[u8], cells: &mut [u32]) -> Parsed
             return Parsed::Fault;
         };
         n = fill(map_text::rest(u, from), cells, n);
-        if text::is_at(u, to, 0x7c) {
+        if text::is_at(u, to, b'|') {
             i += to + 1;
             left -= 1;
         } else {
@@ -206,7 +206,7 @@ fn store(s: &[u8], cells: &mut [u32]) -> Parsed
     let Parsed::Next(p) = w else {
         return Parsed::Fault;
     };
-    if text::is_at(s, p, 0x28) {
+    if text::is_at(s, p, b'(') {
         return list(map_text::rest(s, p + 1), cells);
     }
     bare(s, cells)
@@ -308,18 +308,12 @@ pub fn answer(first: Timer, w: &[u8], r: Reach) -> Dialled
     }
 }
 
-fn low(a: usize, b: usize) -> usize
-    ensures { λ r. ⌜ r ≡ min a b ⌝ }
-{
-    if a < b { a } else { b }
-}
-
 // A string and the alternatives in the first cells.
 fn among_first(cells: &[u32], count: usize, w: &[u8]) -> Reach
     requires { ⌜ length (now cells) ≤ 1040 ⌝ }
     ensures { λ r. ⌜ ReachesAny (altsOf (take count (now (cells .entry)))) (symbolsOf (now (w .entry))) r ⌝ }
 {
-    let n = low(count, cells.len());
+    let n = numbers::low(count, cells.len());
     among(&cells[0..n], w)
 }
 

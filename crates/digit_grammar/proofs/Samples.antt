@@ -12,7 +12,7 @@ use Rattle.megaco.specs.Reading.{bind, skip}
 use Rattle.digits.specs.Symbols.{letterOf, symbolOf, symbolAt, spanOf}
 use Rattle.digits.specs.DigitMap.{taken, spaced, rangeTo, spanAt, lettersF, closeAt, rangeAt, bracketAt, isX, positionAt, dotAt, elementAt, elementThen, stringF, someOf, stringR, alternativeR, read, gone, onto, endsAt, listF, bareR, mapR}
 use Rattle.digit_grammar.specs.DigitGrammar.{digitMap}
-use Rattle.digit_grammar.proofs.Theorems.{sound, no-map}
+use Rattle.digit_grammar.proofs.Theorems.{read-derives, no-map}
 
 -- what the samples compute by
 unfoldable opened : Unit {0}
@@ -23,22 +23,22 @@ opened = tt
 four-strings : digitMap (text "(0| 00|[1-7]xxx|9011x.)")
     ((1 ∷ []) ∷ (1 ∷ 1 ∷ []) ∷ (254 ∷ 1023 ∷ 1023 ∷ 1023 ∷ []) ∷ (512 ∷ 1 ∷ 2 ∷ 2 ∷ 2098175 ∷ []) ∷ [])
 unfolding opened
-four-strings = sound _ _ refl
+four-strings = read-derives _ _ refl
 
 -- white space and comments where Annex B has LWSP, a set of a symbol and a range of letters in either case
 spaced-list : digitMap (text " ;plan\n( 1 [ 2a-D ;x\r\n] . |\tX )\r\n") ((2 ∷ 2112516 ∷ []) ∷ (1023 ∷ []) ∷ [])
 unfolding opened
-spaced-list = sound _ _ refl
+spaced-list = read-derives _ _ refl
 
 -- white space between selectors, and before a dot, only beside a bracket
 beside-brackets : digitMap (text "(1 [23]|[12] .)") ((2 ∷ 12 ∷ []) ∷ (2097158 ∷ []) ∷ [])
 unfolding opened
-beside-brackets = sound _ _ refl
+beside-brackets = read-derives _ _ refl
 
 -- one string without parentheses
 bare-string : digitMap (text "9[3-3k]") ((512 ∷ 1048584 ∷ []) ∷ [])
 unfolding opened
-bare-string = sound _ _ refl
+bare-string = read-derives _ _ refl
 
 abbrev Refused : List ℕ → Type 0
 Refused s = (m : List (List ℕ)) → ¬ digitMap s m

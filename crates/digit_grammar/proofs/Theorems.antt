@@ -16,15 +16,15 @@ use Rattle.digit_grammar.specs.DigitGrammar.{digitMap}
 use Rattle.digit_grammar.proofs.MapLaws.{map-reads, map-sound}
 
 -- ---- what is read, the grammar derives, with the same map
-pub sound : (s : List ℕ) (m : List (List ℕ)) → mapR s ≡ some m → digitMap s m
-sound = map-sound
+pub read-derives : (s : List ℕ) (m : List (List ℕ)) → mapR s ≡ some m → digitMap s m
+read-derives = map-sound
 
 -- ---- what the grammar derives is read, with the same map
 pub complete : (s : List ℕ) (m : List (List ℕ)) → digitMap s m → mapR s ≡ some m
 complete s m d = map-reads d
 
 pub read-as : (s : List ℕ) (m : List (List ℕ)) → mapR s ≡ some m ↔ digitMap s m
-read-as s m = (sound s m, complete s m)
+read-as s m = (read-derives s m, complete s m)
 
 -- ---- no text has two maps
 pub one-map : (s : List ℕ) (m k : List (List ℕ)) → digitMap s m → digitMap s k → m ≡ k
@@ -36,7 +36,7 @@ no-map s = (λ h m d. let f = complete s m d in let z : _≡_ {A = ℕ} 0 1 = cc
   where
     by : (r : Option (List (List ℕ))) → mapR s ≡ r → ((m : List (List ℕ)) → ¬ digitMap s m) → r ≡ none
     by none e h = refl
-    by (some m) e h = absurd (h m (sound s m e))
+    by (some m) e h = absurd (h m (read-derives s m e))
 
 -- "6 for a malformed or too large map": so where the grammar derives none, whatever the start timer, its rule and the dialled string
 pub refusal-6 : (s : List ℕ) (start : ℕ) (rule : ZeroStart) (w : List ℕ)

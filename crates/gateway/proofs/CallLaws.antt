@@ -18,13 +18,13 @@ use Rattle.megaco.specs.Table.{words, mostLines, sound}
 use Rattle.megaco.specs.State.{State, state}
 use Rattle.megaco.specs.Names.{within}
 use Rattle.megaco.specs.Reply.{headerText}
-use Rattle.megaco.specs.Running.{runMessage}
+use Rattle.megaco.specs.Transaction.{runMessage}
 use Rattle.megaco.specs.Call.{Called, written, replied, taken, call}
-use Rattle.laws.specs.Bounds.{reply-fits}
-use Rattle.running.specs.Promises.{Wrote}
+use Rattle.laws.proofs.Bounds.{reply-fits}
+use Rattle.run_action.specs.Promises.{Wrote}
 use Rattle.gateway.specs.Answers.{refusalOf, sizeOf, Answered, Packed}
-use Rattle.gateway.specs.declared.Outcome.{Outcome}
-use Rattle.gateway.specs.declared.Outcome.the-variants.{Taken, ReplyTooShort, TableUnsound, MidUnfit, MessageUnfit, LinesUnfit}
+use Rattle.gateway.specs.declared.CallOutcome.{CallOutcome}
+use Rattle.gateway.specs.declared.CallOutcome.the-variants.{Taken, ReplyTooShort, TableUnsound, MidUnfit, MessageUnfit, LinesUnfit}
 
 pub unfit-lines : (lines : ℕ) (m t own o : List ℕ) (x : Bool) → x ≡ within lines mostLines → x ≡ false → Answered (call lines m (state t) own o) (state t) o LinesUnfit
 unfolding call refusalOf sizeOf pick

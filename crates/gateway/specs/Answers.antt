@@ -4,11 +4,11 @@ use mathlib.Core.Path.{_≡_}
 use mathlib.Core.List.{List}
 use Rattle.megaco.specs.State.{State}
 use Rattle.megaco.specs.Call.{Called}
-use Rattle.gateway.specs.declared.Outcome.{Outcome}
-use Rattle.gateway.specs.declared.Outcome.the-variants.{Taken, ReplyTooShort, TableUnsound, MidUnfit, MessageUnfit, LinesUnfit}
+use Rattle.gateway.specs.declared.CallOutcome.{CallOutcome}
+use Rattle.gateway.specs.declared.CallOutcome.the-variants.{Taken, ReplyTooShort, TableUnsound, MidUnfit, MessageUnfit, LinesUnfit}
 
 -- 'Calls turned down': the number, 0 for a call that is taken
-unfoldable pub refusalOf : Outcome → ℕ
+unfoldable pub refusalOf : CallOutcome → ℕ
 refusalOf (Taken n) = 0
 refusalOf ReplyTooShort = 3
 refusalOf TableUnsound = 2
@@ -17,7 +17,7 @@ refusalOf MessageUnfit = 1
 refusalOf LinesUnfit = 8
 
 -- the reply's length: "Each gives length 0"
-unfoldable pub sizeOf : Outcome → ℕ
+unfoldable pub sizeOf : CallOutcome → ℕ
 sizeOf (Taken n) = n
 sizeOf ReplyTooShort = 0
 sizeOf TableUnsound = 0
@@ -26,14 +26,14 @@ sizeOf MessageUnfit = 0
 sizeOf LinesUnfit = 0
 
 -- an answer, the state made of the lent slices and the reply buffer after the call are those of the definition
-pub record Answered (c : Called) (t′ : State) (o′ : List ℕ) (r : Outcome) : Type 0 where
+pub record Answered (c : Called) (t′ : State) (o′ : List ℕ) (r : CallOutcome) : Type 0 where
   pub refusal : refusalOf r ≡ c .refusal
   pub size : sizeOf r ≡ c .size
   pub state : t′ ≡ c .state
   pub reply : o′ ≡ c .reply
 
 -- the answer as one number of 64 bits: the length in the low 32, the refusal in the high 32
-unfoldable pub numberOf : Outcome → ℕ
+unfoldable pub numberOf : CallOutcome → ℕ
 numberOf a = sizeOf a + 4294967296 * refusalOf a
 
 -- the same with that number

@@ -8,7 +8,7 @@ ghost use Rattle.megaco.specs.Call.{call};
 ghost use Rattle.gateway.specs.Answers.{Answered};
 
 // What a call answers: the reply's length, or why it was turned down (`refusalOf` gives the number of each).
-pub enum Outcome {
+pub enum CallOutcome {
     Taken(usize),
     ReplyTooShort,
     TableUnsound,
@@ -25,13 +25,13 @@ pub fn answer(
     table: &mut [u32],
     own: &[u8],
     reply: &mut [u8],
-) -> Outcome
+) -> CallOutcome
     ensures { λ r. ⌜ Answered (call lines (now (message .entry)) (state (now (table .entry))) (now (own .entry)) (now (reply .entry))) (state (now (table .exit))) (now (reply .exit)) r ⌝ }
 {
     if are_fitted(lines) {
         return answer_fitted(lines, message, table, own, reply);
     }
-    Outcome::LinesUnfit
+    CallOutcome::LinesUnfit
 }
 
 // 1 to 16.
@@ -56,26 +56,26 @@ fn answer_fitted(
     table: &mut [u32],
     own: &[u8],
     reply: &mut [u8],
-) -> Outcome
+) -> CallOutcome
     requires { ⌜ within lines mostLines ≡ true ⌝ }
     ensures { λ r. ⌜ Answered (call lines (now (message .entry)) (state (now (table .entry))) (now (own .entry)) (now (reply .entry))) (state (now (table .exit))) (now (reply .exit)) r ⌝ }
 {
     if reply.len() < 16640 {
-        return Outcome::ReplyTooShort;
+        return CallOutcome::ReplyTooShort;
     }
     let n = words_of(lines);
     if table.len() != n {
-        return Outcome::TableUnsound;
+        return CallOutcome::TableUnsound;
     }
     if sound::is_sound(table) {
         if tokens::is_mid(own) {
             if (message.len() == 0) | (4096 < message.len()) {
-                return Outcome::MessageUnfit;
+                return CallOutcome::MessageUnfit;
             }
             let p = reply::put_header(reply, 0, own);
-            return Outcome::Taken(transactions::run_message(message, table, reply, p));
+            return CallOutcome::Taken(run_message::run_message(message, table, reply, p));
         }
-        return Outcome::MidUnfit;
+        return CallOutcome::MidUnfit;
     }
-    Outcome::TableUnsound
+    CallOutcome::TableUnsound
 }

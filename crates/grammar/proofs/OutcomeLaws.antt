@@ -85,14 +85,14 @@ transaction-of {a} {b} {c} {d} {w} from rest k e n v (closed {a = x} {b = y} {c 
 
 -- ---- transactions
 
-pub data Outcome : ℕ → List ℕ → Message → Type 0 where
-  reads : {k : ℕ} {t : List ℕ} {xs : List Transaction} → transactionList t xs → length xs ≤ k → Outcome k t (wellFormed xs)
-  faults : {k n id : ℕ} {t w c : List ℕ} → Whole n w → n < k → BadTransaction c id → t ≡ w ++ c → Outcome k t (fault403 id)
-  other : {k : ℕ} {t : List ℕ} → Outcome k t fault400
+pub data TransactionsRead : ℕ → List ℕ → Message → Type 0 where
+  reads : {k : ℕ} {t : List ℕ} {xs : List Transaction} → transactionList t xs → length xs ≤ k → TransactionsRead k t (wellFormed xs)
+  faults : {k n id : ℕ} {t w c : List ℕ} → Whole n w → n < k → BadTransaction c id → t ≡ w ++ c → TransactionsRead k t (fault403 id)
+  other : {k : ℕ} {t : List ℕ} → TransactionsRead k t fault400
 
 -- a whole transaction before
-outcome-next : {k : ℕ} {t from : List ℕ} {x : Transaction} {m : Message} → Stands (λ a. transactionRequest a x) Solid from t → Outcome k t m
-    → Outcome (suc k) from (followed x m)
+outcome-next : {k : ℕ} {t from : List ℕ} {x : Transaction} {m : Message} → Stands (λ a. transactionRequest a x) Solid from t → TransactionsRead k t m
+    → TransactionsRead (suc k) from (followed x m)
 unfolding followed
 outcome-next {k} y (reads xs l) = rw (y .split) (reads {k = suc k} (nextRequest (y .derives) xs) (omega arith))
 outcome-next {k} y (faults {w} {c} o l b e) =
@@ -100,16 +100,16 @@ outcome-next {k} y (faults {w} {c} o l b e) =
 outcome-next y other = other
 
 outcome-last : {k : ℕ} {from : List ℕ} {x : Transaction} → Stands (λ a. transactionRequest a x) Solid from []
-    → Outcome (suc k) from (wellFormed (x ∷ []))
+    → TransactionsRead (suc k) from (wellFormed (x ∷ []))
 outcome-last {k} y = rw (y .split, append-nil) (reads {k = suc k} (lastRequest (y .derives)) (omega arith))
 
 pub opening-split : (a b c d t : List ℕ) → a ++ b ++ c ++ (d ++ leftBrace ∷ []) ++ t ≡ a ++ (b ++ (c ++ (d ++ leftBrace ∷ t)))
 opening-split a b c d t = regroup4 a b c (d ++ leftBrace ∷ []) t ∙ ap (λ r. a ++ (b ++ (c ++ r))) (append-assoc d (leftBrace ∷ []) t)
 
-pub outcome : (s : List ℕ) (k at : ℕ) → Outcome k (drop at s) (transactionsR k s at)
+pub transactions-read : (s : List ℕ) (k at : ℕ) → TransactionsRead k (drop at s) (transactionsR k s at)
 unfolding transactionsR bracesThen endOr
-outcome s zero at = other
-outcome s (suc k) at =
+transactions-read s zero at = other
+transactions-read s (suc k) at =
     by-elsewhere P (keyAt TransToken s at) _ other (λ p m. given (key-sound TransToken s at p m) (λ y₁.
     by-numbered P (numberAt s p 10 4294967295) _ other (λ id q n. given (number-sound s p 10 4294967295 id q n) (λ y₂.
     by-pick P (eqb id 0) _ _
@@ -130,8 +130,8 @@ outcome s (suc k) at =
     given (transaction-of (drop at s) (drop f s) (y₁ .2) (y₁ .3) x (y₃ .derives) (y₅ .derives) (y₆ .derives) (y₆ .stops)
     (g ∙ rw (y₅ .split, y₆ .split))) (λ y.
     by-pick P (ltb f (length s)) _ _
-    (λ l. outcome-next y (outcome s k f))
+    (λ l. outcome-next y (transactions-read s k f))
     (λ l. outcome-last (rw (drop-of-length-le s (ltb-false f (length s) l)) at y))))))))))))))))))
   where
     P : Message → Type 0
-    P = Outcome (suc k) (drop at s)
+    P = TransactionsRead (suc k) (drop at s)

@@ -10,13 +10,13 @@ use Rattle.megaco.specs.declared.Direction.the-variants.{Oneway, Bothway}
 use Rattle.megaco.proofs.Opened.{opened}
 use Rattle.grammar.specs.Grammar.{megacoMessage}
 use Rattle.grammar.specs.Faults.{Fault403, Fault406}
-use Rattle.grammar.proofs.Theorems.{sound, fault-400, fault-403, fault-406}
+use Rattle.grammar.proofs.Theorems.{read-derives, fault-400, fault-403, fault-406}
 
 first-line : megacoMessage (text "!/1 [10.0.0.1] T=7{C=${A=L/1/5,A=$}}") 1
     (transaction 7 (action Choose [] (command false false (text "A") (text "L/1/5") none ∷ command false false (text "A")
     (text "$") none ∷ []) ∷ []) ∷ [])
 unfolding opened
-first-line = sound _ _ refl
+first-line = read-derives _ _ refl
 
 -- white space and comments around signs, long keywords in any letter case, both prefixes, items of three levels, properties
 spaced-line : megacoMessage (text " MEGACO/01\t<gw.example>:2944 ; from\r\nTransaction = 1 ;one\n{ context=$ {\n o-W-add = * {M{o{mo=\"x y\"}}}} , C=1{PR=3 , EG}}\n") 1
@@ -26,14 +26,14 @@ spaced-line : megacoMessage (text " MEGACO/01\t<gw.example>:2944 ; from\r\nTrans
     (some (item (text "mo") none (some (quoted (text "x y"))) none ∷ [])) ∷ [])) ∷ [])) ∷ [])
     ∷ action (Numbered 1) (priority 3 ∷ emergency ∷ []) [] ∷ []) ∷ [])
 unfolding opened
-spaced-line = sound _ _ refl
+spaced-line = read-derives _ _ refl
 
 -- "Audit/AT may have empty braces, at level 1 of any command": white space between them, a value before them; not at level 2, nor any other word
 empty-audit : megacoMessage (text "!/1 [10.0.0.1] T=1{C=-{S=L/1/1{AT{},audit=1{ ;none\n}}}}") 1
     (transaction 1 (action Null [] (command false false (text "S") (text "L/1/1") (some (
     item (text "AT") none none (some []) ∷ item (text "audit") none (some (plain (text "1"))) (some []) ∷ [])) ∷ []) ∷ []) ∷ [])
 unfolding opened
-empty-audit = sound _ _ refl
+empty-audit = read-derives _ _ refl
 
 inner-audit : Fault403 (text "!/1 [10.0.0.1] T=1{C=-{MF=L/1/1{M{AT{}}}}}") 1
 unfolding opened
@@ -49,7 +49,7 @@ topology-line : megacoMessage (text "!/1 [10.0.0.1] T=1{C=2{PR=1,TP { L/1/1 , * 
     action (Numbered 2) (priority 1 ∷ topology (triple (text "L/1/1") (text "*") Oneway ∷ triple (text "r/3") (text "$") Bothway ∷ []) ∷ [])
     (command false false (text "S") (text "*") none ∷ []) ∷ []) ∷ [])
 unfolding opened
-topology-line = sound _ _ refl
+topology-line = read-derives _ _ refl
 
 -- no triple, two names without a direction, a word that is no direction
 no-triple : Fault403 (text "!/1 [10.0.0.1] T=1{C=2{TP{}}}") 1

@@ -22,7 +22,7 @@ use Rattle.grammar.proofs.Places.{Stands, given}
 use Rattle.grammar.proofs.WhiteLaws.{Solid, solid-end}
 use Rattle.grammar.proofs.HeaderLaws.{Headed, header-complete, header-sound}
 use Rattle.grammar.proofs.TransactionLaws.{list-solid, list-wellFormed}
-use Rattle.grammar.proofs.OutcomeLaws.{by-elsewhere, by-numbered, by-pick, stops-without, without-stops, Outcome, reads, faults, other, outcome}
+use Rattle.grammar.proofs.OutcomeLaws.{by-elsewhere, by-numbered, by-pick, stops-without, without-stops, TransactionsRead, reads, faults, other, transactions-read}
 use Rattle.grammar.proofs.FaultLaws.{whole-solid, whole-bad}
 
 -- ---- what a message reads as, in the words of the grammar
@@ -33,7 +33,7 @@ data Meaning (s : List ℕ) : Message → Type 0 where
   inTransaction : {id : ℕ} → Fault403 s id → Meaning s (fault403 id)
   elsewhereFault : Meaning s fault400
 
-behind-header : {s t : List ℕ} {m : Message} (y : Stands (λ a. Header a 1) Solid s t) → Outcome 8 t m → Meaning s m
+behind-header : {s t : List ℕ} {m : Message} (y : Stands (λ a. Header a 1) Solid s t) → TransactionsRead 8 t m → Meaning s m
 behind-header y (reads xs l) = rw (y .split) (admitted (message (y .derives) (atMost xs l)))
 behind-header y (faults {w} {c} o l b e) =
     rw (y .split, e, ← (append-assoc (y .bytes) w c)) (inTransaction (badTransaction (y .derives) o (omega arith) b))
@@ -47,14 +47,14 @@ meaning s =
     by-elsewhere (Meaning s) (senderAt s q) _ elsewhereFault (λ r o.
     given (header-sound s v p q r m n o) (λ y.
     by-pick (Meaning s) (eqb v 1) _ _
-    (λ z. behind-header (rw (eqb-true v 1 z) at y) (outcome s 8 r))
+    (λ z. behind-header (rw (eqb-true v 1 z) at y) (transactions-read s 8 r))
     (λ z. rw (y .split) (versioned (otherVersion (y .derives) (eqb-false v 1 z) (stops-without (goesOn false) (text " \t\r\n;") white-has solid-end
     (drop r s) (y .stops)))))))))
 
 -- ---- sound: what is read as well-formed, the grammar admits with the same tree
 
-pub sound : (s : List ℕ) (xs : List Transaction) → messageR s ≡ wellFormed xs → megacoMessage s 1 xs
-sound s xs e = go (rw e at (meaning s))
+pub read-derives : (s : List ℕ) (xs : List Transaction) → messageR s ≡ wellFormed xs → megacoMessage s 1 xs
+read-derives s xs e = go (rw e at (meaning s))
   where
     go : Meaning s (wellFormed xs) → megacoMessage s 1 xs
     go (admitted m) = m
@@ -76,7 +76,7 @@ complete s xs m = given (message-reads m) (λ x. headed (x .1) ∙ x .2)
 
 -- a message is well-formed exactly when the grammar admits it and its version is 1
 pub well-formed : (s : List ℕ) (xs : List Transaction) → messageR s ≡ wellFormed xs ↔ megacoMessage s 1 xs
-well-formed s xs = (sound s xs, complete s xs)
+well-formed s xs = (read-derives s xs, complete s xs)
 
 -- ---- one meaning: no text has two trees, nor two versions
 

@@ -1,17 +1,15 @@
 -- Figure 7 of clause 7.1.18, panel by panel, as computed calls: T1, T2, T3 are L/1/1, L/1/2, L/1/3, the three members of context 1, places 0, 1
--- and 2. "In these examples it is assumed that the topology descriptors are applied in sequence."
+-- and 2. "In these examples it is assumed that the topology descriptors are applied in sequence." Proved in proofs/Theorems.antt: `figure-7`.
 use Prim.Native.Nat.{ℕ}
 use Prim.Native.String.{String}
-use mathlib.Core.Path.{_≡_, refl}
+use mathlib.Core.Path.{_≡_}
 use mathlib.Core.Bool.{Bool, true, false}
 use mathlib.Core.List.{List, [], _∷_}
-use lib.ListN.{getD}
-use Rattle.base.specs.Bytes.{text}
-use Rattle.megaco.specs.Table.{fitted, cell, flow, lowFlow, highFlow, get, sound}
+use Rattle.megaco.specs.Table.{cell, flow, lowFlow, highFlow, get}
 use Rattle.megaco.specs.State.{state}
 use Rattle.megaco.specs.Square.{squareOf, flowAt}
-use Rattle.megaco.specs.Running.{runTransaction}
-use Rattle.laws.specs.Witness.{read, with-words, tests}
+use Rattle.megaco.specs.Transaction.{runTransaction}
+use Rattle.laws.specs.Witness.{read, with-words}
 
 -- who hears whom, each pair in both directions: T1 to T2, T2 to T1, T1 to T3, T3 to T1, T2 to T3, T3 to T2
 pub record Panel : Type 0 where
@@ -22,7 +20,7 @@ pub record Panel : Type 0 where
   pub two-three : Bool
   pub three-two : Bool
 
-abbrev panel : Bool → Bool → Bool → Bool → Bool → Bool → Panel
+abbrev pub panel : Bool → Bool → Bool → Bool → Bool → Bool → Panel
 panel a b c d e f = record { one-two = a; two-one = b; one-three = c; three-one = d; two-three = e; three-two = f }
 
 unfoldable pub shown : List ℕ → Panel
@@ -36,50 +34,36 @@ after-all [] t = t
 after-all (x ∷ xs) t = after-all xs (runTransaction (read x) (state t) .state .table)
 
 -- "1. No Topology Desc.": the three join
-abbrev first : List String
+abbrev pub first : List String
 first = "T=1{C=${A=L/1/1,A=L/1/2,A=L/1/3}}" ∷ []
 
-abbrev upTo2 : List String
+abbrev pub upTo2 : List String
 upTo2 = "T=1{C=${A=L/1/1,A=L/1/2,A=L/1/3}}" ∷ "T=2{C=1{TP{L/1/1,L/1/2,Isolate}}}" ∷ []
 
-abbrev upTo3 : List String
+abbrev pub upTo3 : List String
 upTo3 = "T=1{C=${A=L/1/1,A=L/1/2,A=L/1/3}}" ∷ "T=2{C=1{TP{L/1/1,L/1/2,Isolate}}}" ∷ "T=3{C=1{TP{L/1/3,L/1/2,Oneway}}}" ∷ []
 
-abbrev upTo4 : List String
+abbrev pub upTo4 : List String
 upTo4 = "T=1{C=${A=L/1/1,A=L/1/2,A=L/1/3}}" ∷ "T=2{C=1{TP{L/1/1,L/1/2,Isolate}}}" ∷ "T=3{C=1{TP{L/1/3,L/1/2,Oneway}}}" ∷ "T=4{C=1{TP{L/1/2,L/1/3,Oneway}}}" ∷ []
 
-abbrev upTo5 : List String
+abbrev pub upTo5 : List String
 upTo5 = "T=1{C=${A=L/1/1,A=L/1/2,A=L/1/3}}" ∷ "T=2{C=1{TP{L/1/1,L/1/2,Isolate}}}" ∷ "T=3{C=1{TP{L/1/3,L/1/2,Oneway}}}" ∷ "T=4{C=1{TP{L/1/2,L/1/3,Oneway}}}" ∷ "T=5{C=1{TP{L/1/2,L/1/3,Bothway}}}" ∷ []
 
-abbrev upTo6 : List String
+abbrev pub upTo6 : List String
 upTo6 = "T=1{C=${A=L/1/1,A=L/1/2,A=L/1/3}}" ∷ "T=2{C=1{TP{L/1/1,L/1/2,Isolate}}}" ∷ "T=3{C=1{TP{L/1/3,L/1/2,Oneway}}}" ∷ "T=4{C=1{TP{L/1/2,L/1/3,Oneway}}}" ∷ "T=5{C=1{TP{L/1/2,L/1/3,Bothway}}}" ∷ "T=6{C=1{TP{L/1/1,L/1/2,Bothway}}}" ∷ []
 
--- "all Terminations have a bothway connection to all other Terminations"
-pub panel-1 : shown (after-all first (with-words [])) ≡ panel true true true true true true
-unfolding tests shown after-all
-panel-1 = refl
+-- ---- the panels
 
--- "Removes the connection between T1 and T2. T3 has a bothway connection with both T1 and T2"
-pub panel-2 : shown (after-all upTo2 (with-words [])) ≡ panel false false true true true true
-unfolding tests shown after-all
-panel-2 = refl
-
--- "A oneway connection from T3 to T2 (i.e., T2 receives media flow from T3). A bothway connection between T1 and T3"
-pub panel-3 : shown (after-all upTo3 (with-words [])) ≡ panel false false true true false true
-unfolding tests shown after-all
-panel-3 = refl
-
--- "A oneway connection between T2 to T3. T1 and T3 remain bothway connected"
-pub panel-4 : shown (after-all upTo4 (with-words [])) ≡ panel false false true true true false
-unfolding tests shown after-all
-panel-4 = refl
-
--- "T2 is bothway connected to T3. This results in the same as 2"
-pub panel-5 : shown (after-all upTo5 (with-words [])) ≡ shown (after-all upTo2 (with-words []))
-unfolding tests shown after-all
-panel-5 = refl
-
--- "All Terminations have a bothway connection to all other Terminations"
-pub panel-6 : shown (after-all upTo6 (with-words [])) ≡ panel true true true true true true
-unfolding tests shown after-all
-panel-6 = refl
+pub record Figure-7 : Type 0 where
+  -- "all Terminations have a bothway connection to all other Terminations"
+  pub panel-1 : shown (after-all first (with-words [])) ≡ panel true true true true true true
+  -- "Removes the connection between T1 and T2. T3 has a bothway connection with both T1 and T2"
+  pub panel-2 : shown (after-all upTo2 (with-words [])) ≡ panel false false true true true true
+  -- "A oneway connection from T3 to T2 (i.e., T2 receives media flow from T3). A bothway connection between T1 and T3"
+  pub panel-3 : shown (after-all upTo3 (with-words [])) ≡ panel false false true true false true
+  -- "A oneway connection between T2 to T3. T1 and T3 remain bothway connected"
+  pub panel-4 : shown (after-all upTo4 (with-words [])) ≡ panel false false true true true false
+  -- "T2 is bothway connected to T3. This results in the same as 2"
+  pub panel-5 : shown (after-all upTo5 (with-words [])) ≡ shown (after-all upTo2 (with-words []))
+  -- "All Terminations have a bothway connection to all other Terminations"
+  pub panel-6 : shown (after-all upTo6 (with-words [])) ≡ panel true true true true true true

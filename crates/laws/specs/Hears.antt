@@ -1,17 +1,20 @@
--- What a member hears is what the triples said: each triple fixes both directions of its pair, and every other pair is as before.
+-- What a member of a context hears is what the triples said (document 02, CR 6): each triple fixes both directions of its pair, and every other
+-- pair is as before. Proved in proofs/Theorems.antt: `hearing`.
 use Prim.Native.Nat.{ℕ, _<_}
-use mathlib.Core.Path.{_≡_, refl, sym, ap, _∙_}
-use mathlib.Core.Logic.{_≢_, _⊎_, inl, inr}
-use mathlib.Core.Bool.{Bool, true, false, _&&_, _||_}
-use lib.Dec.{eqb}
-use borrow.Author.Tests.{eqb-true, eq-eqb, ne-eqb}
-use native.Mathlib.Decide.{ℕ-discrete}
-use Rattle.base.specs.Pick.{pick}
-use Rattle.base.proofs.TestLaws.{clash, and-both}
+use mathlib.Core.Path.{_≡_}
+use mathlib.Core.Bool.{Bool, true, false}
+use mathlib.Core.List.{List, [], _∷_}
+use Rattle.megaco.specs.Square.{Square, flowAt}
+use Rattle.megaco.specs.Tree.{triple, Property, topology}
+use Rattle.megaco.specs.Table.{apply}
+use Rattle.megaco.specs.Topology.{triplesOf, anyTopology, party, linksOf, placeOf, setLinks}
+use Rattle.megaco.specs.Attempt.{seen, flowsOf}
+use Rattle.megaco.specs.Action.{startChecks, started}
 use Rattle.megaco.specs.declared.Direction.{Direction}
 use Rattle.megaco.specs.declared.Direction.the-variants.{Isolate, Oneway, Bothway}
-use Rattle.megaco.specs.Square.{Square, flowAt, paired, directed}
-use Rattle.megaco.proofs.Squares.{Shape, shape-paired, flow-paired}
+use Rattle.megaco.specs.declared.Context.the-variants.{Numbered}
+use Rattle.laws.specs.Passed.{Passed}
+use Rattle.laws.specs.Sound.{Whole}
 
 -- what a direction of A, B says: whether A flows to B, and B to A
 unfoldable pub forth : Direction → Bool
@@ -24,48 +27,38 @@ back Isolate = false
 back Oneway = false
 back Bothway = true
 
-pub directed-is : (d : Direction) (i j : ℕ) (q : Square) → directed d i j q ≡ paired q i j (forth d) (back d)
-unfolding directed forth back
-directed-is Isolate i j q = refl
-directed-is Oneway i j q = refl
-directed-is Bothway i j q = refl
-
--- all of it in one: member a to member b
-pub directed-tells : (d : Direction) (i j a b : ℕ) (q : Square) → Shape q → i < 8 → j < 8 → a < 8 → b < 8
-    → flowAt (directed d i j q) a b ≡ pick (eqb a j && eqb b i) (back d) (pick (eqb a i && eqb b j) (forth d) (flowAt q a b))
-directed-tells d i j a b q s h k l m = ap (λ (p : Square). flowAt p a b) (directed-is d i j q) ∙ flow-paired q i j a b (forth d) (back d) s h k l m
-
 -- another pair: not these two, in either order
 pub record OtherPair (i j a b : ℕ) : Type 0 where
   pub forth : (a ≡ i) × (b ≡ j) → ⊥
   pub back : (a ≡ j) × (b ≡ i) → ⊥
 
-module _ (d : Direction) (q : Square) (i j : ℕ) (s : Shape q) (h : i < 8) (k : j < 8) (n : i ≢ j) where
-  after : (a b : ℕ) → a < 8 → b < 8 → flowAt (directed d i j q) a b ≡ pick (eqb a j && eqb b i) (back d) (pick (eqb a i && eqb b j) (forth d) (flowAt q a b))
-  after a b l m = directed-tells d i j a b q s h k l m
+-- one triple, by its names
+abbrev pub saying : List ℕ → List ℕ → Direction → List Property
+saying x y d = topology (triple x y d ∷ []) ∷ []
 
-  -- "Oneway of A, B: A flows to B and B doesn't to A", and so of each direction
-  pub second-hears : flowAt (directed d i j q) i j ≡ forth d
-  unfolding pick
-  second-hears = after i j h k ∙ rw (ne-eqb i j n, eq-eqb i i refl, eq-eqb j j refl)
+-- the flows of a context after an action's start
+abbrev pub heard : ℕ → List Property → Bool → List ℕ → Square
+heard c ps alone t = flowsOf (seen c (apply (started (Numbered c) ps alone (seen c t) (linksOf c t (triplesOf ps)) .writes) t))
 
-  pub first-hears : flowAt (directed d i j q) j i ≡ back d
-  unfolding pick
-  first-hears = after j i k h ∙ rw (eq-eqb j j refl, eq-eqb i i refl)
+-- the tests of an action's start in context c are passed; `alone`: it has no command
+abbrev pub StartPasses : ℕ → List Property → Bool → List ℕ → Type 0
+StartPasses c ps alone t = Passed (startChecks (Numbered c) ps alone (seen c t) (linksOf c t (triplesOf ps)))
 
-  neither : (x y : Bool) → ((x ≡ true) × (y ≡ true) → ⊥) → x && y ≡ false
-  neither true true f = absurd (f (refl, refl))
-  neither true false f = refl
-  neither false y f = refl
+-- the place of a member, by its name
+abbrev pub placeBy : ℕ → List ℕ → List ℕ → ℕ
+placeBy c t name = placeOf (party c t name)
 
+-- ---- all of it
+
+pub record Hearing : Type 0 where
+  -- "The triples of every TP in the action are set in order"
+  pub sets : (c : ℕ) (ps : List Property) (alone : Bool) (t : List ℕ) → Whole t → anyTopology ps ≡ true → StartPasses c ps alone t
+      → heard c ps alone t ≡ setLinks (linksOf c t (triplesOf ps)) (flowsOf (seen c t))
+  -- one triple of x, y. "Oneway of A, B: A flows to B and B doesn't to A": so B hears A, and A does not hear B
+  pub second-hears-first : (c : ℕ) (x y : List ℕ) (d : Direction) (alone : Bool) (t : List ℕ) → Whole t → StartPasses c (saying x y d) alone t
+      → flowAt (heard c (saying x y d) alone t) (placeBy c t x) (placeBy c t y) ≡ forth d
+  pub first-hears-second : (c : ℕ) (x y : List ℕ) (d : Direction) (alone : Bool) (t : List ℕ) → Whole t → StartPasses c (saying x y d) alone t
+      → flowAt (heard c (saying x y d) alone t) (placeBy c t y) (placeBy c t x) ≡ back d
   -- "Pairs not named stay"
-  pub others-hear : (a b : ℕ) → a < 8 → b < 8 → OtherPair i j a b → flowAt (directed d i j q) a b ≡ flowAt q a b
-  unfolding pick
-  others-hear a b l m o =
-      after a b l m
-      ∙ rw (neither (eqb a j) (eqb b i) (λ z. o .back (eqb-true a j (z .0), eqb-true b i (z .1))), neither (eqb a i) (eqb b j) (λ z. o .forth (eqb-true a i (z .0), eqb-true b j (z .1))))
-
--- a supervisor who listens unheard: "Oneway of A, B"
-pub listens-unheard : (q : Square) (i j : ℕ) → Shape q → i < 8 → j < 8 → i ≢ j → (flowAt (directed Oneway i j q) i j ≡ true) × (flowAt (directed Oneway i j q) j i ≡ false)
-unfolding forth back
-listens-unheard q i j s h k n = (second-hears Oneway q i j s h k n, first-hears Oneway q i j s h k n)
+  pub others-as-before : (c : ℕ) (x y : List ℕ) (d : Direction) (alone : Bool) (t : List ℕ) → Whole t → StartPasses c (saying x y d) alone t
+      → (a b : ℕ) → a < 8 → b < 8 → OtherPair (placeBy c t x) (placeBy c t y) a b → flowAt (heard c (saying x y d) alone t) a b ≡ flowAt (flowsOf (seen c t)) a b

@@ -1,27 +1,10 @@
--- The tests of an attempt that it passed.
-use Prim.Native.Nat.{ℕ}
-use mathlib.Core.Path.{_≡_, refl}
-use mathlib.Core.Bool.{true, false}
+-- The tests of an attempt, or of an action's start, that it passed.
+use mathlib.Core.Path.{_≡_}
+use mathlib.Core.Bool.{false}
 use mathlib.Core.List.{List, [], _∷_}
-use Rattle.base.specs.Pick.{pick}
-use Rattle.megaco.specs.Running.{Check, check, judge}
-use Rattle.megaco.specs.declared.Checked.{Checked}
-use Rattle.megaco.specs.declared.Checked.the-variants.{Passes, Fails}
+use Rattle.megaco.specs.Attempt.{Check, check}
 
 -- every test is passed
 abbrev pub Passed : List Check → Type 0
 Passed [] = Unit {0}
 Passed (check b code ∷ cs) = (b ≡ false) × Passed cs
-
--- what holds where a test fails, and where every test is passed, holds of what the tests come to
-pub judged : (P : Checked → Type 0) (cs : List Check) → ((code : ℕ) → P (Fails code)) → (Passed cs → P Passes) → P (judge cs)
-unfolding judge pick
-judged P [] f g = g tt
-judged P (check true code ∷ cs) f g = f code
-judged P (check false code ∷ cs) f g = judged P cs f (λ p. g (refl, p))
-
--- tests that are passed come to no code
-pub passes : (cs : List Check) → Passed cs → judge cs ≡ Passes
-unfolding judge pick
-passes [] p = refl
-passes (check b code ∷ cs) p = rw (p .0) (passes cs (p .1))

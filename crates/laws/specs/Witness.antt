@@ -1,7 +1,7 @@
--- Demand 3 is not empty: two messages that meet its conditions, and that both change the table.
+-- Demand 3 is not empty: two transactions that meet its conditions, and that both change the table. Proved in proofs/Theorems.antt: `witnessed`.
 use Prim.Native.Nat.{ℕ}
 use Prim.Native.String.{String}
-use mathlib.Core.Path.{_≡_, refl}
+use mathlib.Core.Path.{_≡_}
 use mathlib.Core.Bool.{true, false}
 use mathlib.Core.List.{List, [], _∷_, _++_}
 use lib.ListN.{getD, replicate, set}
@@ -11,14 +11,10 @@ use Rattle.megaco.specs.Tree.{Transaction, transaction, Message, wellFormed, fa
 use Rattle.megaco.specs.Reading.{messageR}
 use Rattle.megaco.specs.Table.{words, sound}
 use Rattle.megaco.specs.State.{state}
-use Rattle.megaco.specs.Running.{Step, runTransaction}
-use Rattle.laws.specs.Membership.{all?, noneShared?, onlyZeroShared?, ahead, collect}
-use Rattle.laws.specs.Mix.{Mixture, over, first, second, mixed}
-use Rattle.laws.specs.Apart.{contextsIn, namesThen, triplesThen, namesIn, Apart}
-use Rattle.laws.specs.ApartTest.{byNumberOrNull?, contextsPlain?, namePlain?, namesPlain?, terminationOf, writtenNumber, named, numbered, standing, reached, terminationsApart?, contextsApart?, apart?, apart-is}
-use Rattle.laws.specs.Reaching.{stepsOf, outset}
-use Rattle.laws.specs.Demand.{AsOneAfterOther, any-mixture}
-use Rattle.megaco.proofs.Opened.{opened}
+use Rattle.megaco.specs.Transaction.{Step, runTransaction}
+use Rattle.laws.specs.Apart.{Apart}
+use Rattle.laws.specs.Mix.{Mixture, over, first, second, mixed, stepsOf, bothFresh}
+use Rattle.laws.specs.Demand.{AsOneAfterOther}
 
 -- a message with this inside, and the transaction that it reads as
 abbrev pub message : String → List ℕ
@@ -39,13 +35,7 @@ unfoldable pub with-words : List (ℕ × ℕ) → List ℕ
 with-words [] = replicate (words 8) 0
 with-words (w ∷ ws) = set (with-words ws) (w .0) (w .1)
 
--- every test, opened
-unfoldable pub tests : Unit {0}
-unfolding opened firstOf with-words all? ahead collect contextsIn namesThen triplesThen namesIn byNumberOrNull? contextsPlain? namePlain? namesPlain? terminationOf writtenNumber named numbered standing reached noneShared? onlyZeroShared? terminationsApart? contextsApart? apart?
-tests = tt
-
--- ---- a pair that meets the conditions: L/1/1, L/1/2 and R/1 in context 1, L/1/3 and R/2 in context 2, all else null or absent
-
+-- L/1/1, L/1/2 and R/1 in context 1, L/1/3 and R/2 in context 2, all else null or absent
 abbrev pub start : List ℕ
 start = with-words ((0, 1) ∷ (1, 1) ∷ (2, 2) ∷ (248, 1) ∷ (249, 2) ∷ (624, 1) ∷ (625, 1) ∷ (752, 3) ∷ [])
 
@@ -57,51 +47,29 @@ one = "T=7{C=1{PR=3,EG,TP{L/1/1,R/1,OW,r/1,L/1/2,IS},S=L/1/1,S=R/1,A=l/8/31{M{O{
 abbrev pub two : String
 two = "T=8{C=2{O-A=R/9,S=R/2,S=L/1/3},C=200{O-MV=ROOT},C=2{A=L/1/6},C=-{MF=L/1/4{M{O{MO=LB}}}}}"
 
-pub reads-one : messageR (message one) ≡ wellFormed (read one ∷ [])
-unfolding tests
-reads-one = refl
-
-pub reads-two : messageR (message two) ≡ wellFormed (read two ∷ [])
-unfolding tests
-reads-two = refl
-
-pub start-sound : sound start ≡ true
-unfolding tests
-start-sound = refl
-
-meets : apart? start (read one) (read two) ≡ true
-unfolding tests
-meets = refl
-
--- both change the table
-pub both-change : (same (runTransaction (read one) (state start) .state .table) start ≡ false) × (same (runTransaction (read two) (state start) .state .table) start ≡ false)
-unfolding tests
-both-change = (refl, refl)
-
--- both in one word: the map
-abbrev map : List ℕ → ℕ
+-- the first word of the map, in which both write
+abbrev pub map : List ℕ → ℕ
 map t = getD t 752 0
 
-pub share-the-map : (map start ≡ 3) × (map (runTransaction (read one) (state start) .state .table) ≡ 2) × (map (runTransaction (read two) (state start) .state .table) ≡ 1)
-    × (map (runTransaction (read two) (runTransaction (read one) (state start) .state) .state .table) ≡ 0)
-unfolding tests
-share-the-map = (refl, refl, refl, refl)
-
-pub replies : (runTransaction (read one) (state start) .text ≡ text "P=7{C=1{S=L/1/1,S=R/1,A=L/8/31},C=-{MF=L/1/1}}")
-    × (runTransaction (read two) (state start) .text ≡ text "P=8{C=2{A=R/9{ER=430{}},S=R/2,S=L/1/3},C=200{MV=ROOT{ER=411{}}},C=2{A=L/1/6{ER=411{}}}}")
-unfolding tests
-replies = (refl, refl)
-
-pub apart : Apart start (read one) (read two)
-apart = apart-is start (read one) (read two) .0 meets
-
--- ---- and turn by turn
-
+-- turn by turn
 pub alternate : (ss rs : List Step) → Mixture ss rs
 alternate [] [] = over
 alternate [] (r ∷ rs) = second r (alternate [] rs)
 alternate (s ∷ ss) [] = first s (alternate ss [])
 alternate (s ∷ ss) (r ∷ rs) = first s (second r (alternate ss rs))
 
-pub turn-by-turn : AsOneAfterOther (state start) (read one) (read two) (mixed (alternate (stepsOf (read one)) (stepsOf (read two))) (outset (state start)))
-turn-by-turn = any-mixture (state start) start-sound (read one) (read two) apart (alternate (stepsOf (read one)) (stepsOf (read two)))
+-- ---- all of it
+
+pub record Witnessed : Type 0 where
+  pub reads-one : messageR (message one) ≡ wellFormed (read one ∷ [])
+  pub reads-two : messageR (message two) ≡ wellFormed (read two ∷ [])
+  pub start-sound : sound start ≡ true
+  pub apart : Apart start (read one) (read two)
+  -- each of the two changes the table
+  pub both-change : (same (runTransaction (read one) (state start) .state .table) start ≡ false) × (same (runTransaction (read two) (state start) .state .table) start ≡ false)
+  -- both in one word
+  pub share-the-map : (map start ≡ 3) × (map (runTransaction (read one) (state start) .state .table) ≡ 2) × (map (runTransaction (read two) (state start) .state .table) ≡ 1)
+      × (map (runTransaction (read two) (runTransaction (read one) (state start) .state) .state .table) ≡ 0)
+  pub replies : (runTransaction (read one) (state start) .text ≡ text "P=7{C=1{S=L/1/1,S=R/1,A=L/8/31},C=-{MF=L/1/1}}")
+      × (runTransaction (read two) (state start) .text ≡ text "P=8{C=2{A=R/9{ER=430{}},S=R/2,S=L/1/3},C=200{MV=ROOT{ER=411{}}},C=2{A=L/1/6{ER=411{}}}}")
+  pub turn-by-turn : AsOneAfterOther (state start) (read one) (read two) (mixed (alternate (stepsOf (read one)) (stepsOf (read two))) (bothFresh (state start)))

@@ -1,1 +1,1 @@
-// Theorems about the definitions of crate `megaco`; see specs/. No code stands here.
+// Theorems about the definitions of crate `megaco`: definitions and statements in specs/, proofs in proofs/. No code stands here.

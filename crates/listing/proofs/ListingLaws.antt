@@ -9,19 +9,19 @@ use Rattle.base.specs.Out.{Appended}
 use Rattle.megaco.specs.State.{state}
 use Rattle.megaco.specs.Call.{call}
 use Rattle.gateway.specs.Answers.{refusalOf, sizeOf, Answered}
-use Rattle.gateway.specs.declared.Outcome.{Outcome}
-use Rattle.gateway.specs.declared.Outcome.the-variants.{Taken}
+use Rattle.gateway.specs.declared.CallOutcome.{CallOutcome}
+use Rattle.gateway.specs.declared.CallOutcome.the-variants.{Taken}
 use Rattle.sessions.specs.Lines.{lineEnd}
 use Rattle.sessions.specs.Listing.{lines, refusedText}
 use Rattle.sessions.specs.Session.{ownMid, answerRoom, Answers}
 use Rattle.sessions.proofs.AnswerLaws.{answers-reply, answers-refused}
 
-module _ (m t o : List ℕ) (a : Outcome) (t′ o₁ o′ : List ℕ) (r : ℕ) (room : answerRoom ≤ length o) (got : Answered (call lines m (state t) (text "[10.0.0.9]") o) (state t′) o₁ a) where
+module _ (m t o : List ℕ) (a : CallOutcome) (t′ o₁ o′ : List ℕ) (r : ℕ) (room : answerRoom ≤ length o) (got : Answered (call lines m (state t) (text "[10.0.0.9]") o) (state t′) o₁ a) where
   pub line-taken : (n : ℕ) → a ≡ Taken n → Appended o₁ n (lineEnd ∷ []) o′ r → Answers m t o t′ o′ r
   unfolding ownMid refusalOf sizeOf
   line-taken n e f =
       answers-reply m t o (omega arith) n t′ o₁ o′ r (sym (got .refusal) ∙ ap refusalOf e) (sym (ap sizeOf e) ∙ got .size) (got .state) (got .reply) f
 
-  pub line-refused : (x : Outcome) (k : ℕ) → a ≡ x → refusalOf x ≡ k → 0 < k → Appended o₁ 0 (refusedText k) o′ r → Answers m t o t′ o′ r
+  pub line-refused : (x : CallOutcome) (k : ℕ) → a ≡ x → refusalOf x ≡ k → 0 < k → Appended o₁ 0 (refusedText k) o′ r → Answers m t o t′ o′ r
   unfolding ownMid
   line-refused x k e q h f = answers-refused m t o (omega arith) k t′ o₁ o′ r (sym (got .refusal) ∙ ap refusalOf e ∙ q) h (got .state) (got .reply) f

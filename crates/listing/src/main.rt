@@ -3,11 +3,11 @@
 ghost use Prim.Native.Nat.{_≤_, _<_};
 ghost use mathlib.Core.Path.{_≡_};
 ghost use lib.ListN.{length, take};
-ghost use Rattle.sessions.specs.Session.{between, takenIn, Answers, Holds, Turned, Took, Input, Finished, answerRoom};
-use gateway::Outcome;
+ghost use Rattle.sessions.specs.Session.{between, takenIn, Answers, HoldsLine, Turned, Took, Input, Finished, answerRoom};
+use gateway::CallOutcome;
 
 // After a turn: the place in the chunk where the next one starts, how many bytes of a line are held, how many are to be printed.
-struct Turn {
+struct ChunkTurn {
     next: usize,
     held: usize,
     size: usize,
@@ -26,12 +26,12 @@ fn answer_line(message: &[u8], table: &mut [u32], out: &mut [u8]) -> usize
 {
     let a = gateway::answer(8, message, table, b"[10.0.0.9]", out);
     match a {
-        Outcome::Taken(n) => sessions::put_line_end(out, n),
-        Outcome::MessageUnfit => sessions::put_refused(out, 0, 1),
-        Outcome::TableUnsound => sessions::put_refused(out, 0, 2),
-        Outcome::ReplyTooShort => sessions::put_refused(out, 0, 3),
-        Outcome::MidUnfit => sessions::put_refused(out, 0, 4),
-        Outcome::LinesUnfit => sessions::put_refused(out, 0, 8),
+        CallOutcome::Taken(n) => sessions::put_line_end(out, n),
+        CallOutcome::MessageUnfit => sessions::put_refused(out, 0, 1),
+        CallOutcome::TableUnsound => sessions::put_refused(out, 0, 2),
+        CallOutcome::ReplyTooShort => sessions::put_refused(out, 0, 3),
+        CallOutcome::MidUnfit => sessions::put_refused(out, 0, 4),
+        CallOutcome::LinesUnfit => sessions::put_refused(out, 0, 8),
     }
 }
 
@@ -43,9 +43,9 @@ fn take_turn(
     held: usize,
     table: &mut [u32],
     out: &mut [u8],
-) -> Turn
+) -> ChunkTurn
     requires { ⌜ from < length (now chunk) ⌝ }
-    requires { ⌜ Holds (now line) held ⌝ }
+    requires { ⌜ HoldsLine (now line) held ⌝ }
     requires { ⌜ answerRoom ≤ length (now out) ⌝ }
     ensures { λ r. ⌜ Turned (now (chunk .entry)) from (now (line .entry)) held (now (table .entry)) (now (out .entry)) (now (line .exit)) (now (table .exit)) (now (out .exit)) (r .next) (r .held) (r .size) ⌝ }
 {
@@ -53,13 +53,13 @@ fn take_turn(
     let h = sessions::take_part(chunk, from, line, held);
     if e < chunk.len() {
         let n = answer_line(&line[0..h], table, out);
-        return Turn {
+        return ChunkTurn {
             next: e + 1,
             held: 0,
             size: n,
         };
     }
-    Turn {
+    ChunkTurn {
         next: e,
         held: h,
         size: 0,
@@ -74,9 +74,9 @@ fn take_chunk(
     table: &mut [u32],
     out: &mut [u8],
 ) -> usize
-    requires { ⌜ Holds (now line) held ⌝ }
+    requires { ⌜ HoldsLine (now line) held ⌝ }
     requires { ⌜ answerRoom ≤ length (now out) ⌝ }
-    ensures { λ r. ⌜ Holds (now (line .exit)) r ⌝ }
+    ensures { λ r. ⌜ HoldsLine (now (line .exit)) r ⌝ }
     ensures { λ r. ⌜ takenIn (take held (now (line .entry))) (now (table .entry)) (now (chunk .entry)) ≡ between (take r (now (line .exit))) (now (table .exit)) ⌝ }
 {
     let mut h = held;
@@ -93,9 +93,9 @@ fn take_chunk(
 
 // Reads once, and takes what came. A read that fails ends the input. What is read is whatever the C library gives: nothing is assumed of it.
 fn take_some(line: &mut [u8], held: usize, table: &mut [u32], out: &mut [u8]) -> Progress
-    requires { ⌜ Holds (now line) held ⌝ }
+    requires { ⌜ HoldsLine (now line) held ⌝ }
     requires { ⌜ answerRoom ≤ length (now out) ⌝ }
-    ensures { λ r. ⌜ Holds (now (line .exit)) (r .held) ⌝ }
+    ensures { λ r. ⌜ HoldsLine (now (line .exit)) (r .held) ⌝ }
     ensures { λ r. ⌜ Took (now (line .entry)) held (now (table .entry)) (now (line .exit)) (now (table .exit)) (r .more) (r .held) ⌝ }
 {
     let mut chunk = io::large_buffer();
@@ -111,9 +111,9 @@ fn take_some(line: &mut [u8], held: usize, table: &mut [u32], out: &mut [u8]) ->
 // Takes the whole input, and tells how many bytes are held of a last line that has no line end. A proved loop has to end, and
 // nothing says that an input does: so the turns are counted down, from a number that no run uses up.
 fn take_input(line: &mut [u8], table: &mut [u32], out: &mut [u8]) -> usize
-    requires { ⌜ Holds (now line) 0 ⌝ }
+    requires { ⌜ HoldsLine (now line) 0 ⌝ }
     requires { ⌜ answerRoom ≤ length (now out) ⌝ }
-    ensures { λ r. ⌜ Holds (now (line .exit)) r ⌝ }
+    ensures { λ r. ⌜ HoldsLine (now (line .exit)) r ⌝ }
     ensures { λ r. ⌜ Input (now (table .entry)) (now (line .exit)) (now (table .exit)) r ⌝ }
 {
     let mut h: usize = 0;
@@ -131,7 +131,7 @@ fn take_input(line: &mut [u8], table: &mut [u32], out: &mut [u8]) -> usize
 
 // Answers a last line that has no line end, if it has a byte.
 fn finish_line(line: &[u8], held: usize, table: &mut [u32], out: &mut [u8]) -> usize
-    requires { ⌜ Holds (now line) held ⌝ }
+    requires { ⌜ HoldsLine (now line) held ⌝ }
     requires { ⌜ answerRoom ≤ length (now out) ⌝ }
     ensures { λ r. ⌜ Finished (now (line .entry)) held (now (table .entry)) (now (out .entry)) (now (table .exit)) (now (out .exit)) r ⌝ }
 {

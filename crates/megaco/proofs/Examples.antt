@@ -17,7 +17,7 @@ use Rattle.megaco.specs.Table.{mostLines, words, sound}
 use Rattle.megaco.specs.Names.{within}
 use Rattle.megaco.specs.Reply.{headerText}
 use Rattle.megaco.specs.State.{state}
-use Rattle.megaco.specs.Running.{Ran, ran, runMessage}
+use Rattle.megaco.specs.Transaction.{Ran, ran, runMessage}
 use Rattle.megaco.specs.Call.{written, replied, taken, call}
 use Rattle.base.proofs.TestLaws.{and-both, same-is}
 use Rattle.megaco.proofs.Opened.{opened}

@@ -165,8 +165,10 @@ meant-in (row j l s ∷ rs) k v h e = by (same v l || same v s) refl (meant-in r
   where
     p : (same l (longOf (formsOf j)) && same s (shortOf (formsOf j)) ≡ true) × (formed rs ≡ true)
     p = and-both (same l (longOf (formsOf j)) && same s (shortOf (formsOf j))) (formed rs) h
+
     q : (same l (longOf (formsOf j)) ≡ true) × (same s (shortOf (formsOf j)) ≡ true)
     q = and-both (same l (longOf (formsOf j))) (same s (shortOf (formsOf j))) (p .0)
+
     by : (a : Bool) → same v l || same v s ≡ a → (meaningIn rs v ≡ some k → spelt (formsOf k) v ≡ true) → pick a (some j) (meaningIn rs v) ≡ some k → spelt (formsOf k) v ≡ true
     by true d f e =
         let z : j ≡ k = ap (unsome j) e in

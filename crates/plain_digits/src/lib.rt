@@ -105,7 +105,7 @@ fn tries_list(s: &[u8], string: &[u8]) -> Reach
         let r = tries(map_text::rest(u, from), string);
         matched = matched | r.matched;
         longer = longer | r.longer;
-        if text::is_at(u, to, 0x7c) {
+        if text::is_at(u, to, b'|') {
             i += to + 1;
             left -= 1;
         } else {
@@ -131,7 +131,7 @@ fn tries_map(s: &[u8], string: &[u8]) -> Reach
             longer: false,
         };
     };
-    if text::is_at(s, p, 0x28) {
+    if text::is_at(s, p, b'(') {
         return tries_list(map_text::rest(s, p + 1), string);
     }
     tries(s, string)

@@ -1,6 +1,5 @@
 // A reply around its reports, written into a lent buffer: header, transactions, actions, faults.
 ghost use mathlib.Core.Path.{_≡_};
-ghost use Prim.Native.Nat.{min};
 ghost use Rattle.base.specs.Out.{Appended};
 ghost use Rattle.megaco.specs.Reply.{errorText, contextText, replyText, headerText};
 ghost use Rattle.reply.specs.Texts.{replyOpen, actionOpen, limitedFrom};
@@ -61,18 +60,12 @@ pub fn put_fault403(out: &mut [u8], at: usize, id: u32) -> usize
     put_fault(out, at, id, 403)
 }
 
-fn low(a: usize, b: usize) -> usize
-    ensures { λ r. ⌜ r ≡ min a b ⌝ }
-{
-    if a < b { a } else { b }
-}
-
 // A transaction's `P=id{..}` of n bytes from a scratch buffer: copied, or 533 where it is over 2,048 bytes.
 pub fn put_limited(out: &mut [u8], at: usize, id: u32, scratch: &[u8], n: usize) -> usize
     ensures { λ r. ⌜ Appended (now (out .entry)) at (limitedFrom id (now (scratch .entry)) n) (now (out .exit)) r ⌝ }
 {
     if n < 2049 {
-        let e = low(n, scratch.len());
+        let e = numbers::low(n, scratch.len());
         return writer::put_bytes(out, at, &scratch[0..e]);
     }
     put_fault(out, at, id, 533)

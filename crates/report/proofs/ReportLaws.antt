@@ -13,7 +13,7 @@ use Rattle.base.proofs.OutLaws.{_▸_}
 use Rattle.base.specs.Pick.{pick}
 use Rattle.base.proofs.OutLaws.{none}
 use Rattle.megaco.specs.Table.{modeOf, stateOf, priorityOf, emergencyOf}
-use Rattle.megaco.specs.Running.{told}
+use Rattle.megaco.specs.Attempt.{detailOf}
 use Rattle.megaco.specs.declared.Op.{Op}
 use Rattle.megaco.specs.Reply.{Detail, nothing, media, Report, done, refused, standing, triedText, detailText, codeText, reportText, separator, reportsText}
 use Rattle.report.specs.Rows.{emergencyText, firstAfter}
@@ -33,12 +33,12 @@ standing-is o at held x o₁ o₂ o₃ p q r e f g h = f ▸ (rw e at g) ▸ h
 -- ---- what an audit tells
 
 module _ (o : List ℕ) (at word : ℕ) where
-  pub told-media : (audited : Bool) (o′ : List ℕ) (r : ℕ) → audited ≡ true → Appended o at (detailText (media (stateOf word) (modeOf word))) o′ r → Appended o at (detailText (told audited word)) o′ r
-  unfolding told pick
+  pub told-media : (audited : Bool) (o′ : List ℕ) (r : ℕ) → audited ≡ true → Appended o at (detailText (media (stateOf word) (modeOf word))) o′ r → Appended o at (detailText (detailOf audited word)) o′ r
+  unfolding detailOf pick
   told-media audited o′ r e f = rw e f
 
-  pub told-nothing : (audited : Bool) → audited ≡ false → Appended o at (detailText (told audited word)) o at
-  unfolding told pick detailText
+  pub told-nothing : (audited : Bool) → audited ≡ false → Appended o at (detailText (detailOf audited word)) o at
+  unfolding detailOf pick detailText
   told-nothing audited e = rw e (none o at)
 
 -- reports after others

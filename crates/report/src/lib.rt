@@ -2,15 +2,12 @@
 ghost use mathlib.Core.Path.{_≡_};
 ghost use Prim.Native.Nat.{_<_};
 ghost use Rattle.base.specs.Out.{Appended};
-ghost use Rattle.megaco.specs.Table.{priorityOf};
 ghost use Rattle.megaco.specs.Names.{nameText};
 ghost use Rattle.megaco.specs.Reply.{media, failed, standing, opText, errorText, triedText, codeText, reportText, stateText, modeText, serviceStates, localControl, descriptors, detailText, separator};
-ghost use Rattle.megaco.specs.Running.{told};
+ghost use Rattle.megaco.specs.Attempt.{detailOf};
 ghost use Rattle.report.specs.Rows.{emergencyText};
 use megaco::Op;
-
-// Speech channels of a line.
-const CHANNELS: usize = 31;
+use table::CHANNELS;
 
 // `ER=code{}`
 pub fn put_error(out: &mut [u8], at: usize, code: u32) -> usize
@@ -146,8 +143,8 @@ fn put_media(out: &mut [u8], at: usize, state: u32, mode: u32) -> usize
 }
 
 // What a success tells behind the name.
-pub fn put_told(out: &mut [u8], at: usize, audited: bool, word: u32) -> usize
-    ensures { λ r. ⌜ Appended (now (out .entry)) at (detailText (told audited word)) (now (out .exit)) r ⌝ }
+pub fn put_detail(out: &mut [u8], at: usize, audited: bool, word: u32) -> usize
+    ensures { λ r. ⌜ Appended (now (out .entry)) at (detailText (detailOf audited word)) (now (out .exit)) r ⌝ }
 {
     if audited {
         return put_media(out, at, word / 8, word % 8);
@@ -160,16 +157,6 @@ pub fn put_failed(out: &mut [u8], at: usize, code: u32) -> usize
     ensures { λ r. ⌜ Appended (now (out .entry)) at (reportText (failed code)) (now (out .exit)) r ⌝ }
 {
     put_error(out, at, code)
-}
-
-// The priority in a context's record.
-pub fn priority(held: u32) -> u32
-    ensures { λ r. ⌜ r ≡ priorityOf held ⌝ }
-{
-    if held == 0 {
-        return 0;
-    }
-    (held - 1) % 16
 }
 
 // `,EG` if set.
@@ -187,7 +174,7 @@ pub fn put_standing(out: &mut [u8], at: usize, held: u32) -> usize
     ensures { λ r. ⌜ Appended (now (out .entry)) at (reportText (standing held)) (now (out .exit)) r ⌝ }
 {
     let p = writer::put_bytes(out, at, b"PR=");
-    let q = writer::put_decimal(out, p, priority(held));
+    let q = writer::put_decimal(out, p, numbers::priority(held));
     put_emergency(out, q, held)
 }
 

@@ -14,9 +14,10 @@ use Rattle.base.specs.Out.{Appended}
 use Rattle.base.proofs.PickLaws.{pick-ind}
 use Rattle.base.proofs.TextLaws.{length-then, length-decimal}
 use Rattle.base.proofs.OutLaws.{_▸_, chosen-yes, chosen-no}
-use Rattle.laws.specs.Bounds.{replyTo, call-ind, call-bounded, refusal-keeps, call-taken}
-use Rattle.laws.specs.Kept.{call-sound}
-use Rattle.laws.specs.Runs.{call-length}
+use Rattle.laws.specs.Bounds.{replyTo}
+use Rattle.laws.proofs.Bounds.{call-ind, call-bounded, refusal-keeps, call-taken}
+use Rattle.laws.proofs.Kept.{call-sound}
+use Rattle.laws.proofs.Runs.{call-length}
 use Rattle.megaco.proofs.Opened.{opened}
 use Rattle.megaco.specs.Table.{words, sound}
 use Rattle.megaco.specs.Names.{within}

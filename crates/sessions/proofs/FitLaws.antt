@@ -13,7 +13,7 @@ use Rattle.base.specs.Bytes.{text, decimal, _then_}
 use Rattle.base.proofs.PickLaws.{pick-ind}
 use Rattle.base.proofs.TestLaws.{pick-both, and-both}
 use Rattle.base.proofs.TextLaws.{length-then, length-below}
-use Rattle.laws.specs.Sound.{record-sound}
+use Rattle.laws.proofs.Sound.{record-sound}
 use Rattle.megaco.specs.Table.{channels, terminations, contexts, words, mostLines, lineTerminations, isEphemeral, contextWords, propertyWords, recordWords, ephemeralContexts, ephemeralProperties, isPropertyWord, absentAreZero, priorityOf, emergencyOf, recordIsSound, recordsAreSound, sized, mapIsSound, flowWords, flowsAreSound, sound}
 use Rattle.megaco.specs.Names.{nameText}
 use Rattle.megaco.proofs.Sizes.{fitted-is}

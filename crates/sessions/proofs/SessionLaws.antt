@@ -12,10 +12,10 @@ use Rattle.base.specs.Bytes.{put, _then_}
 use Rattle.base.specs.Out.{Appended}
 use Rattle.base.proofs.OutLaws.{none, take-put, same-length-by}
 use Rattle.base.proofs.TextLaws.{none-then}
-use Rattle.laws.specs.Sound.{fresh-sound}
+use Rattle.laws.proofs.Sound.{fresh-sound}
 use Rattle.sessions.specs.Lines.{lineEnd, linesOf, Unended, nothing, lineFrom, lineEndAt}
 use Rattle.sessions.specs.Listing.{lines, reportText}
-use Rattle.sessions.specs.Session.{ready, answered, answerText, sessionText, restText, lineRoom, takenIn, answerRoom, Answers, Holds, Turned, Finished, freshTable, printedText, joined, Run, turn, read, end}
+use Rattle.sessions.specs.Session.{ready, answered, answerText, sessionText, restText, lineRoom, takenIn, answerRoom, Answers, HoldsLine, Turned, Finished, freshTable, printedText, joined, Run, turn, read, end}
 use Rattle.sessions.proofs.AnswerLaws.{long-alike, answer-fits, answered-ready}
 use Rattle.sessions.proofs.FitLaws.{report-fits}
 use Rattle.sessions.proofs.TakenLaws.{taken-part, taken-end}
@@ -62,11 +62,11 @@ held-after (y ∷ o) (suc at) bs r h e =
     let z : r ≡ suc q = omega arith in
     rw z (ap (λ (l : List ℕ). y ∷ l) (held-after o at bs q (omega arith) refl))
 
-module _ (line : List ℕ) (held : ℕ) (hold : Holds line held) (g : List ℕ) (line′ : List ℕ) (h : ℕ) (took : Appended line held g line′ h) where
+module _ (line : List ℕ) (held : ℕ) (hold : HoldsLine line held) (g : List ℕ) (line′ : List ℕ) (h : ℕ) (took : Appended line held g line′ h) where
   held-is : take h line′ ≡ take (length line) (take held line ++ g)
   held-is = rw (took .text) (held-after line held g h (omega (arith, hold .room, hold .within)) (omega (arith, took .next, hold .room, hold .within)))
 
-  holds-on : Unended g → Holds line′ h
+  holds-on : Unended g → HoldsLine line′ h
   holds-on u =
       record {
         room = same-length-by _ _ _ _ _ took ∙ hold .room;
@@ -88,20 +88,20 @@ unfolding restText sessionText
 rest-ended m t s u = rw (lines-ended u s)
 
 -- no byte is held at the start
-pub holds-none : (line : List ℕ) → length line ≡ lineRoom → Holds line 0
+pub holds-none : (line : List ℕ) → length line ≡ lineRoom → HoldsLine line 0
 holds-none line e = record { room = e; within = omega arith; unended = nothing }
 
 -- the part of a slice from its start
 front : (n : ℕ) (l : List ℕ) → take (n - 0) l ≡ take n l
 front n l = let z : n - 0 ≡ n = omega arith in rw z
 
-module _ (s : List ℕ) (from e : ℕ) (is : e ≡ lineEndAt s from) (line : List ℕ) (held : ℕ) (hold : Holds line held) (line′ : List ℕ) (h : ℕ)
+module _ (s : List ℕ) (from e : ℕ) (is : e ≡ lineEndAt s from) (line : List ℕ) (held : ℕ) (hold : HoldsLine line held) (line′ : List ℕ) (h : ℕ)
     (took : Appended line held (lineFrom s from) line′ h) (t o : List ℕ) where
   pub turn-ended : (t′ o′ : List ℕ) (n : ℕ) → from < length s → e < length s → answerRoom ≤ length o → Answers (take (h - 0) (drop 0 line′)) t o t′ o′ n
       → Turned s from line held t o line′ t′ o′ (e + 1) 0 n
   turn-ended t′ o′ n b l w a =
       let u = unended-before (drop from s) in
-      let on : Holds line′ h = holds-on line held hold (lineFrom s from) line′ h took u in
+      let on : HoldsLine line′ h = holds-on line held hold (lineFrom s from) line′ h took u in
       record {
         on = omega arith;
         holds = holds-none line′ (on .room);
@@ -142,7 +142,7 @@ pub finish-none : (line : List ℕ) (held : ℕ) (t o : List ℕ) → held ≡ 0
 unfolding restText sessionText linesOf
 finish-none line held t o e = record { kept = λ k. k; said = []; put = none o 0; fits = omega arith; rest = rw (e, none-then) }
 
-pub finish-last : (line : List ℕ) (held : ℕ) (t o t′ o′ : List ℕ) (n : ℕ) → Holds line held → (held ≡ 0 → ⊥) → answerRoom ≤ length o
+pub finish-last : (line : List ℕ) (held : ℕ) (t o t′ o′ : List ℕ) (n : ℕ) → HoldsLine line held → (held ≡ 0 → ⊥) → answerRoom ≤ length o
     → Answers (take (held - 0) (drop 0 line)) t o t′ o′ n → Finished line held t o t′ o′ n
 finish-last line held t o t′ o′ n hold h w a =
     record {

@@ -92,7 +92,7 @@ abbrev pub answerRoom : ℕ
 answerRoom = 16641
 
 -- the first bytes of a line that has not ended are held in the line's buffer
-pub record Holds (line : List ℕ) (held : ℕ) : Type 0 where
+pub record HoldsLine (line : List ℕ) (held : ℕ) : Type 0 where
   pub room : length line ≡ lineRoom
   pub within : held ≤ lineRoom
   pub unended : Unended (take held line)
@@ -101,7 +101,7 @@ pub record Holds (line : List ℕ) (held : ℕ) : Type 0 where
 -- and whatever input comes later, that and what is printed for the rest is what is printed from here
 pub record Turned (s : List ℕ) (from : ℕ) (line : List ℕ) (held : ℕ) (t o line′ t′ o′ : List ℕ) (next held′ size : ℕ) : Type 0 where
   pub on : from < next
-  pub holds : Holds line′ held′
+  pub holds : HoldsLine line′ held′
   pub taken : takenIn (take held line) t (drop from s) ≡ takenIn (take held′ line′) t′ (drop next s)
   pub kept : ready t ≡ true → ready t′ ≡ true
   pub said : List ℕ

@@ -4,19 +4,15 @@ ghost use mathlib.Core.List.{[], _∷_};
 ghost use Prim.Native.Nat.{_+_, _<_, min};
 ghost use lib.ListN.{length};
 ghost use Rattle.base.specs.Out.{Appended};
-ghost use Rattle.megaco.specs.Table.{emergencyOf};
 ghost use Rattle.sessions.specs.Lines.{lineEnd, lineFrom, lineEndAt};
 ghost use Rattle.sessions.specs.Listing.{memberText, membersText, propertiesText, contextLine, contextLines, present, countLine, partsText, contextsText, refusedText};
+use table::CHANNELS;
 
-// LF.
-const LINE_END: u8 = 10;
+const LINE_END: u8 = b'\n';
 
-// Speech channels of a line, ephemerals, contexts.
-const CHANNELS: usize = 31;
+const EPHEMERALS: usize = table::EPHEMERALS as usize;
 
-const EPHEMERALS: usize = 64;
-
-const CONTEXTS: usize = 128;
+const CONTEXTS: usize = table::CONTEXTS as usize;
 
 // ---- lines taken
 
@@ -89,24 +85,14 @@ fn put_members(out: &mut [u8], at: usize, lines: u32, c: usize, row: &[u32]) -> 
     p
 }
 
-// The emergency in a context's record.
-fn emergency(held: u32) -> u32
-    ensures { λ r. ⌜ r ≡ emergencyOf held ⌝ }
-{
-    if held == 0 {
-        return 0;
-    }
-    (held - 1) / 16
-}
-
 // Priority and emergency, from the context's record.
 fn put_properties(out: &mut [u8], at: usize, held: u32) -> usize
     ensures { λ r. ⌜ Appended (now (out .entry)) at (propertiesText held) (now (out .exit)) r ⌝ }
 {
     let p = writer::put_byte(out, at, b' ');
-    let q = writer::put_decimal(out, p, report::priority(held));
+    let q = writer::put_decimal(out, p, numbers::priority(held));
     let u = writer::put_byte(out, q, b' ');
-    writer::put_decimal(out, u, emergency(held))
+    writer::put_decimal(out, u, numbers::emergency(held))
 }
 
 // One context's line, none if it is absent.

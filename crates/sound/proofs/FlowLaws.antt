@@ -15,7 +15,7 @@ use Rattle.base.specs.Pick.{pick}
 use Rattle.base.specs.Lists.{every}
 use Rattle.megaco.specs.Square.{Square, bits, rows, squareOf, mayFlow, rowIsSound, rowsAreSound, squareIsSound}
 use Rattle.square.proofs.SquareLaws.{NoneOf, large}
-use Rattle.sound.specs.Parts.{flowIsSound, flowsMeet, barredRow, barredRows, barredBits}
+use Rattle.sound.specs.Parts.{flowIsSound, flowsMeet, forbiddenRow, forbiddenRows, forbiddenBits}
 use Rattle.sound.proofs.SoundLaws.{one-more, no-more, picked}
 
 -- ---- two rows of bits that have no place in common
@@ -64,8 +64,12 @@ and-apart : (n a k : ℕ) → k < 2 ^ n → eqb (bitAnd a k) 0 ≡ apart (bits n
 unfolding apart bits
 and-apart zero a k h = let z : k ≡ 0 = omega arith in rw (z, and-zero-r a)
 and-apart (suc n) a k h =
-    rw (and-step a k, doubled (bitAnd (a / 2) (k / 2)) (min (a % 2) (k % 2)), bit-test (a % 2) (k % 2) (omega arith) (omega arith),
-    and-apart n (a / 2) (k / 2) (omega (arith, pow-suc 2 n)))
+    rw (
+      and-step a k,
+      doubled (bitAnd (a / 2) (k / 2)) (min (a % 2) (k % 2)),
+      bit-test (a % 2) (k % 2) (omega arith) (omega arith),
+      and-apart n (a / 2) (k / 2) (omega (arith, pow-suc 2 n)),
+    )
     (not-picked (eqb (a % 2) 1 && eqb (k % 2) 1) (apart (bits n (a / 2)) (bits n (k / 2))))
 
 -- ---- the bits of a number are the rows of its square, in a row
@@ -122,79 +126,87 @@ length-square : (low high : ℕ) → length (squareOf low high) ≡ 8
 unfolding squareOf rows
 length-square low high = refl
 
-row-apart : (m i j : ℕ) (bs : List Bool) → rowIsSound m i j bs ≡ apart bs (barredRow m i j (length bs))
-unfolding rowIsSound apart barredRow
+row-apart : (m i j : ℕ) (bs : List Bool) → rowIsSound m i j bs ≡ apart bs (forbiddenRow m i j (length bs))
+unfolding rowIsSound apart forbiddenRow
 row-apart m i j [] = refl
 row-apart m i j (b ∷ bs) = rw (row-apart m i (j + 1) bs)
 
-length-barred : (m i j n : ℕ) → length (barredRow m i j n) ≡ n
-unfolding barredRow
-length-barred m i j zero = refl
-length-barred m i j (suc n) = rw (length-barred m i (j + 1) n)
+length-forbidden : (m i j n : ℕ) → length (forbiddenRow m i j n) ≡ n
+unfolding forbiddenRow
+length-forbidden m i j zero = refl
+length-forbidden m i j (suc n) = rw (length-forbidden m i (j + 1) n)
 
-rows-apart : (m i : ℕ) (q : Square) → Eights q → rowsAreSound m i q ≡ apart (flat q) (barredRows m i (length q))
-unfolding rowsAreSound apart barredRows flat Eights
+rows-apart : (m i : ℕ) (q : Square) → Eights q → rowsAreSound m i q ≡ apart (flat q) (forbiddenRows m i (length q))
+unfolding rowsAreSound apart forbiddenRows flat Eights
 rows-apart m i [] e = refl
 rows-apart m i (r ∷ q) e =
-    let l : length r ≡ length (barredRow m i 0 8) = e .0 ∙ sym (length-barred m i 0 8) in
-    let k : rowIsSound m i 0 r ≡ apart r (barredRow m i 0 8) = row-apart m i 0 r ∙ ap (λ (n : ℕ). apart r (barredRow m i 0 n)) (e .0) in
-    rw (k, rows-apart m (i + 1) q (e .1)) (sym (apart-both r (flat q) (barredRow m i 0 8) (barredRows m (i + 1) (length q)) l))
+    let l : length r ≡ length (forbiddenRow m i 0 8) = e .0 ∙ sym (length-forbidden m i 0 8) in
+    let k : rowIsSound m i 0 r ≡ apart r (forbiddenRow m i 0 8) = row-apart m i 0 r ∙ ap (λ (n : ℕ). apart r (forbiddenRow m i 0 n)) (e .0) in
+    rw (k, rows-apart m (i + 1) q (e .1)) (sym (apart-both r (flat q) (forbiddenRow m i 0 8) (forbiddenRows m (i + 1) (length q)) l))
 
-pub flow-by : (m low high k : ℕ) → low < 2 ^ 32 → high < 2 ^ 32 → k < 2 ^ 64 → bits 64 k ≡ barredBits m
+pub flow-by : (m low high k : ℕ) → low < 2 ^ 32 → high < 2 ^ 32 → k < 2 ^ 64 → bits 64 k ≡ forbiddenBits m
     → eqb (bitAnd (low + high * 4294967296) k) 0 ≡ flowIsSound m low high
-unfolding flowIsSound squareIsSound barredBits
+unfolding flowIsSound squareIsSound forbiddenBits
 flow-by m low high k h g b e =
     and-apart 64 (low + high * 4294967296) k b
     ∙ rw (lt-ltb low (2 ^ 32) h, lt-ltb high (2 ^ 32) g, e, ← flat-square low high h)
-    (ap (λ (n : ℕ). apart (flat (squareOf low high)) (barredRows m 0 n)) (sym (length-square low high)) ∙ sym (rows-apart m 0 (squareOf low high) (square-eights low high)))
+    (ap (λ (n : ℕ). apart (flat (squareOf low high)) (forbiddenRows m 0 n)) (sym (length-square low high)) ∙ sym (rows-apart m 0 (squareOf low high) (square-eights low high)))
 
 -- more members than eight leave no place unused
-pub barred-full : (m : ℕ) → 8 ≤ m → barredBits 8 ≡ barredBits m
-unfolding barredBits barredRows barredRow mayFlow
-barred-full m h =
-    rw (lt-ltb 0 m (omega arith), lt-ltb 1 m (omega arith), lt-ltb 2 m (omega arith), lt-ltb 3 m (omega arith), lt-ltb 4 m (omega arith),
-    lt-ltb 5 m (omega arith), lt-ltb 6 m (omega arith), lt-ltb 7 m (omega arith))
+pub forbidden-full : (m : ℕ) → 8 ≤ m → forbiddenBits 8 ≡ forbiddenBits m
+unfolding forbiddenBits forbiddenRows forbiddenRow mayFlow
+forbidden-full m h =
+    rw (
+      lt-ltb 0 m (omega arith),
+      lt-ltb 1 m (omega arith),
+      lt-ltb 2 m (omega arith),
+      lt-ltb 3 m (omega arith),
+      lt-ltb 4 m (omega arith),
+      lt-ltb 5 m (omega arith),
+      lt-ltb 6 m (omega arith),
+      lt-ltb 7 m (omega arith),
+    )
 
 -- the number of each count of members
 module _ (m : ℕ) where
-  pub barred-0 : m ≡ 0 → bits 64 18446744073709551615 ≡ barredBits m
-  unfolding bits barredBits barredRows barredRow mayFlow
-  barred-0 e = rw e
+  pub forbidden-0 : m ≡ 0 → bits 64 18446744073709551615 ≡ forbiddenBits m
+  unfolding bits forbiddenBits forbiddenRows forbiddenRow mayFlow
+  forbidden-0 e = rw e
 
-  pub barred-1 : m ≡ 1 → bits 64 18446744073709551615 ≡ barredBits m
-  unfolding bits barredBits barredRows barredRow mayFlow
-  barred-1 e = rw e
+  pub forbidden-1 : m ≡ 1 → bits 64 18446744073709551615 ≡ forbiddenBits m
+  unfolding bits forbiddenBits forbiddenRows forbiddenRow mayFlow
+  forbidden-1 e = rw e
 
-  pub barred-2 : m ≡ 2 → bits 64 18446744073709551357 ≡ barredBits m
-  unfolding bits barredBits barredRows barredRow mayFlow
-  barred-2 e = rw e
+  pub forbidden-2 : m ≡ 2 → bits 64 18446744073709551357 ≡ forbiddenBits m
+  unfolding bits forbiddenBits forbiddenRows forbiddenRow mayFlow
+  forbidden-2 e = rw e
 
-  pub barred-3 : m ≡ 3 → bits 64 18446744073709353721 ≡ barredBits m
-  unfolding bits barredBits barredRows barredRow mayFlow
-  barred-3 e = rw e
+  pub forbidden-3 : m ≡ 3 → bits 64 18446744073709353721 ≡ forbiddenBits m
+  unfolding bits forbiddenBits forbiddenRows forbiddenRow mayFlow
+  forbidden-3 e = rw e
 
-  pub barred-4 : m ≡ 4 → bits 64 18446744073591386865 ≡ barredBits m
-  unfolding bits barredBits barredRows barredRow mayFlow
-  barred-4 e = rw e
+  pub forbidden-4 : m ≡ 4 → bits 64 18446744073591386865 ≡ forbiddenBits m
+  unfolding bits forbiddenBits forbiddenRows forbiddenRow mayFlow
+  forbidden-4 e = rw e
 
-  pub barred-5 : m ≡ 5 → bits 64 18446744008897389281 ≡ barredBits m
-  unfolding bits barredBits barredRows barredRow mayFlow
-  barred-5 e = rw e
+  pub forbidden-5 : m ≡ 5 → bits 64 18446744008897389281 ≡ forbiddenBits m
+  unfolding bits forbiddenBits forbiddenRows forbiddenRow mayFlow
+  forbidden-5 e = rw e
 
-  pub barred-6 : m ≡ 6 → bits 64 18446709786058998465 ≡ barredBits m
-  unfolding bits barredBits barredRows barredRow mayFlow
-  barred-6 e = rw e
+  pub forbidden-6 : m ≡ 6 → bits 64 18446709786058998465 ≡ forbiddenBits m
+  unfolding bits forbiddenBits forbiddenRows forbiddenRow mayFlow
+  forbidden-6 e = rw e
 
-  pub barred-7 : m ≡ 7 → bits 64 18428906217826189953 ≡ barredBits m
-  unfolding bits barredBits barredRows barredRow mayFlow
-  barred-7 e = rw e
+  pub forbidden-7 : m ≡ 7 → bits 64 18428906217826189953 ≡ forbiddenBits m
+  unfolding bits forbiddenBits forbiddenRows forbiddenRow mayFlow
+  forbidden-7 e = rw e
 
-eight-barred : bits 64 9241421688590303745 ≡ barredBits 8
-unfolding bits barredBits barredRows barredRow mayFlow
-eight-barred = refl
+eight-forbidden : bits 64 9241421688590303745 ≡ forbiddenBits 8
+unfolding bits forbiddenBits forbiddenRows forbiddenRow mayFlow
+eight-forbidden = refl
 
-pub barred-rest : (m : ℕ) → NoneOf (7 ∷ 6 ∷ 5 ∷ 4 ∷ 3 ∷ 2 ∷ 1 ∷ 0 ∷ []) m → bits 64 9241421688590303745 ≡ barredBits m
-barred-rest m n = eight-barred ∙ barred-full m (large m n)
+pub forbidden-rest : (m : ℕ) → NoneOf (7 ∷ 6 ∷ 5 ∷ 4 ∷ 3 ∷ 2 ∷ 1 ∷ 0 ∷ []) m → bits 64 9241421688590303745 ≡ forbiddenBits m
+forbidden-rest m n = eight-forbidden ∙ forbidden-full m (large m n)
 
 -- ---- the flows of each context in turn
 pub flows-start : (ms fs : List ℕ) (a : ℕ) → flowsMeet ms (a + 1) fs ≡ (true && flowsMeet ms (a + 0 + 1) (drop (2 * 0) fs))

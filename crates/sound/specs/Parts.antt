@@ -29,16 +29,16 @@ flowsMeet counters c (low ∷ []) = false
 flowsMeet counters c (low ∷ high ∷ fs) = let q = flowsMeet counters (c + 1) fs in pick (flowIsSound (getD counters c 0) low high) q false
 
 -- the places of a square of m members that must be 0: n of row i from place j on, and n rows from row i on, in a row
-unfoldable pub barredRow : ℕ → ℕ → ℕ → ℕ → List Bool
-barredRow m i j zero = []
-barredRow m i j (suc n) = not (mayFlow m i j) ∷ barredRow m i (j + 1) n
+unfoldable pub forbiddenRow : ℕ → ℕ → ℕ → ℕ → List Bool
+forbiddenRow m i j zero = []
+forbiddenRow m i j (suc n) = not (mayFlow m i j) ∷ forbiddenRow m i (j + 1) n
 
-unfoldable pub barredRows : ℕ → ℕ → ℕ → List Bool
-barredRows m i zero = []
-barredRows m i (suc n) = barredRow m i 0 8 ++ barredRows m (i + 1) n
+unfoldable pub forbiddenRows : ℕ → ℕ → ℕ → List Bool
+forbiddenRows m i zero = []
+forbiddenRows m i (suc n) = forbiddenRow m i 0 8 ++ forbiddenRows m (i + 1) n
 
-unfoldable pub barredBits : ℕ → List Bool
-barredBits m = barredRows m 0 8
+unfoldable pub forbiddenBits : ℕ → List Bool
+forbiddenBits m = forbiddenRows m 0 8
 
 -- the tests of `sound` on a table of a good size
 unfoldable pub partsAreSound : List ℕ → Bool

@@ -19,7 +19,7 @@ ghost use Rattle.base.specs.Lists.{every, same};
 ghost use Rattle.megaco.specs.Map.{digits, marks};
 ghost use Rattle.megaco.specs.Square.{bits};
 ghost use Rattle.megaco.specs.Table.{contexts, isPropertyWord, absentAreZero, recordIsSound, recordsAreSound, flowsAreSound, Sized, sized, mapIsSound, sound};
-ghost use Rattle.sound.specs.Parts.{ephemeralIsSound, recordsMeet, flowIsSound, flowsMeet, barredBits, partsAreSound};
+ghost use Rattle.sound.specs.Parts.{ephemeralIsSound, recordsMeet, flowIsSound, flowsMeet, forbiddenBits, partsAreSound};
 
 // How many context words are tested at once for null.
 const AT_ONCE: usize = 32;
@@ -198,12 +198,12 @@ fn flow_is_sound(members: u32, low: u32, high: u32) -> bool
     ensures { λ r. ⌜ r ≡ flowIsSound members low high ⌝ }
 {
     let w = (low as u64) + (high as u64) * 4294967296;
-    w & barred(members) == 0
+    w & forbidden(members) == 0
 }
 
 // The bits that must be 0, those of row 0 lowest: the diagonal and the places that so many members leave unused.
-fn barred(members: u32) -> u64
-    ensures { λ r. ⌜ bits 64 r ≡ barredBits members ⌝ }
+fn forbidden(members: u32) -> u64
+    ensures { λ r. ⌜ bits 64 r ≡ forbiddenBits members ⌝ }
 {
     match members {
         0 => 0xffffffffffffffff,

@@ -164,8 +164,17 @@ module _ (q : Square) (m k i : ℕ) (used : List Bool) (u : used ≡ upTo 8 (λ 
       at-place : (j : ℕ) → j < 8 → pick (eqb j i) false (getD used j false && getD o j false) ≡ joinedFlow q m k i j
       at-place j l =
           let there = within q (pick (ltb k i) (i - 1) i) (pick (ltb k j) (j - 1) j) (before-small k i h) (before-small k j l) in
-          rw (u, place-of-row 8 j (λ n. ltb n m) l, eo, place-of-row 8 j (λ n. pick (eqb n k) true (getD (getD q a []) (pick (ltb k n) (n - 1) n) false)) l,
-          lt-ltb i m im, ne-eqb i k ik, there, ea, eqb-turned i j) (tests-turned (eqb j i) (ltb j m) _)
+          rw (
+            u,
+            place-of-row 8 j (λ n. ltb n m) l,
+            eo,
+            place-of-row 8 j (λ n. pick (eqb n k) true (getD (getD q a []) (pick (ltb k n) (n - 1) n) false)) l,
+            lt-ltb i m im,
+            ne-eqb i k ik,
+            there,
+            ea,
+            eqb-turned i j,
+          ) (tests-turned (eqb j i) (ltb j m) _)
 
   -- the one that joins
   pub joined-self : (s : List Bool) → i < m → i ≡ k → s ≡ set used i false → s ≡ joinedRow q m k i

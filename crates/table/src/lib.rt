@@ -1,6 +1,6 @@
 // The lent table, whose size tells the lines fitted, read and written by the number of a termination and by the number of a context.
 ghost use mathlib.Core.Path.{_≡_};
-ghost use Prim.Native.Nat.{_+_, _-_, _*_, _/_, _<_, _≤_, min};
+ghost use Prim.Native.Nat.{_+_, _-_, _*_, _/_, _<_, _≤_};
 ghost use mathlib.Core.Bool.{true};
 ghost use mathlib.Core.List.{_++_};
 ghost use lib.ListN.{length, getD, set};
@@ -314,7 +314,7 @@ pub fn count_members(table: &[u32], c: u32, i: usize) -> Counted
     ensures { λ r. ⌜ (r .place ≡ placeIn c i (now (table .entry))) × (r .members ≡ members c (now (table .entry))) ⌝ }
 {
     let n = terminations(table);
-    let k = low(i, n);
+    let k = numbers::low(i, n);
     let before = count_in(&table[0..k], c) as usize;
     let after = count_in(&table[k..n], c) as usize;
     Counted {
@@ -340,12 +340,6 @@ pub fn place_in(table: &[u32], c: u32, i: usize) -> usize
         return n.place;
     }
     0
-}
-
-fn low(a: usize, b: usize) -> usize
-    ensures { λ r. ⌜ r ≡ min a b ⌝ }
-{
-    if a < b { a } else { b }
 }
 
 // The number of the first 0 in a row of words, counted from 1; 0 if there is none.

@@ -1,4 +1,4 @@
-// Fresh, full and trampled tables, and names. Each line of the input is a case, written again with what the functions say of it:
+// Fresh, full and damaged tables, and names. Each line of the input is a case, written again with what the functions say of it:
 //     T base k v c ..    a table with the word v at place k: whether it is sound, the members of context c, the free numbers
 //     W n                the first n words of a fresh table
 //     N name             a name

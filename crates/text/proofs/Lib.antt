@@ -1,6 +1,3 @@
 pub mod ClassLaws
-pub mod LengthLaws
-pub mod PageLaws
-pub mod RowLaws
 pub mod TextLaws
 pub mod WordLaws

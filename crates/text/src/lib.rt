@@ -1,19 +1,12 @@
-// Leaf readers: bytes and their classes, white space, rows of bytes, given bytes. Keywords are in keywords.rt and rows.rt.
+// Leaf readers: bytes and their classes, words in any letter case, white space, rows of bytes, given bytes. Keywords are in crate keywords.
 ghost use mathlib.Core.Path.{_≡_};
 ghost use Prim.Native.Nat.{_<_};
-ghost use Rattle.base.specs.Lists.{isAt};
-ghost use Rattle.megaco.specs.Bytes.{isLetter, isDigit, isWhite, isLineEnd, isComment, capital};
+ghost use lib.Dec.{eqb};
+ghost use Rattle.base.specs.Lists.{isAt, same};
+ghost use Rattle.megaco.specs.Bytes.{isLetter, isDigit, isWhite, isLineEnd, isComment, capital, capitals};
 ghost use Rattle.megaco.specs.White.{goesOn, insideAfter, stopAt, whiteAt, sepAt};
 ghost use Rattle.megaco.specs.Tokens.{markAt, signAt, letterAt, rowAt};
 ghost use Rattle.text.specs.Classes.{lowOf, highOf, halfOf, OfMaps};
-
-mod keywords;
-mod rows;
-
-pub use keywords::Meaning;
-pub use keywords::is_word;
-pub use rows::meaning_of;
-pub use rows::spells;
 use megaco::Class;
 use megaco::Parsed;
 
@@ -29,13 +22,13 @@ pub fn is_at(s: &[u8], at: usize, b: u8) -> bool
 fn is_letter(b: u8) -> bool
     ensures { λ r. ⌜ r ≡ isLetter b ⌝ }
 {
-    (0x41 <= b) & (b <= 0x5a) | (0x61 <= b) & (b <= 0x7a)
+    (b'A' <= b) & (b <= b'Z') | (b'a' <= b) & (b <= b'z')
 }
 
 pub fn is_digit(b: u8) -> bool
     ensures { λ r. ⌜ r ≡ isDigit b ⌝ }
 {
-    (0x30 <= b) & (b <= 0x39)
+    (b'0' <= b) & (b <= b'9')
 }
 
 pub fn letter_at(s: &[u8], at: usize) -> bool
@@ -52,10 +45,35 @@ pub fn letter_at(s: &[u8], at: usize) -> bool
 pub fn capital(b: u8) -> u8
     ensures { λ r. ⌜ r ≡ capital b ⌝ }
 {
-    if (0x61 <= b) & (b <= 0x7a) {
+    if (b'a' <= b) & (b <= b'z') {
         return b - 0x20;
     }
     b
+}
+
+// Whether a byte, a letter in either case, is this one.
+pub fn same_letter(x: u8, y: u8) -> bool
+    ensures { λ r. ⌜ r ≡ eqb (capital x) y ⌝ }
+{
+    capital(x) == y
+}
+
+// Whether a word, in any letter case, is this one in capital letters.
+pub fn is_word(w: &[u8], form: &[u8]) -> bool
+    ensures { λ r. ⌜ r ≡ same (capitals (now (w .entry))) (now (form .entry)) ⌝ }
+{
+    if w.len() != form.len() {
+        return false;
+    }
+    let mut i = 0;
+    while i < w.len() {
+        if same_letter(w[i], form[i]) {
+            i += 1;
+        } else {
+            return false;
+        }
+    }
+    true
 }
 
 // ---- classes of bytes
@@ -127,19 +145,19 @@ pub fn row(s: &[u8], at: usize, k: Class) -> usize
 fn is_white(b: u8) -> bool
     ensures { λ r. ⌜ r ≡ isWhite b ⌝ }
 {
-    (b == 0x20) | (b == 0x09) | (b == 0x0d) | (b == 0x0a)
+    (b == b' ') | (b == b'\t') | (b == b'\r') | (b == b'\n')
 }
 
 fn is_line_end(b: u8) -> bool
     ensures { λ r. ⌜ r ≡ isLineEnd b ⌝ }
 {
-    (b == 0x0d) | (b == 0x0a)
+    (b == b'\r') | (b == b'\n')
 }
 
 fn is_comment(b: u8) -> bool
     ensures { λ r. ⌜ r ≡ isComment b ⌝ }
 {
-    (b == 0x09) | (0x20 <= b) & (b <= 0x7e)
+    (b == b'\t') | (b' ' <= b) & (b <= b'~')
 }
 
 // A byte that white space goes on with, inside a comment or outside one.
@@ -149,7 +167,7 @@ fn goes_on(inside: bool, b: u8) -> bool
     if inside {
         is_comment(b) | is_line_end(b)
     } else {
-        is_white(b) | (b == 0x3b)
+        is_white(b) | (b == b';')
     }
 }
 
@@ -157,7 +175,7 @@ fn goes_on(inside: bool, b: u8) -> bool
 fn inside_after(inside: bool, b: u8) -> bool
     ensures { λ r. ⌜ r ≡ insideAfter inside b ⌝ }
 {
-    if inside { !is_line_end(b) } else { b == 0x3b }
+    if inside { !is_line_end(b) } else { b == b';' }
 }
 
 // White space may stop outside a comment only.

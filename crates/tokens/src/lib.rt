@@ -43,7 +43,7 @@ pub fn keyword(s: &[u8], at: usize, k: Token) -> Parsed
     let Parsed::Next(e) = w else {
         return Parsed::Fault;
     };
-    if text::spells(k, &s[at..e]) {
+    if keywords::spells(k, &s[at..e]) {
         return Parsed::Next(e);
     }
     Parsed::Fault
@@ -53,7 +53,7 @@ pub fn keyword(s: &[u8], at: usize, k: Token) -> Parsed
 fn path_start(s: &[u8], at: usize) -> usize
     ensures { λ r. ⌜ r ≡ pathStart (now (s .entry)) at ⌝ }
 {
-    if text::is_at(s, at, 0x2a) {
+    if text::is_at(s, at, b'*') {
         return at + 1;
     }
     at
@@ -79,10 +79,10 @@ pub fn termination(s: &[u8], at: usize) -> Parsed
     if text::letter_at(s, p) {
         return path_name(s, at);
     }
-    if text::is_at(s, at, 0x2a) {
+    if text::is_at(s, at, b'*') {
         return Parsed::Next(at + 1);
     }
-    text::mark(s, at, 0x24)
+    text::mark(s, at, b'$')
 }
 
 // ---- numbers
@@ -116,10 +116,10 @@ pub fn number(s: &[u8], at: usize, most: usize, limit: u32) -> Number
     let top = limit as u64;
     while i < s.len() {
         let b = s[i];
-        if b < 0x30 {
+        if b < b'0' {
             return number_end(at, i, v, limit);
         }
-        if 0x39 < b {
+        if b'9' < b {
             return number_end(at, i, v, limit);
         }
         let w = v * 10 + wide(b - 48);
@@ -148,7 +148,7 @@ fn quoted(s: &[u8], at: usize) -> Parsed
     let Parsed::Next(p) = u else {
         return Parsed::Fault;
     };
-    text::mark(s, p, 0x22)
+    text::mark(s, p, b'"')
 }
 
 // 1 to 64 SafeChar.
@@ -165,7 +165,7 @@ fn plain(s: &[u8], at: usize) -> Parsed
 pub fn value(s: &[u8], at: usize) -> Parsed
     ensures { λ r. ⌜ r ≡ valueAt (now (s .entry)) at ⌝ }
 {
-    if text::is_at(s, at, 0x22) {
+    if text::is_at(s, at, b'"') {
         return quoted(s, at);
     }
     plain(s, at)
@@ -177,7 +177,7 @@ pub fn value(s: &[u8], at: usize) -> Parsed
 fn port(s: &[u8], at: usize) -> Parsed
     ensures { λ r. ⌜ r ≡ portAt (now (s .entry)) at ⌝ }
 {
-    if text::is_at(s, at, 0x3a) {
+    if text::is_at(s, at, b':') {
         let n = number(s, at + 1, 5, 65535);
         return match n {
             Number::Got { value: _, next } => Parsed::Next(next),
@@ -204,19 +204,19 @@ fn address(s: &[u8], at: usize) -> Parsed
     requires { ⌜ at < length (now s) ⌝ }
     ensures { λ r. ⌜ r ≡ addressAt (now (s .entry)) at ⌝ }
 {
-    let a = octet(s, at + 1, 0x2e);
+    let a = octet(s, at + 1, b'.');
     let Parsed::Next(p) = a else {
         return Parsed::Fault;
     };
-    let b = octet(s, p, 0x2e);
+    let b = octet(s, p, b'.');
     let Parsed::Next(q) = b else {
         return Parsed::Fault;
     };
-    let c = octet(s, q, 0x2e);
+    let c = octet(s, q, b'.');
     let Parsed::Next(u) = c else {
         return Parsed::Fault;
     };
-    octet(s, u, 0x5d)
+    octet(s, u, b']')
 }
 
 fn digit_at(s: &[u8], at: usize) -> bool
@@ -241,7 +241,7 @@ fn domain(s: &[u8], at: usize) -> Parsed
         let Parsed::Next(p) = u else {
             return Parsed::Fault;
         };
-        return text::mark(s, p, 0x3e);
+        return text::mark(s, p, b'>');
     }
     Parsed::Fault
 }
@@ -259,10 +259,10 @@ fn with_port(s: &[u8], a: Parsed) -> Parsed
 pub fn mid(s: &[u8], at: usize) -> Parsed
     ensures { λ r. ⌜ r ≡ mIdAt (now (s .entry)) at ⌝ }
 {
-    if text::is_at(s, at, 0x5b) {
+    if text::is_at(s, at, b'[') {
         return with_port(s, address(s, at));
     }
-    if text::is_at(s, at, 0x3c) {
+    if text::is_at(s, at, b'<') {
         return with_port(s, domain(s, at));
     }
     path_name(s, at)

@@ -13,17 +13,18 @@ use Rattle.megaco.specs.Tree.{Triple, priority, emergency, topology}
 use Rattle.megaco.specs.Square.{Square, squareOf, directed}
 use Rattle.megaco.specs.Table.{cell, flow, get, lowFlow, highFlow, known}
 use Rattle.megaco.specs.Topology.{triplesOf, party, Link, link, linkOf, linksOf, isUnfit, isAbsent, isOutside, placeOf, setLink, setLinks}
-use Rattle.megaco.specs.Running.{seen, flowsOf, judge, linkChecks}
+use Rattle.megaco.specs.Attempt.{seen, flowsOf, judge}
+use Rattle.megaco.specs.Action.{linkChecks}
 use Rattle.megaco.specs.declared.Checked.{Checked}
 use Rattle.megaco.specs.declared.Checked.the-variants.{Passes, Fails}
 use Rattle.megaco.specs.declared.Party.{Party}
 use Rattle.megaco.specs.declared.Party.the-variants.{Member}
 use Rattle.megaco.specs.declared.Property.{Property}
 use Rattle.megaco.specs.declared.Property.the-variants.{Priority, Emergency, Topology}
-use Rattle.syntax.specs.Places.{tripleAt, triplesStart, triplesAt, propertyAt}
-use Rattle.outline.specs.Outline.{OfTriple, tripleFrom, kindOf}
-use Rattle.outline.specs.declared.TriplePlaces.{TriplePlaces}
-use Rattle.outline.proofs.OutlineLaws.{triple-is, kind-priority, kind-emergency, kind-topology}
+use Rattle.read_command.specs.Places.{tripleAt, triplesStart, triplesAt, propertyAt}
+use Rattle.action_places.specs.ActionPlaces.{OfTriple, tripleFrom, kindOf}
+use Rattle.action_places.specs.declared.TriplePlaces.{TriplePlaces}
+use Rattle.action_places.proofs.ActionPlaceLaws.{triple-is, kind-priority, kind-emergency, kind-topology}
 use Rattle.topology.specs.declared.Looked.{Looked}
 use Rattle.topology.specs.Links.{linkFrom, Links, flowsAfter}
 

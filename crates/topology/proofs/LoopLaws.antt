@@ -12,13 +12,14 @@ use Rattle.megaco.specs.Tree.{Triple, Property, priority, emergency, topology}
 use Rattle.megaco.specs.Reading.{unlimited, isProperty, wordHere}
 use Rattle.megaco.specs.Square.{Square}
 use Rattle.megaco.specs.Topology.{triplesOf, linkOf, linksOf, setLinks}
-use Rattle.megaco.specs.Running.{judge, linkChecks}
+use Rattle.megaco.specs.Attempt.{judge}
+use Rattle.megaco.specs.Action.{linkChecks}
 use Rattle.megaco.specs.declared.Checked.{Checked}
 use Rattle.megaco.specs.declared.Checked.the-variants.{Passes, Fails}
-use Rattle.syntax.specs.Production.{pastSign, listOf}
-use Rattle.syntax.specs.Places.{tripleAt, triplesAt, propertyAt, propertiesOf}
-use Rattle.outline.specs.Outline.{kindOf, propertyPlaces}
-use Rattle.outline.specs.declared.PropertyPlaces.{PropertyPlaces}
+use Rattle.read_command.specs.Production.{pastSign, listOf}
+use Rattle.read_command.specs.Places.{tripleAt, triplesAt, propertyAt, propertiesOf}
+use Rattle.action_places.specs.ActionPlaces.{kindOf, propertyPlaces}
+use Rattle.action_places.specs.declared.PropertyPlaces.{PropertyPlaces}
 use Rattle.topology.specs.declared.Looked.{Looked}
 use Rattle.topology.specs.Links.{linkFrom, Links}
 use Rattle.topology.proofs.LinkLaws.{judgedBy, setBy, set-both, judged-pass, judged-fail, judged-none, set-none}

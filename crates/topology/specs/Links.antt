@@ -5,8 +5,8 @@ use mathlib.Core.List.{List}
 use Rattle.megaco.specs.Tree.{Property}
 use Rattle.megaco.specs.Square.{Square}
 use Rattle.megaco.specs.Topology.{triplesOf, Link, link, linkOf, linksOf, setLinks}
-use Rattle.megaco.specs.Running.{seen, flowsOf}
-use Rattle.syntax.specs.Places.{tripleAt}
+use Rattle.megaco.specs.Attempt.{seen, flowsOf}
+use Rattle.read_command.specs.Places.{tripleAt}
 use Rattle.topology.specs.declared.Looked.{Looked}
 
 unfoldable pub linkFrom : Looked → Link

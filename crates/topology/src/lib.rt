@@ -7,10 +7,11 @@ ghost use Rattle.megaco.specs.Bytes.{capital, capitals};
 ghost use Rattle.megaco.specs.Reading.{unlimited};
 ghost use Rattle.megaco.specs.Table.{Sized};
 ghost use Rattle.megaco.specs.Topology.{triplesOf, meant, party, linksOf, isUnfit, isAbsent, isOutside, placeOf, setLinks};
-ghost use Rattle.megaco.specs.Running.{seen, flowsOf, judge, linkChecks};
+ghost use Rattle.megaco.specs.Attempt.{seen, flowsOf, judge};
+ghost use Rattle.megaco.specs.Action.{linkChecks};
 ghost use Rattle.megaco.specs.declared.Name.the-variants.{Termination};
-ghost use Rattle.syntax.specs.Places.{tripleAt, triplesAt, propertyAt, propertiesOf};
-ghost use Rattle.outline.specs.Outline.{kindOf};
+ghost use Rattle.read_command.specs.Places.{tripleAt, triplesAt, propertyAt, propertiesOf};
+ghost use Rattle.action_places.specs.ActionPlaces.{kindOf};
 ghost use Rattle.topology.specs.Links.{linkFrom, Links, flowsAfter};
 use megaco::Checked;
 use megaco::Direction;
@@ -98,7 +99,7 @@ fn look_up(s: &[u8], at: usize, table: &[u32], c: u32) -> Looked
     requires { ⌜ Sized (now table) ⌝ }
     ensures { λ r. ⌜ Links (now (s .entry)) at (now (table .entry)) c r ⌝ }
 {
-    let p = outline::triple_places(s, at);
+    let p = action_places::triple_places(s, at);
     let x = p.one;
     let a = x.from;
     let b = x.to;
@@ -201,8 +202,8 @@ fn judge_triples(s: &[u8], at: usize, table: &[u32], c: u32) -> Checked
         let checked = judge_link(x);
         match checked {
             Checked::Passes => {
-                if text::is_at(s, e, 0x2c) {
-                    i = parts::past_comma(s, e);
+                if text::is_at(s, e, b',') {
+                    i = command_places::past_comma(s, e);
                     n += 1;
                 } else {
                     return Checked::Passes;
@@ -228,8 +229,8 @@ fn set_triples(s: &[u8], at: usize, table: &[u32], c: u32, was: [[bool; 8]; 8]) 
         let e = x.end;
         let r = set_link(x, q);
         q = r;
-        if text::is_at(s, e, 0x2c) {
-            i = parts::past_comma(s, e);
+        if text::is_at(s, e, b',') {
+            i = command_places::past_comma(s, e);
             n += 1;
         } else {
             return q;
@@ -248,18 +249,25 @@ fn judge_property(s: &[u8], at: usize, x: Property, table: &[u32], c: u32) -> Ch
     match x {
         Property::Priority(_) => Checked::Passes,
         Property::Emergency => Checked::Passes,
-        Property::Topology => judge_triples(s, outline::triples_start(s, at), table, c),
+        Property::Topology => judge_triples(s, action_places::triples_start(s, at), table, c),
     }
 }
 
-fn set_property(s: &[u8], at: usize, x: Property, table: &[u32], c: u32, was: [[bool; 8]; 8]) -> [[bool; 8]; 8]
+fn set_property(
+    s: &[u8],
+    at: usize,
+    x: Property,
+    table: &[u32],
+    c: u32,
+    was: [[bool; 8]; 8],
+) -> [[bool; 8]; 8]
     requires { ⌜ (Sized (now table)) × (x ≡ kindOf (propertyAt (now s) at .tree)) ⌝ }
     ensures { λ r. ⌜ r ≡ setLinks (linksOf c (now (table .entry)) (triplesOf (propertyAt (now (s .entry)) at .tree ∷ []))) was ⌝ }
 {
     match x {
         Property::Priority(_) => was,
         Property::Emergency => was,
-        Property::Topology => set_triples(s, outline::triples_start(s, at), table, c, was),
+        Property::Topology => set_triples(s, action_places::triples_start(s, at), table, c, was),
     }
 }
 
@@ -271,15 +279,15 @@ pub fn judge_topology(s: &[u8], at: usize, table: &[u32], c: u32) -> Checked
     let mut i = at;
     let mut n: usize = 0;
     while n <= s.len() {
-        if actions::property_here(s, i) {
-            let p = outline::property_places(s, i);
+        if read_action::property_here(s, i) {
+            let p = action_places::property_places(s, i);
             let x = p.property;
             let e = p.end;
             let checked = judge_property(s, i, x, table, c);
             match checked {
                 Checked::Passes => {
-                    if text::is_at(s, e, 0x2c) {
-                        i = parts::past_comma(s, e);
+                    if text::is_at(s, e, b',') {
+                        i = command_places::past_comma(s, e);
                         n += 1;
                     } else {
                         return Checked::Passes;
@@ -305,14 +313,14 @@ fn set_topology(s: &[u8], at: usize, table: &[u32], c: u32, was: [[bool; 8]; 8])
     let mut n: usize = 0;
     let mut q = was;
     while n <= s.len() {
-        if actions::property_here(s, i) {
-            let p = outline::property_places(s, i);
+        if read_action::property_here(s, i) {
+            let p = action_places::property_places(s, i);
             let x = p.property;
             let e = p.end;
             let r = set_property(s, i, x, table, c, q);
             q = r;
-            if text::is_at(s, e, 0x2c) {
-                i = parts::past_comma(s, e);
+            if text::is_at(s, e, b',') {
+                i = command_places::past_comma(s, e);
                 n += 1;
             } else {
                 return q;

@@ -2,7 +2,7 @@
 // then its bytes and a line end. Each is told in one line: its number, what it shows, the verdict. tools/verdict_cases.py writes the input and the output.
 use libc::STDIN_FILENO;
 use libc::STDOUT_FILENO;
-use syntax::Verdict;
+use read_command::Verdict;
 ghost use Prim.Native.Nat.{_<_, _≤_};
 ghost use mathlib.Core.Path.{_≡_};
 ghost use lib.ListN.{length};
@@ -43,7 +43,7 @@ fn one(k: u64, head: &mut [u8], room: &mut [u8]) -> bool
         }
         io::print_decimal(STDOUT_FILENO, k);
         io::write_all(STDOUT_FILENO, &head[5..47]);
-        tell(message::verdict(&room[0..n]));
+        tell(read_message::verdict(&room[0..n]));
         return true;
     }
     false

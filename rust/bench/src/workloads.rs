@@ -145,7 +145,8 @@ pub fn fixed() -> [Workload; 2] {
         .map(|(name, table)| Workload::request(name, "", table))
 }
 
-/// The same three calls on one, eight and sixteen lines, from a fresh table.
+/// The same three calls on one, eight and sixteen lines, from a fresh table; then
+/// three in a context of seven or eight members that all hear each other.
 pub fn counts() -> Vec<Workload> {
     const CALLS: [(&str, &str); 3] = [
         ("turned down", ""),
@@ -162,5 +163,27 @@ pub fn counts() -> Vec<Workload> {
             all.push(Workload::new(name, lines, messages, tables::fresh(lines)));
         }
     }
+    const IN_CONTEXT: [(&str, usize, &str); 3] = [
+        ("an eighth member added", 7, "A=L/1/8"),
+        ("the eighth subtracted", 8, "S=L/1/8"),
+        ("the eighth modified", 8, "MF=L/1/8"),
+    ];
+    for (name, members, command) in IN_CONTEXT {
+        let message = format!("!/1 [10.0.0.1] T=7{{C=2{{{command}}}}}");
+        all.push(Workload::request(name, &message, context_of(members)));
+    }
     all
+}
+
+/// Eight lines with channels 1 and on of the first in context 2, each heard by each.
+fn context_of(members: usize) -> Vec<u32> {
+    let mut table = fresh();
+    table[..members].fill(2);
+    table[Lines::EIGHT.records() + 1] = 1;
+    let row = (1u64 << members) - 1;
+    let flows = (0..members).fold(0, |flows, i| flows | (row & !(1 << i)) << (8 * i));
+    let start = Lines::EIGHT.flows() + 2;
+    table[start] = flows as u32;
+    table[start + 1] = (flows >> 32) as u32;
+    table
 }

@@ -56,7 +56,7 @@ fn as_c_has_them() {
 #[test]
 fn as_the_code_has_them() {
     let [outcomes, dialled] =
-        [(GATEWAY, "enum Outcome {"), (DIGITS, "enum Dialled {")].map(|(source, head)| {
+        [(GATEWAY, "enum CallOutcome {"), (DIGITS, "enum Dialled {")].map(|(source, head)| {
             let (_, body) = source.split_once(head).unwrap();
             let (body, _) = body.split_once("\n}").unwrap();
             let names: Vec<&str> = body.lines().map(str::trim).collect();

@@ -75,7 +75,7 @@ impl Cases {
             14..=16 => tables::fresh(lines),
             17..=28 => tables::sound(numbers, lines),
             29 => tables::lowest(numbers, lines),
-            _ => tables::trampled(numbers, lines),
+            _ => tables::damaged(numbers, lines),
         };
         let message = message(numbers, lines, &table);
         let own = own(numbers, lines, &table);

@@ -56,7 +56,7 @@ fn crowded(numbers: &mut Numbers, lines: Lines) -> Vec<u32> {
 pub fn ask(numbers: &mut Numbers, side: Asked) -> Result<u64, String> {
     let fitted = tables::lines(numbers);
     let table = match numbers.under(8) {
-        0 => tables::trampled(numbers, fitted),
+        0 => tables::damaged(numbers, fitted),
         1 => crowded(numbers, fitted),
         2 => tables::lowest(numbers, fitted),
         _ => tables::sound(numbers, fitted),

@@ -152,7 +152,7 @@ fn shuffle<T>(numbers: &mut Numbers, list: &mut [T]) {
 
 /// A table after somebody trampled it: of another length, noise, or a sound
 /// one with a sentence of soundness broken (or just not broken).
-pub fn trampled(numbers: &mut Numbers, lines: Lines) -> Vec<u32> {
+pub fn damaged(numbers: &mut Numbers, lines: Lines) -> Vec<u32> {
     let (properties, records) = (lines.properties(), lines.records());
     let mut table = sound(numbers, lines);
     let length = table.len();

@@ -42,7 +42,7 @@ fn trampled_tables_are_sound_or_not() {
     let mut numbers = Numbers::new(1);
     let sound = (0..2_000).filter(|_| {
         let lines = tables::lines(&mut numbers);
-        let mut table = tables::trampled(&mut numbers, lines);
+        let mut table = tables::damaged(&mut numbers, lines);
         Table::sound(lines, &mut table).is_some()
     });
     assert!((100..1_000).contains(&sound.count()));

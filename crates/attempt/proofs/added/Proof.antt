@@ -1,6 +1,6 @@
 use borrow.Author.Needs.{needs}
 use Rattle.base.specs.Pick.{pick-yes-by, pick-no-by}
-use Rattle.megaco.specs.Running.{added}
+use Rattle.megaco.specs.Attempt.{added}
 use Rattle.attempt.proofs.added.Statement.{statement}
 use Rattle.attempt.proofs.added.Tie as tie
 

@@ -1,5 +1,5 @@
 use borrow.Author.Needs.{needs}
-use Rattle.megaco.specs.Running.{isChoose}
+use Rattle.megaco.specs.Attempt.{isChoose}
 use Rattle.attempt.proofs.is_choose.Statement.{statement}
 use Rattle.attempt.proofs.is_choose.Tie as tie
 

@@ -7,7 +7,7 @@ pub joined-by-spec : {M : Type 1} → statement M
 joined-by-spec =
     tie.close
     (tie.spec
-      (λ c κs. search needs)
-      (λ c κs. search needs)
-      (λ c κs. search needs)
-      (λ c. search joined-is))
+    (λ c κs. search needs)
+    (λ c κs. search needs)
+    (λ c κs. search needs)
+    (λ c. search joined-is))

@@ -1,5 +1,5 @@
 use borrow.Author.Needs.{needs}
-use Rattle.megaco.specs.Running.{roomChecks}
+use Rattle.megaco.specs.Attempt.{roomChecks}
 use Rattle.attempt.proofs.JudgeLaws.{tests, by-call}
 use Rattle.attempt.proofs.judge_room.Statement.{statement}
 use Rattle.attempt.proofs.judge_room.Tie as tie

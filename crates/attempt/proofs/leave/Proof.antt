@@ -7,10 +7,10 @@ pub leave-spec : {M : Type 1} → statement M
 leave-spec =
     tie.close
     (tie.spec
-      (λ c κs. search needs)
-      (λ c κs. search needs)
-      (λ c κs. search needs)
-      (λ c. search needs)
-      (λ c. search leave-yes)
-      (λ c. search needs)
-      (λ c. search leave-no))
+    (λ c κs. search needs)
+    (λ c κs. search needs)
+    (λ c κs. search needs)
+    (λ c. search needs)
+    (λ c. search leave-yes)
+    (λ c. search needs)
+    (λ c. search leave-no))

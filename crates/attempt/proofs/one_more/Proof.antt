@@ -7,6 +7,6 @@ pub one-more-spec : {M : Type 1} → statement M
 one-more-spec =
     tie.close
     (tie.spec
-      (λ c. search needs)
-      (λ c. search picks)
-      (λ c. search picks))
+    (λ c. search needs)
+    (λ c. search picks)
+    (λ c. search picks))

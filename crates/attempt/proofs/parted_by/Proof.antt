@@ -7,6 +7,6 @@ pub parted-by-spec : {M : Type 1} → statement M
 parted-by-spec =
     tie.close
     (tie.spec
-      (λ c κs. search needs)
-      (λ c κs. search needs)
-      (λ c. search parted-is))
+    (λ c κs. search needs)
+    (λ c κs. search needs)
+    (λ c. search parted-is))

@@ -7,9 +7,9 @@ pub put-flows-spec : {M : Type 1} → statement M
 put-flows-spec =
     tie.close
     (tie.spec
-      (λ c κs. search needs)
-      (λ c κs. search needs)
-      (λ c κs. search needs)
-      (λ c κs. search needs)
-      (λ c. search needs)
-      (λ c. search flows-put))
+    (λ c κs. search needs)
+    (λ c κs. search needs)
+    (λ c κs. search needs)
+    (λ c κs. search needs)
+    (λ c. search needs)
+    (λ c. search flows-put))

@@ -1,6 +1,6 @@
 use borrow.Author.Needs.{needs}
 use Rattle.base.specs.Pick.{pick-yes-by, pick-no-by}
-use Rattle.megaco.specs.Running.{settled}
+use Rattle.megaco.specs.Attempt.{settled}
 use Rattle.attempt.proofs.settled.Statement.{statement}
 use Rattle.attempt.proofs.settled.Tie as tie
 

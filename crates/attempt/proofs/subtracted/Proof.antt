@@ -1,6 +1,6 @@
 use borrow.Author.Needs.{needs}
 use Rattle.base.specs.Pick.{pick-yes-by, pick-no-by}
-use Rattle.megaco.specs.Running.{subtracted}
+use Rattle.megaco.specs.Attempt.{subtracted}
 use Rattle.attempt.proofs.subtracted.Statement.{statement}
 use Rattle.attempt.proofs.subtracted.Tie as tie
 

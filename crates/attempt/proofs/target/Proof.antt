@@ -1,6 +1,6 @@
 use borrow.Author.Needs.{needs}
 use Rattle.base.specs.Pick.{pick-yes-by, pick-no-by}
-use Rattle.megaco.specs.Running.{target}
+use Rattle.megaco.specs.Attempt.{target}
 use Rattle.attempt.proofs.target.Statement.{statement}
 use Rattle.attempt.proofs.target.Tie as tie
 

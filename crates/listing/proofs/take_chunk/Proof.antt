@@ -2,14 +2,14 @@ use borrow.Author.Needs.{needs}
 use Prim.Native.Nat.{_-_}
 use mathlib.Core.Path.{_≡_, refl}
 use lib.ListN.{length, take, drop}
-use Rattle.sessions.specs.Session.{takenIn, Holds}
+use Rattle.sessions.specs.Session.{takenIn, HoldsLine}
 use Rattle.sessions.proofs.TakenLaws.{chunk-goes, chunk-ends}
 use Rattle.listing.proofs.take_chunk.Statement.{statement}
 use Rattle.listing.proofs.take_chunk.Tie as tie
 
 abbrev Inv-loop : tie.InvT-loop
 Inv-loop chunk line₀ held table₀ out₀ h₀ from₀ line table out h from =
-    Holds line h × (length line ≡ length line₀) × (length table ≡ length table₀) × (length out ≡ length out₀)
+    HoldsLine line h × (length line ≡ length line₀) × (length table ≡ length table₀) × (length out ≡ length out₀)
     × (takenIn (take held line₀) table₀ chunk ≡ takenIn (take h line) table (drop from chunk))
 
 abbrev μ-loop : tie.MeasureT-loop

@@ -4,14 +4,14 @@ use mathlib.Core.Path.{_≡_}
 use native.Mathlib.Omega.{arith}
 use lib.ListN.{length}
 use borrow.Author.Tests.{not-true}
-use Rattle.sessions.specs.Session.{mostReads, Holds, Reads}
+use Rattle.sessions.specs.Session.{mostReads, HoldsLine, Reads}
 use Rattle.sessions.proofs.TakenLaws.{reads-none, reads-on, reads-ended, reads-all}
 use Rattle.listing.proofs.take_input.Statement.{statement}
 use Rattle.listing.proofs.take_input.Tie as tie
 
 abbrev Inv-loop : tie.InvT-loop
 Inv-loop line₀ table₀ out₀ h₀ turns₀ line table out h turns =
-    Holds line h × (length line ≡ length line₀) × (length table ≡ length table₀) × (length out ≡ length out₀)
+    HoldsLine line h × (length line ≡ length line₀) × (length table ≡ length table₀) × (length out ≡ length out₀)
     × (turns ≤ mostReads) × Reads table₀ (mostReads - turns) line table h
 
 abbrev μ-loop : tie.MeasureT-loop

@@ -7,4 +7,4 @@ pub is-known-spec : {M : Type 1} → statement M
 is-known-spec =
     tie.close
     (tie.spec
-      (λ c. unfold known in refl))
+    (λ c. unfold known in refl))

@@ -7,7 +7,7 @@ pub place-in-spec : {M : Type 1} → statement M
 place-in-spec =
     tie.close
     (tie.spec
-      (λ c κs. search needs)
-      (λ c κs. (search needs, search known-yes))
-      (λ c. search needs)
-      (λ c. search place-none))
+    (λ c κs. search needs)
+    (λ c κs. (search needs, search known-yes))
+    (λ c. search needs)
+    (λ c. search place-none))

@@ -7,10 +7,10 @@ pub flows-of-spec : {M : Type 1} → statement M
 flows-of-spec =
     tie.close
     (tie.spec
-      (λ c κs. search needs)
-      (λ c κs. search needs)
-      (λ c κs. search needs)
-      (λ c κs. search needs)
-      (λ c. search flows-known)
-      (λ c κs. search needs)
-      (λ c. search flows-unknown))
+    (λ c κs. search needs)
+    (λ c κs. search needs)
+    (λ c κs. search needs)
+    (λ c κs. search needs)
+    (λ c. search flows-known)
+    (λ c κs. search needs)
+    (λ c. search flows-unknown))

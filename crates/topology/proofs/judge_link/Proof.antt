@@ -7,13 +7,13 @@ pub judge-link-spec : {M : Type 1} → statement M
 judge-link-spec =
     tie.close
     (tie.spec
-      (λ c κs. search needs)
-      (λ c κs. search needs)
-      (λ c. search link-unfit)
-      (λ c κs. search needs)
-      (λ c κs. search needs)
-      (λ c. search link-absent)
-      (λ c κs. search needs)
-      (λ c κs. search needs)
-      (λ c. search link-outside)
-      (λ c. search link-good))
+    (λ c κs. search needs)
+    (λ c κs. search needs)
+    (λ c. search link-unfit)
+    (λ c κs. search needs)
+    (λ c κs. search needs)
+    (λ c. search link-absent)
+    (λ c κs. search needs)
+    (λ c κs. search needs)
+    (λ c. search link-outside)
+    (λ c. search link-good))

@@ -7,11 +7,11 @@ pub judge-property-spec : {M : Type 1} → statement M
 judge-property-spec =
     tie.close
     (tie.spec
-      (λ c. search needs)
-      (λ c. search needs)
-      (λ c. search needs)
-      (λ c κs. search needs)
-      (λ c κs. search needs)
-      (λ c. search judged-priority)
-      (λ c. search judged-emergency)
-      (λ c. search judged-topology))
+    (λ c. search needs)
+    (λ c. search needs)
+    (λ c. search needs)
+    (λ c κs. search needs)
+    (λ c κs. search needs)
+    (λ c. search judged-priority)
+    (λ c. search judged-emergency)
+    (λ c. search judged-topology))

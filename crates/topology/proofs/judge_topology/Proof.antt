@@ -18,20 +18,20 @@ pub judge-topology-spec : {M : Type 1} → statement M
 judge-topology-spec =
     tie.close
     (tie.spec
-      Inv-loop
-      μ-loop
-      (λ c. judging-all _ _ _ _)
-      (λ c κs. search needs)
-      (λ c κs. search needs)
-      (λ c κs. (search needs, search kind-is))
-      (λ c. search needs)
-      (λ c κs. search needs)
-      (λ c κs. search needs)
-      (λ c. search needs)
-      (λ c. search needs)
-      (λ c. search all-more)
-      (λ c. search all-last)
-      (λ c. search needs)
-      (λ c. search all-fail)
-      (λ c. search all-end)
-      (λ c. search all-none))
+    Inv-loop
+    μ-loop
+    (λ c. judging-all _ _ _ _)
+    (λ c κs. search needs)
+    (λ c κs. search needs)
+    (λ c κs. (search needs, search kind-is))
+    (λ c. search needs)
+    (λ c κs. search needs)
+    (λ c κs. search needs)
+    (λ c. search needs)
+    (λ c. search needs)
+    (λ c. search all-more)
+    (λ c. search all-last)
+    (λ c. search needs)
+    (λ c. search all-fail)
+    (λ c. search all-end)
+    (λ c. search all-none))

@@ -1,7 +1,7 @@
 use mathlib.Core.Path.{_≡_}
 use Prim.Native.Nat.{_+_, _-_}
 use lib.ListN.{length}
-use Rattle.syntax.specs.Places.{triplesAt}
+use Rattle.read_command.specs.Places.{triplesAt}
 use Rattle.topology.proofs.LinkLaws.{judgedBy}
 use Rattle.topology.proofs.LoopLaws.{triplesFrom, judging, triples-none, triples-fail, triples-last, triples-more}
 use borrow.Author.Needs.{needs}
@@ -18,18 +18,18 @@ pub judge-triples-spec : {M : Type 1} → statement M
 judge-triples-spec =
     tie.close
     (tie.spec
-      Inv-loop
-      μ-loop
-      (λ c. judging _ _ _ _)
-      (λ c κs. search needs)
-      (λ c κs. search needs)
-      (λ c. search needs)
-      (λ c κs. search needs)
-      (λ c κs. search needs)
-      (λ c. search needs)
-      (λ c. search needs)
-      (λ c. search triples-more)
-      (λ c. search triples-last)
-      (λ c. search needs)
-      (λ c. search triples-fail)
-      (λ c. search triples-none))
+    Inv-loop
+    μ-loop
+    (λ c. judging _ _ _ _)
+    (λ c κs. search needs)
+    (λ c κs. search needs)
+    (λ c. search needs)
+    (λ c κs. search needs)
+    (λ c κs. search needs)
+    (λ c. search needs)
+    (λ c. search needs)
+    (λ c. search triples-more)
+    (λ c. search triples-last)
+    (λ c. search needs)
+    (λ c. search triples-fail)
+    (λ c. search triples-none))

@@ -7,10 +7,10 @@ pub member-spec : {M : Type 1} → statement M
 member-spec =
     tie.close
     (tie.spec
-      (λ c κs. search needs)
-      (λ c κs. search needs)
-      (λ c κs. search needs)
-      (λ c κs. search needs)
-      (λ c. search member-here)
-      (λ c. search member-elsewhere)
-      (λ c. search member-absent))
+    (λ c κs. search needs)
+    (λ c κs. search needs)
+    (λ c κs. search needs)
+    (λ c κs. search needs)
+    (λ c. search member-here)
+    (λ c. search member-elsewhere)
+    (λ c. search member-absent))

@@ -7,7 +7,7 @@ pub party-spec : {M : Type 1} → statement M
 party-spec =
     tie.close
     (tie.spec
-      (λ c κs. search needs)
-      (λ c κs. search needs)
-      (λ c κs. search needs)
-      (λ c. search party-by))
+    (λ c κs. search needs)
+    (λ c κs. search needs)
+    (λ c κs. search needs)
+    (λ c. search party-by))

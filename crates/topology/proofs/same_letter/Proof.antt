@@ -6,6 +6,6 @@ pub same-letter-spec : {M : Type 1} → statement M
 same-letter-spec =
     tie.close
     (tie.spec
-      (λ c κs. search needs)
-      (λ c κs. search needs)
-      (λ c. cc))
+    (λ c κs. search needs)
+    (λ c κs. search needs)
+    (λ c. cc))

@@ -7,11 +7,11 @@ pub set-property-spec : {M : Type 1} → statement M
 set-property-spec =
     tie.close
     (tie.spec
-      (λ c. search needs)
-      (λ c. search needs)
-      (λ c. search needs)
-      (λ c κs. search needs)
-      (λ c κs. search needs)
-      (λ c. search set-priority)
-      (λ c. search set-emergency)
-      (λ c. search set-topology))
+    (λ c. search needs)
+    (λ c. search needs)
+    (λ c. search needs)
+    (λ c κs. search needs)
+    (λ c κs. search needs)
+    (λ c. search set-priority)
+    (λ c. search set-emergency)
+    (λ c. search set-topology))

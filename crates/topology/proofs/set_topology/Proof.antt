@@ -18,17 +18,17 @@ pub set-topology-spec : {M : Type 1} → statement M
 set-topology-spec =
     tie.close
     (tie.spec
-      Inv-loop
-      μ-loop
-      (λ c. setting-all _ _ _ _ _)
-      (λ c κs. search needs)
-      (λ c κs. search needs)
-      (λ c κs. (search needs, search kind-is))
-      (λ c κs. search needs)
-      (λ c κs. search needs)
-      (λ c. search needs)
-      (λ c. search needs)
-      (λ c. search set-all-more)
-      (λ c. search set-all-last)
-      (λ c. search set-all-end)
-      (λ c. search set-all-none))
+    Inv-loop
+    μ-loop
+    (λ c. setting-all _ _ _ _ _)
+    (λ c κs. search needs)
+    (λ c κs. search needs)
+    (λ c κs. (search needs, search kind-is))
+    (λ c κs. search needs)
+    (λ c κs. search needs)
+    (λ c. search needs)
+    (λ c. search needs)
+    (λ c. search set-all-more)
+    (λ c. search set-all-last)
+    (λ c. search set-all-end)
+    (λ c. search set-all-none))

@@ -1,7 +1,7 @@
 use mathlib.Core.Path.{_≡_}
 use Prim.Native.Nat.{_+_, _-_}
 use lib.ListN.{length}
-use Rattle.syntax.specs.Places.{triplesAt}
+use Rattle.read_command.specs.Places.{triplesAt}
 use Rattle.topology.proofs.LinkLaws.{setBy}
 use Rattle.topology.proofs.LoopLaws.{triplesFrom, setting, unset-none, unset-last, set-more}
 use borrow.Author.Needs.{needs}
@@ -18,15 +18,15 @@ pub set-triples-spec : {M : Type 1} → statement M
 set-triples-spec =
     tie.close
     (tie.spec
-      Inv-loop
-      μ-loop
-      (λ c. setting _ _ _ _ _)
-      (λ c κs. search needs)
-      (λ c κs. search needs)
-      (λ c κs. search needs)
-      (λ c κs. search needs)
-      (λ c. search needs)
-      (λ c. search needs)
-      (λ c. search set-more)
-      (λ c. search unset-last)
-      (λ c. search unset-none))
+    Inv-loop
+    μ-loop
+    (λ c. setting _ _ _ _ _)
+    (λ c κs. search needs)
+    (λ c κs. search needs)
+    (λ c κs. search needs)
+    (λ c κs. search needs)
+    (λ c. search needs)
+    (λ c. search needs)
+    (λ c. search set-more)
+    (λ c. search unset-last)
+    (λ c. search unset-none))

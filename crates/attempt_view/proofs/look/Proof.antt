@@ -1,0 +1,17 @@
+use Rattle.attempt_view.proofs.ViewLaws.{looked}
+use borrow.Author.Needs.{needs}
+use Rattle.attempt_view.proofs.look.Statement.{statement}
+use Rattle.attempt_view.proofs.look.Tie as tie
+
+pub look-spec : {M : Type 1} → statement M
+look-spec =
+    tie.close
+    (tie.spec
+    (λ c κs. search needs)
+    (λ c κs. search needs)
+    (λ c κs. search needs)
+    (λ c κs. search needs)
+    (λ c κs. search needs)
+    (λ c κs. search needs)
+    (λ c κs. search needs)
+    (λ c. search looked))

@@ -1,0 +1,235 @@
+// The parts of a command and of an item in a well-formed message: where each stands, found once. Nothing can fail here: where no such part
+// stands, what is found has no meaning.
+ghost use mathlib.Core.Path.{_≡_};
+ghost use Prim.Native.Nat.{_<_};
+ghost use Rattle.megaco.specs.Bytes.{comma, leftBrace, rightBrace};
+ghost use Rattle.read_command.specs.Production.{endOf, pastWhite, pastSign};
+ghost use Rattle.read_command.specs.Places.{secondAt, itemAt, itemsAt};
+ghost use Rattle.command_places.specs.Found.{OfValue, OfItem, marksOf, OfCommand, commandEndFrom};
+use megaco::Class;
+use megaco::Parsed;
+use read_command::Piece;
+
+// A value that may stand in an item: whether it does and stands between quotes, its bytes if it is plain, and the place behind it.
+pub struct ValuePlaces {
+    pub given: bool,
+    pub quoted: bool,
+    pub plain: Piece,
+    pub end: usize,
+}
+
+// An item: its word, whether a second word follows, its value, whether braces follow, and where the items in them begin.
+pub struct ItemPlaces {
+    pub word: Piece,
+    pub second: bool,
+    pub value: ValuePlaces,
+    pub braces: bool,
+    pub inside: usize,
+}
+
+// Whether `O-` and `W-` stand before a command's word, and where that begins.
+pub struct Marks {
+    pub optional: bool,
+    pub wild: bool,
+    pub at: usize,
+}
+
+// A command: its marks, its word, its name, the place behind them, whether braces follow, and where the items in them begin.
+pub struct CommandPlaces {
+    pub optional: bool,
+    pub wild: bool,
+    pub word: Piece,
+    pub name: Piece,
+    pub end: usize,
+    pub braces: bool,
+    pub inside: usize,
+}
+
+// ---- places
+
+// Where a reader stopped.
+pub fn end_of(x: Parsed) -> usize
+    ensures { λ r. ⌜ r ≡ endOf x ⌝ }
+{
+    match x {
+        Parsed::Next(p) => p,
+        Parsed::Fault => 0,
+    }
+}
+
+pub fn past_white(s: &[u8], at: usize) -> usize
+    ensures { λ r. ⌜ r ≡ pastWhite (now (s .entry)) at ⌝ }
+{
+    end_of(text::white(s, at))
+}
+
+// The place past a sign, and white space.
+fn past_sign(s: &[u8], at: usize, b: u8) -> usize
+    requires { ⌜ 0 < b ⌝ }
+    ensures { λ r. ⌜ r ≡ pastSign b (now (s .entry)) at ⌝ }
+{
+    end_of(text::sign(s, at, b))
+}
+
+pub fn past_comma(s: &[u8], at: usize) -> usize
+    ensures { λ r. ⌜ r ≡ pastSign comma (now (s .entry)) at ⌝ }
+{
+    past_sign(s, at, b',')
+}
+
+pub fn past_opening(s: &[u8], at: usize) -> usize
+    ensures { λ r. ⌜ r ≡ pastSign leftBrace (now (s .entry)) at ⌝ }
+{
+    past_sign(s, at, b'{')
+}
+
+pub fn past_closing(s: &[u8], at: usize) -> usize
+    ensures { λ r. ⌜ r ≡ pastSign rightBrace (now (s .entry)) at ⌝ }
+{
+    past_sign(s, at, b'}')
+}
+
+// ---- items
+
+// The end of a second word that may stand here.
+fn second_end(s: &[u8], at: usize) -> usize
+    ensures { λ r. ⌜ r ≡ secondAt (now (s .entry)) at .end ⌝ }
+{
+    if text::is_at(s, at, b'/') {
+        return text::row(s, at + 1, Class::WordByte);
+    }
+    at
+}
+
+// A value that may stand here.
+fn value_places(s: &[u8], at: usize) -> ValuePlaces
+    ensures { λ r. ⌜ OfValue (now (s .entry)) at r ⌝ }
+{
+    if text::is_at(s, at, b'=') {
+        let a = past_sign(s, at, b'=');
+        let e = end_of(tokens::value(s, a));
+        let q = text::is_at(s, a, b'"');
+        let plain = read_command::piece_of(s, a, e);
+        let end = past_white(s, e);
+        return ValuePlaces {
+            given: true,
+            quoted: q,
+            plain: plain,
+            end: end,
+        };
+    }
+    let none = read_command::piece_of(s, 0, 0);
+    ValuePlaces {
+        given: false,
+        quoted: false,
+        plain: none,
+        end: at,
+    }
+}
+
+// An item.
+pub fn item_places(s: &[u8], at: usize) -> ItemPlaces
+    ensures { λ r. ⌜ OfItem (now (s .entry)) at r ⌝ }
+{
+    let w = text::row(s, at, Class::WordByte);
+    let word = read_command::piece_of(s, at, w);
+    let second = text::is_at(s, w, b'/');
+    let v = value_places(s, past_white(s, second_end(s, w)));
+    let e = v.end;
+    let braces = text::is_at(s, e, b'{');
+    let inside = past_opening(s, e);
+    ItemPlaces {
+        word: word,
+        second: second,
+        value: v,
+        braces: braces,
+        inside: inside,
+    }
+}
+
+// The end of an item that may hold `left` levels.
+fn item_end(s: &[u8], left: usize, at: usize) -> usize
+    ensures { λ r. ⌜ r ≡ itemAt left (itemsAt left (now (s .entry))) (now (s .entry)) at .end ⌝ }
+{
+    let p = item_places(s, at);
+    if p.braces {
+        let inside = p.inside;
+        if read_command::empty_here(s, left, at, inside) {
+            return past_closing(s, inside);
+        }
+        return past_closing(s, items_end(s, left, inside));
+    }
+    let v = p.value;
+    v.end
+}
+
+// The end of the items of at most `left` levels that begin here.
+fn items_end(s: &[u8], left: usize, at: usize) -> usize
+    ensures { λ r. ⌜ r ≡ itemsAt left (now (s .entry)) at .end ⌝ }
+{
+    if left == 0 {
+        return at;
+    }
+    let mut i = at;
+    let mut n = 0;
+    while n <= s.len() {
+        let e = item_end(s, left - 1, i);
+        if text::is_at(s, e, b',') {
+            i = past_comma(s, e);
+            n += 1;
+        } else {
+            return e;
+        }
+    }
+    i
+}
+
+// ---- commands
+
+fn prefixes(s: &[u8], at: usize) -> Marks
+    ensures { λ r. ⌜ r ≡ marksOf (now (s .entry)) at ⌝ }
+{
+    let o = read_command::prefix_end(s, at, b'O');
+    let w = read_command::prefix_end(s, o, b'W');
+    Marks {
+        optional: at < o,
+        wild: o < w,
+        at: w,
+    }
+}
+
+// A command.
+pub fn command_places(s: &[u8], at: usize) -> CommandPlaces
+    ensures { λ r. ⌜ OfCommand (now (s .entry)) at r ⌝ }
+{
+    let m = prefixes(s, at);
+    let w = m.at;
+    let e = text::row(s, w, Class::WordByte);
+    let word = read_command::piece_of(s, w, e);
+    let n = past_sign(s, past_white(s, e), b'=');
+    let f = end_of(tokens::termination(s, n));
+    let name = read_command::piece_of(s, n, f);
+    let end = past_white(s, f);
+    let braces = text::is_at(s, end, b'{');
+    let inside = past_opening(s, end);
+    CommandPlaces {
+        optional: m.optional,
+        wild: m.wild,
+        word: word,
+        name: name,
+        end: end,
+        braces: braces,
+        inside: inside,
+    }
+}
+
+// The end of a command whose parts are found.
+pub fn command_end(s: &[u8], p: CommandPlaces) -> usize
+    ensures { λ r. ⌜ r ≡ commandEndFrom (now (s .entry)) p ⌝ }
+{
+    if p.braces {
+        let inside = p.inside;
+        return past_closing(s, items_end(s, 8, inside));
+    }
+    p.end
+}

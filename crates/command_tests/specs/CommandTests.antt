@@ -1,0 +1,40 @@
+-- What the functions over one command promise.
+use Prim.Native.Nat.{ℕ}
+use mathlib.Core.List.{List}
+use mathlib.Core.Option.{Option, none, some}
+use Rattle.base.specs.Pick.{pick}
+use Rattle.megaco.specs.Keywords.{isToken}
+use Rattle.megaco.specs.Attempt.{seen, numberOf}
+use Rattle.megaco.specs.declared.Context.{Context}
+use Rattle.megaco.specs.declared.Op.{Op}
+use Rattle.megaco.specs.declared.Op.the-variants.{Add, Modify, Subtract, Move, AuditValue}
+use Rattle.megaco.specs.declared.Token.{Token}
+use Rattle.megaco.specs.declared.Token.the-variants.{AddToken, ModifyToken, SubtractToken, MoveToken, AuditValueToken}
+use Rattle.megaco.specs.declared.Judged.{Judged}
+use Rattle.megaco.specs.declared.Judged.the-variants.{Wrong, Right}
+use Rattle.attempt.specs.Judging.{Fair}
+use Rattle.command_tests.specs.declared.Found.{Found}
+use Rattle.command_tests.specs.declared.Found.the-variants.{Built, Unbuilt}
+
+-- the definition's answer for what a word tells
+unfoldable pub foundOf : Found → Option Op
+foundOf (Built op) = some op
+foundOf Unbuilt = none
+
+-- what a keyword tells
+unfoldable pub opBy : Token → Found
+opBy k =
+    pick (isToken AddToken k) (Built Add)
+    (pick (isToken ModifyToken k) (Built Modify)
+    (pick (isToken SubtractToken k) (Built Subtract)
+    (pick (isToken MoveToken k) (Built Move)
+    (pick (isToken AuditValueToken k) (Built AuditValue) Unbuilt))))
+
+-- the record of an action's context, 0 if it does not exist
+unfoldable pub heldAt : Context → List ℕ → ℕ
+heldAt at t = seen (numberOf at) t .held
+
+-- the values that items give are modes and states
+abbrev pub FairJudged : Judged → Type 0
+FairJudged (Wrong code) = Unit {0}
+FairJudged (Right vs) = Fair vs

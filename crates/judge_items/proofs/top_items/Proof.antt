@@ -1,0 +1,43 @@
+use borrow.Author.Needs.{needs}
+use Prim.Native.Nat.{_+_, _-_}
+use mathlib.Core.Path.{_≡_}
+use mathlib.Core.Bool.{false}
+use lib.ListN.{length}
+use Rattle.read_command.specs.Production.{listEnd}
+use Rattle.read_command.specs.Places.{itemAt, itemsAt}
+use Rattle.megaco.specs.Items.{topItems}
+use Rattle.judge_items.proofs.OneLaws.{top-one, top-ends}
+use Rattle.judge_items.proofs.ListLaws.{judgeAll, levelLeft, stands, top-starts, all-none, all-wrong, all-right, all-more, items-begin, ends-last, ends-more}
+use Rattle.judge_items.proofs.CallLaws.{known-by, known-wrong}
+use Rattle.command_places.proofs.EndLaws.{all-end-none}
+use Rattle.judge_items.proofs.top_items.Statement.{statement}
+use Rattle.judge_items.proofs.top_items.Tie as tie
+
+abbrev Inv-loop : tie.InvT-loop
+Inv-loop s at i₀ n₀ seen₀ vs₀ i n seen vs =
+    (topItems (itemsAt 8 s at .tree) false vs₀ ≡ judgeAll topItems stands (levelLeft 7 s n i) seen vs)
+    × (itemsAt 8 s at .end ≡ listEnd (λ j. itemAt 7 (itemsAt 7 s) s j .end) s (length s + 1 - n) i)
+
+abbrev μ-loop : tie.MeasureT-loop
+μ-loop s at i₀ n₀ seen₀ vs₀ i n seen vs = length s + 1 - n
+
+pub top-items-spec : {M : Type 1} → statement M
+top-items-spec =
+    tie.close
+    (tie.spec
+    Inv-loop
+    μ-loop
+    (λ c. (top-starts _ _ _, items-begin 7 _ _))
+    (λ c. search needs)
+    (λ c κs. search needs)
+    (λ c κs. search needs)
+    (λ c. search needs)
+    (λ c. search needs)
+    (λ c. (search (all-wrong, top-one), search known-wrong))
+    (λ c κs. search needs)
+    (λ c. search needs)
+    (λ c. search needs)
+    (λ c. (search (all-right, top-one, top-ends), known-by _ _ (search (ends-last, top-ends))))
+    (λ c. search needs)
+    (λ c. (search (all-more, top-one, top-ends), search (ends-more, top-ends)))
+    (λ c. (search all-none, known-by _ _ (search all-end-none))))

@@ -1,0 +1,3 @@
+pub mod LengthLaws
+pub mod PageLaws
+pub mod RowLaws

@@ -1,0 +1,143 @@
+-- A run keeps what its commands and its actions' starts keep; and so the length of any table.
+use Prim.Native.Nat.{ℕ}
+use mathlib.Core.Path.{_≡_, refl, _∙_}
+use mathlib.Core.Bool.{Bool, false}
+use mathlib.Core.List.{List, [], _∷_}
+use mathlib.Core.Option.{Option, none, some}
+use lib.ListN.{length}
+use Rattle.megaco.specs.declared.Context.{Context}
+use Rattle.megaco.specs.declared.Op.{Op}
+use Rattle.megaco.specs.declared.Judged.{Judged}
+use Rattle.megaco.specs.declared.Judged.the-variants.{Wrong, Right}
+use Rattle.megaco.specs.declared.Seen.{Seen}
+use Rattle.megaco.specs.declared.Values.{Values}
+use Rattle.megaco.specs.Topology.{triplesOf, Link, linksOf}
+use Rattle.megaco.specs.Tree.{Items, Command, command, Property, Transaction, transaction, Message, wellFormed, fault400, fault403, fault406}
+use Rattle.megaco.specs.Table.{fitted}
+use Rattle.megaco.specs.State.{State, wrote}
+use Rattle.megaco.specs.Names.{nameOf}
+use Rattle.megaco.specs.Items.{given?}
+use Rattle.megaco.specs.Reply.{Acted}
+use Rattle.megaco.specs.Attempt.{seen, numberOf, look, Effect, effect}
+use Rattle.megaco.specs.Command.{Outcome, attempts, commandError, actionError, Targets, noTarget, gateway, targets, targetsOf, runTargets, opOf, forbiddenInNull, noContext, notForRoot, named, tested, unlessOptional, ordered, runCommand}
+use Rattle.megaco.specs.Action.{started}
+use Rattle.megaco.specs.Transaction.{Step, start, commandStep, steps, Course, course, begin, advance, proceed, step, run, fresh, runTransaction, runTransactions, runMessage}
+use Rattle.megaco.specs.Reading.{messageR}
+use Rattle.megaco.specs.Call.{Called, written, replied, taken, call}
+use Rattle.base.proofs.TestLaws.{pick-of}
+use Rattle.laws.proofs.Slots.{length-apply}
+use Rattle.laws.proofs.Values.{Fair, FairItems, right, items-fair}
+
+-- P is kept of the state, and G holds of the record that the running action gives to `$`
+pub record Keeps (P : State → Type 0) (G : ℕ → Type 0) : Type 0 where
+  pub orders : (op : Op) (name : List ℕ) (given : ℕ) (vs : Values) (items : Bool) (at : Context) (st : State) → P st → G given → Fair vs → forbiddenInNull op at ≡ false
+      → noContext op at (seen (numberOf at) (st .table) .held) ≡ false → P (runTargets op name given vs (targetsOf op at items (nameOf (fitted (st .table)) name) (st .table)) at st .state)
+  pub starts : (c : Context) (ps : List Property) (alone : Bool) (st : State) → P st → P (wrote (started c ps alone (seen (numberOf c) (st .table)) (linksOf (numberOf c) (st .table) (triplesOf ps)) .writes) st)
+  pub gives : (c : Context) (ps : List Property) (alone : Bool) (there : Seen) (links : List Link) → G (started c ps alone there links .acted .given)
+
+-- of the action that is running
+abbrev pub Running : (ℕ → Type 0) → List Acted → Type 0
+Running G [] = Unit {0}
+Running G (a ∷ acts) = G (a .given)
+
+pub record Kept (P : State → Type 0) (G : ℕ → Type 0) (x : Course) : Type 0 where
+  pub state : P (x .state)
+  pub running : Running G (x .progress .acts)
+
+module _ (P : State → Type 0) (G : ℕ → Type 0) (K : Keeps P G) where
+  named-keeps : (op : Op) (name : List ℕ) (given : ℕ) (items : Bool) (j : Judged) (at : Context) (st : State) → P st → G given → FairItems j → forbiddenInNull op at ≡ false
+      → noContext op at (seen (numberOf at) (st .table) .held) ≡ false → P (named op name given items j at st .state)
+  unfolding named commandError
+  named-keeps op name given items (Wrong code) at st p g f b l = p
+  named-keeps op name given items (Right vs) at st p g (right f) b l = K .orders op name given vs (notForRoot op items vs) at st p g f b l
+
+  tested-keeps : (op : Op) (name : List ℕ) (items : Items) (given : ℕ) (at : Context) (st : State) → P st → G given → forbiddenInNull op at ≡ false
+      → P (tested op name items given at st .state)
+  unfolding tested commandError
+  tested-keeps op name items given at st p g b =
+      pick-of (λ (x : Outcome). P (x .state)) _ (λ _. p) (λ l. named-keeps op name given (given? items) _ at st p g (items-fair op items) b l)
+
+  ordered-keeps : (o : Bool) (op : Option Op) (name : List ℕ) (items : Items) (given : ℕ) (at : Context) (st : State) → P st → G given
+      → P (ordered o op name items given at st .state)
+  unfolding ordered actionError unlessOptional
+  ordered-keeps o none name items given at st p g = p
+  ordered-keeps o (some op) name items given at st p g =
+      pick-of (λ (x : Outcome). P (x .state)) (forbiddenInNull op at) (λ _. p) (λ b. tested-keeps op name items given at st p g b)
+
+  pub command-keeps : (c : Command) (given : ℕ) (at : Context) (st : State) → P st → G given → P (runCommand c given at st .state)
+  unfolding runCommand
+  command-keeps (command o w word name items) given at st p g = ordered-keeps o (opOf w word) name items given at st p g
+
+  proceed-keeps : (s : Step) (st : State) (acts : List Acted) → P st → Running G acts → Kept P G (proceed s st acts)
+  unfolding proceed begin advance
+  proceed-keeps (start c ps alone) st acts p g = record { state = K .starts c ps alone st p; running = K .gives c ps alone _ _ }
+  proceed-keeps (commandStep c) st [] p g = record { state = p; running = tt }
+  proceed-keeps (commandStep c) st (a ∷ acts) p g = record { state = command-keeps c (a .given) (a .at) st p g; running = g }
+
+  pub step-keeps : (s : Step) (x : Course) → Kept P G x → Kept P G (step s x)
+  unfolding step
+  step-keeps s x k = pick-of (Kept P G) (x .progress .going) (λ _. proceed-keeps s (x .state) (x .progress .acts) (k .state) (k .running)) (λ _. k)
+
+  pub run-keeps : (ss : List Step) (x : Course) → Kept P G x → Kept P G (run ss x)
+  unfolding run
+  run-keeps [] x k = k
+  run-keeps (s ∷ ss) x k = run-keeps ss (step s x) (step-keeps s x k)
+
+  pub transaction-keeps : (x : Transaction) (st : State) → P st → P (runTransaction x st .state)
+  unfolding runTransaction
+  transaction-keeps (transaction id acts) st p = run-keeps (steps acts) (course st fresh) (record { state = p; running = tt }) .state
+
+  pub transactions-keep : (xs : List Transaction) (st : State) → P st → P (runTransactions xs st .state)
+  unfolding runTransactions
+  transactions-keep [] st p = p
+  transactions-keep (x ∷ xs) st p = transactions-keep xs (runTransaction x st .state) (transaction-keeps x st p)
+
+  pub message-keeps : (m : Message) (st : State) → P st → P (runMessage m st .state)
+  unfolding runMessage
+  message-keeps (wellFormed xs) st p = transactions-keep xs st p
+  message-keeps fault400 st p = p
+  message-keeps (fault403 id) st p = p
+  message-keeps fault406 st p = p
+
+  pub call-keeps : (n : ℕ) (m : List ℕ) (st : State) (own o : List ℕ) → P st → P (call n m st own o .state)
+  unfolding call taken replied written
+  call-keeps n m st own o p =
+      pick-of (λ (x : Called). P (x .state)) _ (λ _. p) (λ _. pick-of (λ (x : Called). P (x .state)) _ (λ _. p) (λ _. pick-of (λ (x : Called). P (x .state)) _ (λ _. p) (λ _. pick-of (λ (x : Called). P (x .state)) _ (λ _. p)
+      (λ _. pick-of (λ (x : Called). P (x .state)) _ (λ _. p) (λ _. message-keeps (messageR m) st p)))))
+
+-- ---- the length
+
+length-attempts : (op : Op) (wild : Bool) (name : List ℕ) (given : ℕ) (vs : Values) (is : List ℕ) (at : Context) (st : State)
+    → length (attempts op wild name given vs is at st .state .table) ≡ length (st .table)
+unfolding attempts
+length-attempts op wild name given vs [] at st = refl
+length-attempts op wild name given vs (i ∷ is) at st =
+    let e : Effect = effect op wild name given vs i at (look at i (st .table)) in
+    length-attempts op wild name given vs is (e .at) (wrote (e .writes) st) ∙ length-apply (e .writes) (st .table)
+
+length-targets : (op : Op) (name : List ℕ) (given : ℕ) (vs : Values) (a : Targets) (at : Context) (st : State) → length (runTargets op name given vs a at st .state .table) ≡ length (st .table)
+unfolding runTargets commandError
+length-targets op name given vs (noTarget code) at st = refl
+length-targets op name given vs gateway at st = refl
+length-targets op name given vs (targets wild is) at st = length-attempts op wild name given vs is at st
+
+pub length-kept : (n : ℕ) → Keeps (λ st. length (st .table) ≡ n) (λ _. Unit {0})
+length-kept n =
+    record {
+      orders = λ op name given vs items at st l _ _ _ _. length-targets op name given vs (targetsOf op at items (nameOf (fitted (st .table)) name) (st .table)) at st ∙ l;
+      starts = λ c ps alone st l. length-apply _ (st .table) ∙ l;
+      gives = λ c ps alone there links. tt;
+    }
+
+pub run-length : (ss : List Step) (x : Course) → length (run ss x .state .table) ≡ length (x .state .table)
+run-length ss x = run-keeps (λ st. length (st .table) ≡ length (x .state .table)) (λ _. Unit {0}) (length-kept (length (x .state .table))) ss x (record { state = refl; running = any (x .progress .acts) }) .state
+  where
+    any : (acts : List Acted) → Running (λ _. Unit {0}) acts
+    any [] = tt
+    any (a ∷ acts) = tt
+
+pub message-length : (m : Message) (st : State) → length (runMessage m st .state .table) ≡ length (st .table)
+message-length m st = message-keeps (λ u. length (u .table) ≡ length (st .table)) (λ _. Unit {0}) (length-kept (length (st .table))) m st refl
+
+pub call-length : (n : ℕ) (m : List ℕ) (st : State) (own o : List ℕ) → length (call n m st own o .state .table) ≡ length (st .table)
+call-length n m st own o = call-keeps (λ u. length (u .table) ≡ length (st .table)) (λ _. Unit {0}) (length-kept (length (st .table))) n m st own o refl

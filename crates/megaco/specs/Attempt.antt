@@ -1,0 +1,142 @@
+-- One attempt of a command (document 01, 'Running'): it takes a small view of the table, is judged by it alone (tests 5 and 6), and then writes
+-- a few words. `elim [ case ↦ result | .. ]` goes by cases, on one line.
+use Prim.Native.Nat.{ℕ, _+_, _*_}
+use mathlib.Core.Bool.{Bool, true, false, not, _&&_}
+use mathlib.Core.List.{List, [], _∷_}
+use lib.Dec.{leb, eqb}
+use Rattle.base.specs.Pick.{pick}
+use Rattle.megaco.specs.Table.{prop, rec, used, flow, lowFlow, highFlow, placeIn, ctx, cell, Write, write, get, most, fitted, isEphemeral, known, members, freeContext, modeOf, stateOf}
+use Rattle.megaco.specs.Names.{nameText}
+use Rattle.megaco.specs.Square.{Square, squareOf, lowOf, highOf, joined, parted}
+use Rattle.megaco.specs.Items.{update}
+use Rattle.megaco.specs.Reply.{Detail, nothing, media, Report, done, refused}
+use Rattle.megaco.specs.declared.Context.{Context}
+use Rattle.megaco.specs.declared.Context.the-variants.{Null, Numbered, Choose, All}
+use Rattle.megaco.specs.declared.Op.{Op}
+use Rattle.megaco.specs.declared.Op.the-variants.{Add, Modify, Subtract, Move, AuditValue}
+use Rattle.megaco.specs.declared.Checked.{Checked}
+use Rattle.megaco.specs.declared.Checked.the-variants.{Passes, Fails}
+use Rattle.megaco.specs.declared.Values.{Values}
+use Rattle.megaco.specs.declared.Seen.{Seen}
+use Rattle.megaco.specs.declared.View.{View}
+
+-- ---- tests: a flag, and the code to give where it is up; the first that is up decides
+pub data Check : Type 0 where
+  check : Bool → ℕ → Check
+
+unfoldable pub judge : List Check → Checked
+judge [] = Passes
+judge (check b code ∷ cs) = let r = judge cs in pick b (Fails code) r
+
+-- ---- what an attempt sees of the table
+abbrev pub unseen : Seen
+unseen = record { held = 0; members = 0; low = 0; high = 0 }
+
+abbrev pub seenIn : ℕ → List ℕ → Seen
+seenIn c t = record { held = get t (cell (rec c)); members = members c t; low = get t (cell (flow (lowFlow c))); high = get t (cell (flow (highFlow c))) }
+
+unfoldable pub seen : ℕ → List ℕ → Seen
+seen c t = pick (known c) (seenIn c t) unseen
+
+-- the flows of a context
+unfoldable pub flowsOf : Seen → Square
+flowsOf s = squareOf (s .low) (s .high)
+
+-- null is 0 in the table; `$` and `*` are no number yet
+unfoldable pub numberOf : Context → ℕ
+numberOf = elim [ Null ↦ 0 | Numbered c ↦ c | Choose ↦ 0 | All ↦ 0 ]
+
+-- "the lowest number absent before that attempt", asked in `$` alone
+unfoldable pub freeAt : Context → List ℕ → ℕ
+freeAt at t = elim at [ Null ↦ 0 | Numbered c ↦ 0 | Choose ↦ freeContext t | All ↦ 0 ]
+
+unfoldable pub look : Context → ℕ → List ℕ → View
+look at i t =
+    record { here = get t (ctx i); word = get t (cell (prop i)); there = seen (numberOf at) t; from = seen (get t (ctx i)) t; free = freeAt at t; lines = fitted t; into = placeIn (numberOf at) i t; out = placeIn (get t (ctx i)) i t }
+
+-- ---- tests 5 and 6
+unfoldable pub isChoose : Context → Bool
+isChoose = elim [ Null ↦ false | Numbered c ↦ false | Choose ↦ true | All ↦ false ]
+
+-- the number of the context that an attempt means
+unfoldable pub target : Context → View → ℕ
+target at v = pick (isChoose at) (v .free) (numberOf at)
+
+-- "412: a context must be made and 128 exist, judged before a Move leaves. 434: the target holds 8"
+unfoldable pub roomChecks : Context → View → List Check
+roomChecks at v = check (isChoose at && eqb (v .free) 0) 412 ∷ check (leb most (v .there .members)) 434 ∷ []
+
+-- "Add: 433 if not in null. Modify, Subtract: 435 if not in the action's context. Move: 435 from null, 433 if already in the target"
+-- and document 02, of AuditValue: "Tests and wildcards are as for Modify"; of Move, request 2, by clause 7.2.4: "503 (house), after Move's 435 and 433, before 412", where "the state held before the command's own
+-- items" is 1, OutOfService; "Test state may still move"
+unfoldable pub checks : Op → Context → View → List Check
+checks Add at v = check (not (eqb (v .here) 0)) 433 ∷ roomChecks at v
+checks Modify at v = check (not (eqb (v .here) (numberOf at))) 435 ∷ []
+checks Subtract at v = check (not (eqb (v .here) (numberOf at))) 435 ∷ []
+checks Move at v = check (eqb (v .here) 0) 435 ∷ check (eqb (v .here) (numberOf at)) 433 ∷ check (eqb (stateOf (v .word)) 1) 503 ∷ roomChecks at v
+checks AuditValue at v = check (not (eqb (v .here) (numberOf at))) 435 ∷ []
+
+-- ---- what it changes
+-- the two words of a context's flows
+unfoldable pub flowing : ℕ → Square → List Write → List Write
+flowing c q ws = write (cell (flow (lowFlow c))) (lowOf q) ∷ write (cell (flow (highFlow c))) (highOf q) ∷ ws
+
+-- the context that an attempt joins: `$` comes to be, with the record given, and has no flows; "a termination that joins is bothway with every
+-- other"
+unfoldable pub joining : Context → ℕ → View → List Write → List Write
+joining at given v ws =
+    pick (isChoose at) (write (cell (rec (v .free))) given ∷ ws)
+    (flowing (numberOf at) (joined (flowsOf (v .there)) (v .there .members + 1) (v .into)) ws)
+
+-- "A context ends with its last termination"; "one that leaves takes its pairs with it", and the last has none
+unfoldable pub leaving : View → List Write → List Write
+leaving v ws = pick (leb (v .from .members) 1) (write (cell (rec (v .here))) 0 ∷ ws) (flowing (v .here) (parted (flowsOf (v .from)) (v .out)) ws)
+
+unfoldable pub placed : ℕ → ℕ → ℕ → List Write
+placed i c word = write (ctx i) c ∷ write (cell (prop i)) word ∷ []
+
+-- the map's place of an ephemeral that comes to be, 1, or ends, 0
+unfoldable pub marking : ℕ → ℕ → ℕ → List Write → List Write
+marking n i d ws = pick (isEphemeral n i) (write (cell (used i)) d ∷ ws) ws
+
+-- "Add makes an ephemeral with property 0"
+unfoldable pub added : ℕ → ℕ → ℕ → ℕ
+added n i word = pick (isEphemeral n i) 0 word
+
+-- "Subtract removes an ephemeral; a line returns to null with mode 0, its state kept"
+unfoldable pub subtracted : ℕ → ℕ → ℕ → ℕ
+subtracted n i word = pick (isEphemeral n i) 0 (8 * stateOf word)
+
+-- "Add, Modify and Move then set the values given"; of AuditValue, document 02: "The table stays"
+unfoldable pub changes : Op → Context → ℕ → ℕ → Values → View → List Write
+changes Add at given i vs v = joining at given v (marking (v .lines) i 1 (placed i (target at v) (update vs (added (v .lines) i (v .word)))))
+changes Modify at given i vs v = write (cell (prop i)) (update vs (v .word)) ∷ []
+changes Subtract at given i vs v = leaving v (marking (v .lines) i 0 (placed i 0 (subtracted (v .lines) i (v .word))))
+changes Move at given i vs v = leaving v (joining at given v (placed i (target at v) (update vs (v .word))))
+changes AuditValue at given i vs v = []
+
+-- `$` "becomes .. the lowest number absent before that attempt, and stays that number for the rest of the action"
+unfoldable pub settled : Context → View → Context
+settled at v = pick (isChoose at) (Numbered (v .free)) at
+
+-- ---- what it reports
+-- what an attempt writes and reports, and the action's context after it
+pub record Effect : Type 0 where
+  pub writes : List Write
+  pub report : Report
+  pub at : Context
+  pub good : Bool
+
+-- what a success tells: where the items audit them, "the values held"
+unfoldable pub detailOf : Bool → ℕ → Detail
+detailOf audited word = pick audited (media (stateOf word) (modeOf word)) nothing
+
+-- "A success, and an attempt of a wildcard, bears the full name with capital letters; other failures the bytes received"
+unfoldable pub concluded : Op → Bool → List ℕ → ℕ → Values → ℕ → Context → View → Checked → Effect
+concluded op wild name given vs i at v Passes =
+    record { writes = changes op at given i vs v; report = done op (nameText (v .lines) i) (detailOf (vs .audited) (v .word)); at = settled at v; good = true }
+concluded op wild name given vs i at v (Fails code) =
+    record { writes = []; report = refused op (pick wild (nameText (v .lines) i) name) code; at = at; good = false }
+
+unfoldable pub effect : Op → Bool → List ℕ → ℕ → Values → ℕ → Context → View → Effect
+effect op wild name given vs i at v = concluded op wild name given vs i at v (judge (checks op at v))

@@ -1,0 +1,287 @@
+-- Transactions and the message by position. `Told m` stands beside a message that Reading (crate `megaco`) reads: the verdict, where a fault is
+-- told (first pass), the transactions, told without failing (second pass), and the law that both together are m.
+use Prim.Native.Nat.{ℕ, zero, suc, _+_}
+use mathlib.Core.Path.{_≡_, refl, sym, ap, _∙_}
+use mathlib.Core.Bool.{Bool, true, false}
+use mathlib.Core.List.{List, [], _∷_}
+use lib.ListN.{length}
+use native.Mathlib.Omega.{arith}
+use lib.Dec.{ltb, eqb}
+use Rattle.base.specs.Pick.{pick}
+use Rattle.base.specs.Lists.{isAt}
+use Rattle.megaco.specs.Bytes.{leftBrace, rightBrace}
+use Rattle.megaco.specs.White.{after, whiteAt}
+use Rattle.megaco.specs.Tokens.{markAt, keywordAt, numberAt}
+use Rattle.megaco.specs.Tree.{Action, Transaction, transaction, Message, wellFormed, fault400, fault403, fault406}
+use Rattle.megaco.specs.Reading.{Read, reading, keyAt, actionsR, elsewhere, numbered, inside, followed, endOr, bracesThen, transactionsR, startAt, senderAt, messageR}
+use Rattle.megaco.specs.declared.Parsed.{Parsed}
+use Rattle.megaco.specs.declared.Parsed.the-variants.{Next, Fault}
+use Rattle.megaco.specs.declared.Number.{Number}
+use Rattle.megaco.specs.declared.Number.the-variants.{Got, Bad}
+use Rattle.megaco.specs.declared.Token.the-variants.{MegacopToken, TransToken}
+use Rattle.read_command.specs.Production.{endOf, valueIn, nextIn, numberAfter, pastWhite, found, Production}
+use Rattle.read_command.specs.Places.{actionsAt, bracedAt}
+use Rattle.read_command.specs.declared.Braces.{Braces}
+use Rattle.read_command.specs.declared.Braces.the-variants.{Past, Outside, Within}
+use Rattle.read_command.specs.declared.Verdict.{Verdict}
+use Rattle.read_command.specs.declared.Verdict.the-variants.{WellFormed, Fault400, Fault403, WrongVersion406}
+
+-- ---- places
+
+-- the opening brace behind an identifier
+unfoldable pub braceAt : List ℕ → ℕ → Parsed
+braceAt s at = after (whiteAt s at) (markAt leftBrace s)
+
+unfoldable pub orOutside : Parsed → (ℕ → Braces) → Braces
+orOutside (Next p) f = f p
+orOutside Fault f = Outside
+
+unfoldable pub orWithin : Parsed → (ℕ → Braces) → Braces
+orWithin (Next p) f = f p
+orWithin Fault f = Within
+
+-- a transaction from behind its identifier, and the white space after it
+unfoldable pub transactionAt : List ℕ → ℕ → Braces
+transactionAt s at = orOutside (braceAt s at) (λ p. orWithin (bracedAt s p .place) (λ q. orOutside (whiteAt s q) Past))
+
+-- "Fault between a transaction's opening and closing brace": 403. "Fault elsewhere": 400
+unfoldable pub afterBraces : ℕ → Braces → (ℕ → Verdict) → Verdict
+afterBraces id (Past e) f = f e
+afterBraces id Outside f = Fault400
+afterBraces id Within f = Fault403 id
+
+unfoldable pub orFault400 : Parsed → (ℕ → Verdict) → Verdict
+orFault400 (Next p) f = f p
+orFault400 Fault f = Fault400
+
+unfoldable pub ifNumber : Number → (ℕ → ℕ → Verdict) → Verdict
+ifNumber (Got v p) f = f v p
+ifNumber Bad f = Fault400
+
+unfoldable pub identifierAt : List ℕ → ℕ → Number
+identifierAt s at = numberAfter (keyAt TransToken s at) (λ p. numberAt s p 10 4294967295)
+
+-- MEGACO or `!`
+abbrev pub protocolAt : List ℕ → ℕ → Parsed
+protocolAt s at = pick (isAt s at 0x21) (Next (at + 1)) (keywordAt MegacopToken s at)
+
+unfoldable pub versionAt : List ℕ → Number
+versionAt s = numberAfter (startAt s) (λ p. numberAt s p 2 99)
+
+unfoldable pub actionsStart : List ℕ → ℕ → ℕ
+actionsStart s at = pastWhite s (endOf (braceAt s (nextIn (identifierAt s at))))
+
+unfoldable pub transactionOf : List ℕ → ℕ → Transaction
+transactionOf s at = transaction (valueIn (identifierAt s at)) (actionsAt s (actionsStart s at) .tree)
+
+-- behind the closing brace of a transaction whose actions end here
+unfoldable pub closingEnd : List ℕ → ℕ → ℕ
+closingEnd s at = pastWhite s (endOf (markAt rightBrace s at))
+
+unfoldable pub transactionEnd : List ℕ → ℕ → ℕ
+transactionEnd s at = closingEnd s (actionsAt s (actionsStart s at) .end)
+
+-- behind the header
+unfoldable pub headerEnd : List ℕ → ℕ
+headerEnd s = endOf (senderAt s (nextIn (versionAt s)))
+
+-- ---- what is said of a message
+
+-- document 01's answer for each case: 0 where the message is run, else the code that is told
+unfoldable pub codeOf : Verdict → ℕ
+codeOf WellFormed = 0
+codeOf Fault400 = 400
+codeOf (Fault403 id) = 403
+codeOf WrongVersion406 = 406
+
+-- what the verdict and the tree told by position say together
+unfoldable pub messageBy : Verdict → List Transaction → Message
+messageBy WellFormed xs = wellFormed xs
+messageBy Fault400 xs = fault400
+messageBy (Fault403 id) xs = fault403 id
+messageBy WrongVersion406 xs = fault406
+
+pub record Told (m : Message) : Type 0 where
+  pub verdict : Verdict
+  pub tree : List Transaction
+  pub law : m ≡ messageBy verdict tree
+
+module _ (xs : List Transaction) where
+  pub elsewhere-told : (x : Parsed) (f : ℕ → Message) (g : ℕ → Verdict) → f (endOf x) ≡ messageBy (g (endOf x)) xs → elsewhere x f ≡ messageBy (orFault400 x g) xs
+  unfolding elsewhere orFault400 endOf messageBy
+  elsewhere-told (Next p) f g h = h
+  elsewhere-told Fault f g h = refl
+
+  numbered-told : (n : Number) (f : ℕ → ℕ → Message) (g : ℕ → ℕ → Verdict) → f (valueIn n) (nextIn n) ≡ messageBy (g (valueIn n) (nextIn n)) xs → numbered n f ≡ messageBy (ifNumber n g) xs
+  unfolding numbered ifNumber valueIn nextIn messageBy
+  numbered-told (Got v p) f g h = h
+  numbered-told Bad f g h = refl
+
+  -- the same behind another part
+  behind-told : (x : Parsed) (n : ℕ → Number) (f : ℕ → ℕ → Message) (g : ℕ → ℕ → Verdict)
+      → let m = numberAfter x n in f (valueIn m) (nextIn m) ≡ messageBy (g (valueIn m) (nextIn m)) xs → elsewhere x (λ p. numbered (n p) f) ≡ messageBy (ifNumber m g) xs
+  unfolding elsewhere numberAfter
+  behind-told (Next p) n f g h = numbered-told (n p) f g h
+  behind-told Fault n f g h = unfold ifNumber messageBy in refl
+
+  -- in a transaction's braces and around them
+  module _ (id : ℕ) (g : ℕ → Verdict) where
+    outside-told : (x : Parsed) (f : ℕ → Message) (h : ℕ → Braces) → f (endOf x) ≡ messageBy (afterBraces id (h (endOf x)) g) xs → elsewhere x f ≡ messageBy (afterBraces id (orOutside x h) g) xs
+    unfolding elsewhere orOutside endOf
+    outside-told (Next p) f h k = k
+    outside-told Fault f h k = unfold afterBraces messageBy in refl
+
+    within-told : {r : Read (List Action)} (x : Production r) (f : List Action → ℕ → Message) (h : ℕ → Braces)
+        → f (x .tree) (x .end) ≡ messageBy (afterBraces id (h (x .end)) g) xs → inside id r f ≡ messageBy (afterBraces id (orWithin (x .place) h) g) xs
+    unfolding inside orWithin reading
+    within-told {r} x f h l = rw (x .law .tree) (by (x .place) (x .law .ends))
+      where
+        by : (y : Parsed) → ((p : ℕ) → y ≡ Next p → x .end ≡ p) → inside id (found y (x .tree)) f ≡ messageBy (afterBraces id (orWithin y h) g) xs
+        by (Next p) n = rw (n p refl) at l
+        by Fault n = unfold afterBraces messageBy in refl
+
+  pick-told : (t : Bool) {m n : Message} (v w : Verdict) → m ≡ messageBy v xs → n ≡ messageBy w xs → pick t m n ≡ messageBy (pick t v w) xs
+  unfolding pick
+  pick-told true v w h k = h
+  pick-told false v w h k = k
+
+  followed-told : (x : Transaction) (v : Verdict) → followed x (messageBy v xs) ≡ messageBy v (x ∷ xs)
+  unfolding followed messageBy
+  followed-told x WellFormed = refl
+  followed-told x Fault400 = refl
+  followed-told x (Fault403 id) = refl
+  followed-told x WrongVersion406 = refl
+
+  last-told : (t : Bool) (x : Transaction) {m : Message} (v : Verdict) → m ≡ messageBy v xs → pick t (followed x m) (wellFormed (x ∷ [])) ≡ messageBy (pick t v WellFormed) (x ∷ pick t xs [])
+  unfolding pick messageBy
+  last-told true x {m} v h = rw h (followed-told x v)
+  last-told false x v h = refl
+
+-- ---- the combinators
+
+-- a part outside a transaction's braces
+abbrev pub elsewhereT : (x : Parsed) {f : ℕ → Message} → ((p : ℕ) → Told (f p)) → Told (elsewhere x f)
+elsewhereT x {f} k =
+    record { verdict = orFault400 x (λ p. k p .verdict); tree = k (endOf x) .tree; law = elsewhere-told (k (endOf x) .tree) x f (λ p. k p .verdict) (k (endOf x) .law) }
+
+-- a number m behind a part
+pub number-told : (m : Number) (x : Parsed) (n : ℕ → Number) {f : ℕ → ℕ → Message} (k : (v p : ℕ) → Told (f v p)) → m ≡ numberAfter x n
+    → elsewhere x (λ p. numbered (n p) f) ≡ messageBy (ifNumber m (λ v p. k v p .verdict)) (k (valueIn m) (nextIn m) .tree)
+number-told m x n {f} k e = rw e (behind-told _ x n f (λ v p. k v p .verdict) (k (valueIn (numberAfter x n)) (nextIn (numberAfter x n)) .law))
+
+abbrev pub numberT : (m : Number) (x : Parsed) (n : ℕ → Number) {f : ℕ → ℕ → Message} → m ≡ numberAfter x n → ((v p : ℕ) → Told (f v p)) → Told (elsewhere x (λ p. numbered (n p) f))
+numberT m x n e k = record { verdict = ifNumber m (λ v p. k v p .verdict); tree = k (valueIn m) (nextIn m) .tree; law = number-told m x n k e }
+
+pub zero-told : (t : Bool) {m : Message} (x : Told m) → pick t (fault403 0) m ≡ messageBy (pick t (Fault403 0) (x .verdict)) (x .tree)
+unfolding messageBy
+zero-told t x = pick-told (x .tree) t (Fault403 0) (x .verdict) refl (x .law)
+
+abbrev pub unlessT : (t : Bool) {m : Message} → Told m → Told (pick t (fault403 0) m)
+unlessT t x = record { verdict = pick t (Fault403 0) (x .verdict); tree = x .tree; law = zero-told t x }
+
+pub version-told : (t : Bool) {m : Message} (x : Told m) → pick t m fault406 ≡ messageBy (pick t (x .verdict) WrongVersion406) (x .tree)
+unfolding messageBy
+version-told t x = pick-told (x .tree) t (x .verdict) WrongVersion406 (x .law) refl
+
+abbrev pub onlyT : (t : Bool) {m : Message} → Told m → Told (pick t m fault406)
+onlyT t x = record { verdict = pick t (x .verdict) WrongVersion406; tree = x .tree; law = version-told t x }
+
+module _ (id : ℕ) (s : List ℕ) (at : ℕ) {f : List Action → ℕ → Message} (k : (acts : List Action) (e : ℕ) → Told (f acts e)) where
+  abbrev start : ℕ
+  start = pastWhite s (endOf (braceAt s at))
+
+  abbrev acts : List Action
+  acts = actionsAt s start .tree
+
+  abbrev end : ℕ
+  end = closingEnd s (actionsAt s start .end)
+
+  pub braces-told : elsewhere (after (whiteAt s at) (markAt leftBrace s)) (λ p. inside id (actionsR s p) (λ l q. elsewhere (whiteAt s q) (f l)))
+      ≡ messageBy (afterBraces id (transactionAt s at) (λ e. k acts e .verdict)) (k acts end .tree)
+  unfolding braceAt bracedAt transactionAt closingEnd pastWhite afterBraces
+  braces-told =
+      let g : ℕ → Verdict = λ e. k acts e .verdict in
+      let b : ℕ = endOf (braceAt s at) in
+      outside-told _ id g (braceAt s at) _ _ (within-told _ id g (bracedAt s b) _ _ (outside-told _ id g (whiteAt s (bracedAt s b .end)) _ _ (k acts end .law)))
+
+  -- a transaction's braces, from behind its identifier
+  abbrev pub bracesT : Told (elsewhere (after (whiteAt s at) (markAt leftBrace s)) (λ p. inside id (actionsR s p) (λ l q. elsewhere (whiteAt s q) (f l))))
+  bracesT = record { verdict = afterBraces id (transactionAt s at) (λ e. k acts e .verdict); tree = k acts end .tree; law = braces-told }
+
+pub end-told : {r : ℕ → Message} (rest : (e : ℕ) → Told (r e)) (x : Transaction) (s : List ℕ) (at : ℕ)
+    → endOr r x s at ≡ messageBy (pick (ltb at (length s)) (rest at .verdict) WellFormed) (x ∷ pick (ltb at (length s)) (rest at .tree) [])
+unfolding endOr
+end-told rest x s at = last-told (rest at .tree) (ltb at (length s)) x (rest at .verdict) (rest at .law)
+
+-- the end of the message, or what follows a transaction
+abbrev pub endT : {r : ℕ → Message} (rest : (e : ℕ) → Told (r e)) (x : Transaction) (s : List ℕ) (at : ℕ) → Told (endOr r x s at)
+endT rest x s at =
+    record { verdict = pick (ltb at (length s)) (rest at .verdict) WellFormed; tree = x ∷ pick (ltb at (length s)) (rest at .tree) []; law = end-told rest x s at }
+
+pub none-told : fault400 ≡ messageBy Fault400 []
+unfolding messageBy
+none-told = refl
+
+-- ---- transactions and the message
+
+pub identifier-is : (s : List ℕ) (at : ℕ) → identifierAt s at ≡ numberAfter (keyAt TransToken s at) (λ p. numberAt s p 10 4294967295)
+unfolding identifierAt
+identifier-is s at = refl
+
+pub version-is : (s : List ℕ) → versionAt s ≡ numberAfter (startAt s) (λ p. numberAt s p 2 99)
+unfolding versionAt
+version-is s = refl
+
+-- at most k transactions, to the end of the message
+unfoldable pub transactionsAt : (k : ℕ) (s : List ℕ) (at : ℕ) → Told (transactionsR k s at)
+unfolding transactionsR bracesThen actionsStart transactionOf transactionEnd
+transactionsAt zero s at = record { verdict = Fault400; tree = []; law = none-told }
+transactionsAt (suc k) s at =
+    numberT (identifierAt s at) (keyAt TransToken s at) (λ p. numberAt s p 10 4294967295) (identifier-is s at) (λ id q.
+    unlessT (eqb id 0) (bracesT id s q (λ acts e. endT (transactionsAt k s) (transaction id acts) s e)))
+
+unfoldable pub messageAt : (s : List ℕ) → Told (messageR s)
+unfolding messageR headerEnd
+messageAt s =
+    numberT (versionAt s) (startAt s) (λ p. numberAt s p 2 99) (version-is s) (λ v q.
+    elsewhereT (senderAt s q) (λ r.
+    onlyT (eqb v 1) (transactionsAt 8 s r)))
+
+abbrev pub verdict : List ℕ → Verdict
+verdict s = messageAt s .verdict
+
+abbrev pub messageOf : List ℕ → List Transaction
+messageOf s = messageAt s .tree
+
+-- "The whole message is read before anything runs": a message means what its verdict tells and, where it is well-formed, its tree told by position
+pub message-told : (s : List ℕ) → messageR s ≡ messageBy (verdict s) (messageOf s)
+message-told s = messageAt s .law
+
+coded : (v : Verdict) (xs : List Transaction) → codeOf v ≡ 0 → messageBy v xs ≡ wellFormed xs
+unfolding codeOf messageBy
+coded WellFormed xs e = refl
+coded Fault400 xs e = absurd (omega (arith, e))
+coded (Fault403 id) xs e = absurd (omega (arith, e))
+coded WrongVersion406 xs e = absurd (omega (arith, e))
+
+-- the verdict on what is read
+unfoldable pub verdictOf : Message → Verdict
+verdictOf (wellFormed xs) = WellFormed
+verdictOf fault400 = Fault400
+verdictOf (fault403 id) = Fault403 id
+verdictOf fault406 = WrongVersion406
+
+told-verdict : (v : Verdict) (xs : List Transaction) → v ≡ verdictOf (messageBy v xs)
+unfolding verdictOf messageBy
+told-verdict WellFormed xs = refl
+told-verdict Fault400 xs = refl
+told-verdict (Fault403 id) xs = refl
+told-verdict WrongVersion406 xs = refl
+
+-- the verdict told by position is that on the message that Reading reads
+pub verdict-is : (s : List ℕ) → verdict s ≡ verdictOf (messageR s)
+verdict-is s = told-verdict (verdict s) (messageOf s) ∙ ap verdictOf (sym (message-told s))
+
+-- where the code is 0, the message is the tree that is run
+pub run-at-0 : (s : List ℕ) → codeOf (verdict s) ≡ 0 → messageR s ≡ wellFormed (messageOf s)
+run-at-0 s e = message-told s ∙ coded (verdict s) (messageOf s) e
