@@ -26,10 +26,10 @@ pub const MOST: usize = 8;
 pub const MOST_TERMINATIONS: usize = CHANNELS * MOST_LINES as usize + EPHEMERALS as usize;
 
 // The words of the map.
-pub const MAP: usize = 2;
+const MAP: usize = 2;
 
 // The words of the flows, two for each context.
-pub const FLOWS: usize = 2 * CONTEXTS as usize;
+const FLOWS: usize = 2 * CONTEXTS as usize;
 
 // The words of a table without lines, and those that each line adds.
 const NO_LINES: usize = 2 * EPHEMERALS as usize + CONTEXTS as usize + MAP + FLOWS;
