@@ -4,13 +4,13 @@ use mathlib.Core.Path.{_≡_, refl, sym, ap, _∙_}
 use mathlib.Core.List.{List, [], _∷_}
 use mathlib.Core.Bool.{Bool, true, false}
 use native.Mathlib.Numerals.{add-one}
-use native.Mathlib.Nat.{sub-zero}
 use native.Mathlib.Omega.{arith}
 use lib.ListN.{length, getD, set, take, drop, length-set, drop-of-length-le}
 use lib.Seq.{drop-cons}
 use Rattle.base.specs.Pick.{pick}
 use Rattle.base.specs.Bytes.{put}
-use Rattle.megaco.specs.Table.{prop, rec, flow, ctx, cell, lowFlow, highFlow, get, terminations, fitted, contextWords, known, members, placeIn}
+use Rattle.megaco.specs.Table.{prop, rec, flow, ctx, cell, lowFlow, highFlow, get, terminations, fitted, known, members, placeIn}
+use Rattle.megaco.proofs.Regions.{context-region}
 use Rattle.megaco.specs.Attempt.{unseen, seen, numberOf, freeAt, look}
 use Rattle.megaco.specs.Command.{matchesFrom, matches}
 use Rattle.megaco.specs.declared.View.{View}
@@ -114,5 +114,5 @@ module _ (lines : ℕ) (op : Op) (c : ℕ) (r : Range) (l is o o₁ : List ℕ) 
 -- the context words of a table with n terminations
 pub matched-part : (t o o′ : List ℕ) (lines n c k : ℕ) (op : Op) (at : Context) (r : Range) → n ≡ terminations (fitted t) → lines ≡ fitted t → c ≡ numberOf at
     → Matched (matchesFrom lines op c r 0 (take (n - 0) (drop 0 t))) o o′ k → Matched (matches op at r t) o o′ k
-unfolding matches contextWords
-matched-part t o o′ lines n c k op at r e f g m = rw (sub-zero, e, f, g) at m
+unfolding matches
+matched-part t o o′ lines n c k op at r e f g m = rw (context-region t .cut 0 n refl e, f, g) at m

@@ -45,8 +45,7 @@ pub fn are_fitted(lines: u32) -> bool
 pub fn words_of(lines: u32) -> usize
     ensures { λ r. ⌜ r ≡ words lines ⌝ }
 {
-    let n = table::line_terminations(lines) + table::EPHEMERALS as usize;
-    n + n + table::CONTEXTS as usize + table::MAP + table::FLOWS
+    table::start_by_lines(lines, 5)
 }
 
 // A call with a good count of lines.

@@ -15,7 +15,7 @@ use Rattle.megaco.specs.declared.Op.the-variants.{Add, Modify, Subtract, Move, 
 use Rattle.megaco.specs.declared.Checked.{Checked}
 use Rattle.megaco.specs.declared.Values.{Values}
 use Rattle.megaco.specs.declared.View.{View}
-use Rattle.megaco.specs.Table.{lineTerminations, terminations, contexts, fitted, most, prop, rec, ctx, cell, get, Write, write, apply, recordWords, isEphemeral, exists, known, members, placeIn, contextWords, freeContext}
+use Rattle.megaco.specs.Table.{lineTerminations, terminations, contexts, fitted, most, prop, rec, ctx, cell, get, Write, write, apply, recordWords, isEphemeral, exists, known, members, freeContext}
 use Rattle.megaco.specs.Square.{Square, joined as joinedSquare, parted}
 use Rattle.megaco.proofs.Squares.{shape-joined, shape-parted}
 use Rattle.megaco.specs.Items.{update}
@@ -27,7 +27,7 @@ use Rattle.laws.specs.Passed.{Passed}
 use Rattle.laws.specs.Sound.{Fit, SoundWord, Whole}
 use Rattle.laws.proofs.Passed.{judged}
 use Rattle.laws.proofs.Slots.{fitted-apply}
-use Rattle.laws.proofs.Counting.{take-short, counted-before, member, lowest}
+use Rattle.laws.proofs.Counting.{member, place-low, lowest}
 use Rattle.laws.proofs.Flows.{fit-joined, fit-parted}
 use Rattle.laws.proofs.Sound.{alive, record-words, record-at}
 use Rattle.laws.proofs.Moved.{Moves, Streams, Fitting, Goes, low-low, high-high, low-high, high-low, moved-sound, moved-here, modified-place, modified-sound}
@@ -263,13 +263,6 @@ leaving-streams joins x v J ws p S =
       high = λ c w h. S .high c _ h ∙ rw (e, low-high (v .here) c, high-high (v .here) c p h, and-true (eqb (v .here) c), and-false (eqb (v .here) c));
     })
 
--- a termination has a place before the last of its context
-place-before : (i : ℕ) (t : List ℕ) → Whole t → i < terminations (fitted t) → 0 < get t (ctx i) → placeIn (get t (ctx i)) i t < members (get t (ctx i)) t
-unfolding placeIn members contextWords pick
-place-before i t W h p =
-    rw (both-known (get t (ctx i)) p (W .place i h), take-short i (terminations (fitted t)) t (omega arith))
-    (counted-before (terminations (fitted t)) (get t (ctx i)) i t h (omega (arith, W .long)) refl)
-
 -- the flows of a context that is seen
 pub seen-flows : (c : ℕ) (t : List ℕ) → Whole t → 0 < c → c ≤ contexts → Fit (members c t) (flowsOf (seen c t))
 unfolding seen flowsOf pick
@@ -279,7 +272,7 @@ seen-flows c t W p q = rw (both-known c p q) (W .flows c p q .fit)
 module _ (at : Context) (i : ℕ) (t : List ℕ) (W : Whole t) (h : i < terminations (fitted t)) where
   fit-leaving : 0 < get t (ctx i) → Fit (members (get t (ctx i)) t - 1) (partedIn (look at i t))
   unfolding look
-  fit-leaving p = fit-parted _ (members (get t (ctx i)) t) _ (place-before i t W h p) (seen-flows (get t (ctx i)) t W p (W .place i h))
+  fit-leaving p = fit-parted _ (members (get t (ctx i)) t) _ (place-low _ t (W .long) (both-known (get t (ctx i)) p (W .place i h)) i h refl) (seen-flows (get t (ctx i)) t W p (W .place i h))
 
   last-leaving : 0 < get t (ctx i) → not (leb (look at i t .from .members) 1) ≡ false → members (get t (ctx i)) t ≤ 1
   unfolding look

@@ -1,5 +1,5 @@
 -- How many stand in a context, and the lowest absent number.
-use Prim.Native.Nat.{ℕ, zero, suc, _+_, _≤_, _<_}
+use Prim.Native.Nat.{ℕ, zero, suc, _+_, _<_, min}
 use mathlib.Core.Path.{_≡_, refl, sym, ap, _∙_}
 use mathlib.Core.Bool.{Bool, true, false}
 use mathlib.Core.List.{List, [], _∷_}
@@ -10,8 +10,9 @@ use borrow.Author.Tests.{eqb-true, eqb-false, eq-eqb}
 use native.Mathlib.Omega.{arith}
 use Rattle.base.specs.Pick.{pick}
 use Rattle.base.specs.Lists.{count, lowestAbsent}
-use Rattle.megaco.specs.Table.{terminations, words, fitted, ctx, get, contextWords, members}
+use Rattle.megaco.specs.Table.{terminations, words, fitted, ctx, get, known, members, placeIn}
 use Rattle.megaco.proofs.Sizes.{fitted-same}
+use Rattle.megaco.proofs.Regions.{members-first, place-first}
 
 -- 1 where a test holds
 abbrev pub one : Bool → ℕ
@@ -40,13 +41,6 @@ count-set (suc k) c i v [] h l = absurd (omega arith)
 count-set (suc k) c zero v (x ∷ xs) h l = omega arith
 count-set (suc k) c (suc i) v (x ∷ xs) h l = omega (arith, count-set k c i v xs (omega arith) (omega arith))
 
--- the first i of the first n
-pub take-short : (i n : ℕ) (t : List ℕ) → i ≤ n → take i (take n t) ≡ take i t
-take-short zero n t h = refl
-take-short (suc i) zero t h = absurd (omega arith)
-take-short (suc i) (suc n) [] h = refl
-take-short (suc i) (suc n) (x ∷ xs) h = ap (λ (l : List ℕ). x ∷ l) (take-short i n xs (omega arith))
-
 -- a termination that stands in c is counted behind those before it
 pub counted-before : (k c i : ℕ) (t : List ℕ) → i < k → i < length t → getD t i 0 ≡ c → count c (take i t) < count c (take k t)
 unfolding count pick
@@ -55,34 +49,22 @@ counted-before (suc k) c i [] h l e = absurd (omega arith)
 counted-before (suc k) c zero (x ∷ xs) h l e = rw (eq-eqb x c e) (omega arith)
 counted-before (suc k) c (suc i) (x ∷ xs) h l e = omega (arith, counted-before k c i xs (omega arith) (omega arith) e)
 
--- and of two, the higher behind the lower
-pub counted-order : (c i j : ℕ) (t : List ℕ) → i < j → i < length t → getD t i 0 ≡ c → count c (take i t) < count c (take j t)
-counted-order c i j t h l e = counted-before j c i t h l e
-
--- a termination that stands in c is counted there
-pub counted : (k c i : ℕ) (t : List ℕ) → i < k → i < length t → getD t i 0 ≡ c → 0 < count c (take k t)
-unfolding count pick
-counted zero c i t h l e = absurd (omega arith)
-counted (suc k) c i [] h l e = absurd (omega arith)
-counted (suc k) c zero (x ∷ xs) h l e = rw (eq-eqb x c e) (omega arith)
-counted (suc k) c (suc i) (x ∷ xs) h l e = omega (arith, counted k c i xs (omega arith) (omega arith) e)
-
 -- ---- members of a context
 
 pub members-same : (c : ℕ) (t u : List ℕ) → length u ≡ length t → ((j : ℕ) → j < terminations (fitted t) → get u (ctx j) ≡ get t (ctx j)) → members c u ≡ members c t
-unfolding members contextWords
-members-same c t u l h = rw (fitted-same u t l) (count-agree (terminations (fitted t)) c u t l (λ j b. ap (λ (z : ℕ). eqb z c) (h j b)))
+members-same c t u l h =
+    rw (members-first u c, members-first t c, fitted-same u t l) (count-agree (terminations (fitted t)) c u t l (λ j b. ap (λ (z : ℕ). eqb z c) (h j b)))
 
 -- a termination goes to x
 pub members-moved : (c i x : ℕ) (t u : List ℕ) → i < terminations (fitted t) → length t ≡ words (fitted t) → length u ≡ length t
     → ((j : ℕ) → j < terminations (fitted t) → get u (ctx j) ≡ pick (eqb i j) x (get t (ctx j)))
     → members c u + one (eqb (get t (ctx i)) c) ≡ members c t + one (eqb x c)
-unfolding members contextWords pick
+unfolding pick
 members-moved c i x t u b l k h =
     let n : ℕ = terminations (fitted t) in
     let e : members c u ≡ count c (take n (set t i x)) =
-    rw (fitted-same u t k) (count-agree n c u (set t i x) (k ∙ sym (length-set t i x)) (λ j d. ap (λ (z : ℕ). eqb z c) (h j d ∙ at j (eqb i j) refl))) in
-    omega (arith, e, count-set n c i x t b (omega arith))
+    rw (members-first u c, fitted-same u t k) (count-agree n c u (set t i x) (k ∙ sym (length-set t i x)) (λ j d. ap (λ (z : ℕ). eqb z c) (h j d ∙ at j (eqb i j) refl))) in
+    omega (arith, e, members-first t c, count-set n c i x t b (omega arith))
   where
     at : (j : ℕ) (y : Bool) → eqb i j ≡ y → pick y x (getD t j 0) ≡ getD (set t i x) j 0
     at j true e = rw (← eqb-true i j e) (sym (getD-set-same t i x 0 (omega arith)))
@@ -90,8 +72,16 @@ members-moved c i x t u b l k h =
 
 -- a termination that stands in c is a member
 pub member : (i : ℕ) (t : List ℕ) → i < terminations (fitted t) → length t ≡ words (fitted t) → 0 < members (get t (ctx i)) t
-unfolding members contextWords
-member i t h l = counted (terminations (fitted t)) (get t (ctx i)) i t h (omega arith) refl
+member i t h l = omega (arith, members-first t (get t (ctx i)), counted-before (terminations (fitted t)) (get t (ctx i)) i t h (omega arith) refl)
+
+module _ (c : ℕ) (t : List ℕ) (l : length t ≡ words (fitted t)) (k : known c ≡ true) where
+  -- its place, counted
+  pub place-counted : (i : ℕ) → i < terminations (fitted t) → placeIn c i t ≡ count c (take i t)
+  place-counted i h = let m : min i (terminations (fitted t)) ≡ i = omega arith in place-first t c i k ∙ ap (λ (j : ℕ). count c (take j t)) m
+
+  -- is before the last of the context
+  pub place-low : (i : ℕ) → i < terminations (fitted t) → get t (ctx i) ≡ c → placeIn c i t < members c t
+  place-low i h e = rw (place-counted i h, members-first t c) (counted-before (terminations (fitted t)) c i t h (omega (arith, l)) e)
 
 -- ---- the lowest absent number
 

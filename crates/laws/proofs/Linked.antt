@@ -13,7 +13,7 @@ use Rattle.base.specs.Lists.{count, same}
 use Rattle.base.proofs.TestLaws.{clash, or-neither}
 use Rattle.megaco.specs.Bytes.{capitals}
 use Rattle.megaco.specs.Tree.{Triple, triple}
-use Rattle.megaco.specs.Table.{terminations, words, fitted, ctx, get, exists, known, members, placeIn, contextWords}
+use Rattle.megaco.specs.Table.{terminations, words, fitted, ctx, get, exists, known, members, placeIn}
 use Rattle.megaco.specs.Names.{nameOf}
 use Rattle.megaco.specs.Square.{Square, directed}
 use Rattle.megaco.specs.Topology.{meant, party, linkOf, linksOf, isUnfit, isAbsent, isOutside, placeOf, setLink, setLinks}
@@ -25,7 +25,7 @@ use Rattle.megaco.specs.declared.Party.the-variants.{Absent, Outside, Member}
 use Rattle.megaco.proofs.Squares.{Shape}
 use Rattle.laws.specs.Passed.{Passed}
 use Rattle.laws.specs.Sound.{Fit}
-use Rattle.laws.proofs.Counting.{take-short, counted-before}
+use Rattle.laws.proofs.Counting.{counted-before, place-counted, place-low}
 use Rattle.laws.proofs.Flows.{shape-directed, fit-directed}
 use Rattle.laws.proofs.Meant.{Low, low, name-low}
 use Rattle.laws.proofs.OneName.{one-name}
@@ -87,21 +87,12 @@ low-is : (n : ℕ) {i : ℕ} → Low n (Termination i) → i < terminations n
 low-is n (low h) = h
 
 module _ (c : ℕ) (t : List ℕ) (l : length t ≡ words (fitted t)) (k : known c ≡ true) where
-  -- its place, counted
-  place-is : (i : ℕ) → i < terminations (fitted t) → placeIn c i t ≡ count c (take i t)
-  unfolding placeIn contextWords pick
-  place-is i h = rw (k, take-short i (terminations (fitted t)) t (omega arith))
-
-  pub place-low : (i : ℕ) → i < terminations (fitted t) → get t (ctx i) ≡ c → placeIn c i t < members c t
-  unfolding members contextWords
-  place-low i h e = rw (place-is i h) (counted-before (terminations (fitted t)) c i t h (omega (arith, l)) e)
-
   -- two members have two places
   pub place-apart : (i j : ℕ) → i < terminations (fitted t) → j < terminations (fitted t) → get t (ctx i) ≡ c → get t (ctx j) ≡ c → i ≢ j → placeIn c i t ≢ placeIn c j t
   place-apart i j h m e f d z = by (ltb i j) (ltb j i) refl refl
     where
       q : count c (take i t) ≡ count c (take j t)
-      q = sym (place-is i h) ∙ z ∙ place-is j m
+      q = sym (place-counted c t l k i h) ∙ z ∙ place-counted c t l k j m
 
       by : (x y : Bool) → ltb i j ≡ x → ltb j i ≡ y → ⊥
       by true y p r = omega (arith, counted-before j c i t (ltb-true i j p) (omega (arith, l, h)) e, q)
@@ -125,8 +116,8 @@ module _ (c : ℕ) (t : List ℕ) (l : length t ≡ words (fitted t)) (k : known
       let a = number-low x u in
       let b = number-low y v in
       record {
-        one = rw (u .place) (place-low (u .number) a (u .there));
-        two = rw (v .place) (place-low (v .number) b (v .there));
+        one = rw (u .place) (place-low c t l k (u .number) a (u .there));
+        two = rw (v .place) (place-low c t l k (v .number) b (v .there));
         apart = rw (u .place, v .place) (place-apart (u .number) (v .number) a b (u .there) (v .there)
             (λ z. clash (sym (ap (λ (l : List ℕ). same (capitals x) l) (sym (one-name (fitted t) x y (u .number) (u .means) (v .means ∙ ap Termination (sym z)))) ∙ same-refl (capitals x)) ∙ n)));
       }

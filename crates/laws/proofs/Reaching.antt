@@ -1,58 +1,27 @@
 -- The footprint of a transaction from a sound table: the terminations that it names, and the contexts that it reaches.
-use Prim.Native.Nat.{ℕ, zero, suc, _≤_, _<_}
-use mathlib.Core.Path.{_≡_, refl, sym, subst}
-use mathlib.Core.Bool.{Bool, true, false}
+use Prim.Native.Nat.{ℕ, _≤_, _<_}
+use mathlib.Core.Path.{_≡_, refl, subst}
+use mathlib.Core.Bool.{true}
 use mathlib.Core.List.{List, [], _∷_, List·Memᴰ·head, List·Memᴰ·tail}
-use lib.ListN.{length, getD, take}
-use lib.Dec.{leb}
-use borrow.Author.Tests.{eqb-true, leb-true}
-use native.Mathlib.Omega.{arith}
-use Rattle.base.specs.Pick.{pick}
-use Rattle.base.specs.Lists.{every}
 use Rattle.megaco.specs.Bytes.{star, dollar}
 use Rattle.megaco.specs.Topology.{triplesOf}
 use Rattle.megaco.specs.Tree.{Command, command, Triple, triple, Action, action, Transaction, transaction}
-use Rattle.megaco.specs.Table.{terminations, contexts, words, fitted, ctx, get, contextWords, sized, sound}
+use Rattle.megaco.specs.Table.{terminations, contexts, fitted, sound}
 use Rattle.megaco.specs.State.{State}
 use Rattle.megaco.specs.Names.{nameOf}
 use Rattle.megaco.specs.Transaction.{Step, commandSteps, steps}
 use Rattle.megaco.specs.declared.Context.{Context}
 use Rattle.megaco.specs.declared.Name.{Name}
-use Rattle.base.proofs.TestLaws.{clash, and-left, and-right}
 use Rattle.laws.specs.Membership.{_∈_}
 use Rattle.laws.specs.Apart.{contextsIn, namesThen, triplesThen, namesIn, namesOf, ByNumberOrNull, by-number, null-one, ContextsPlain, NamesPlain, Names, Reaches, writes, stands, Apart}
 use Rattle.laws.specs.Mix.{Mixture, mixed, stepsOf, bothFresh}
+use Rattle.laws.proofs.Sound.{sound-whole}
 use Rattle.laws.proofs.Frame.{Foot, Closed, Disjoint}
 use Rattle.laws.proofs.Views.{known-above, known-below, Seat}
 use Rattle.laws.proofs.Steps.{Means, EachMeans, Named}
 use Rattle.laws.proofs.Mix.{run-one, run-two, Each, Ready, exchange, one-after-other}
 use Rattle.laws.proofs.Membership.{has-not}
 use Rattle.laws.proofs.PlainNames.{Plain, aTermination, root, unknown, plain-below, plain-name}
-
--- ---- of a sound table: its length, and that nobody stands in a context past the last. No more of soundness is asked here
-
-every-at : (p : ℕ → Bool) (k : ℕ) (t : List ℕ) → every p (take k t) ≡ true → (i : ℕ) → i < k → i < length t → p (getD t i 0) ≡ true
-unfolding every pick
-every-at p zero t e i h l = absurd (omega arith)
-every-at p (suc k) [] e i h l = absurd (omega arith)
-every-at p (suc k) (x ∷ xs) e zero h l = first (p x) e
-  where
-    first : (a : Bool) → pick a (every p (take k xs)) false ≡ true → a ≡ true
-    first true e = refl
-    first false e = e
-every-at p (suc k) (x ∷ xs) e (suc i) h l = every-at p k xs (rest (p x) e) i (omega arith) (omega arith)
-  where
-    rest : (a : Bool) → pick a (every p (take k xs)) false ≡ true → every p (take k xs) ≡ true
-    rest true e = e
-    rest false e = absurd (clash (sym e))
-
-sound-long : (t : List ℕ) → sound t ≡ true → length t ≡ words (fitted t)
-unfolding sound sized
-sound-long t e = eqb-true (length t) (words (fitted t)) (search (and-left, and-right) depth 12)
-
-sound-low : (t : List ℕ) → sound t ≡ true → (i : ℕ) → i < terminations (fitted t) → get t (ctx i) ≤ contexts
-unfolding sound contextWords
-sound-low t e i h = leb-true (getD t i 0) contexts (every-at (λ w. leb w contexts) (terminations (fitted t)) t (search (and-left, and-right) depth 12) i h (omega (arith, sound-long t e)))
 
 -- ---- the footprint of a transaction from a table
 
@@ -69,7 +38,7 @@ foot : (t : List ℕ) (x : Transaction) → NamesPlain x → Foot (fitted t) (Na
 foot t x p = record { small = names-below (fitted t) x p; above = λ c r. r .0; below = λ c r. r .1 }
 
 closed : (t : List ℕ) (x : Transaction) → sound t ≡ true → NamesPlain x → Closed (fitted t) (Names (fitted t) x) (Reach t x) t
-closed t x e p = record { long = sound-long t e; home = λ i m h. (h, sound-low t e i (names-below (fitted t) x p i m), stands i m refl) }
+closed t x e p = let w = sound-whole t e in record { long = w .long; home = λ i m h. (h, w .place i (names-below (fitted t) x p i m), stands i m refl) }
 
 -- ---- each step of a transaction is one of its footprint
 

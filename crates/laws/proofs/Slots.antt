@@ -1,5 +1,5 @@
 -- Slots of the table: different slots never meet, not even where they share a word.
-use Prim.Native.Nat.{ℕ, zero, suc, _+_, _-_, _%_, _^_, _≤_, _<_}
+use Prim.Native.Nat.{ℕ, zero, suc, _+_, _-_, _%_, _^_, _<_}
 use mathlib.Core.Path.{_≡_, refl, sym, ap, ap₂, _∙_, subst}
 use mathlib.Core.Logic.{_≢_}
 use mathlib.Core.Bool.{Bool, true, false, _&&_}
@@ -13,6 +13,7 @@ use native.Mathlib.Decide.{ℕ-discrete}
 use Rattle.base.specs.Pick.{pick}
 use Rattle.megaco.specs.Table.{lineTerminations, regions, onward, total, place, mapStart, words, fitted, prop, rec, used, flow, Slot, ctx, cell, regionOf, wordOf, address, slotValue, kept, get, Write, write, store, apply}
 use Rattle.megaco.proofs.Sizes.{fitted-is, fitted-same}
+use Rattle.megaco.proofs.Regions.{onward-on, place-is}
 use Rattle.megaco.proofs.Places.{digit-same, digit-other, digit-comm, with-below}
 use Rattle.base.proofs.TestLaws.{clash, and-both}
 use Rattle.laws.specs.Slots.{Valid, Shared, both, held}
@@ -109,10 +110,6 @@ change-comm f g t a b d =
     ∙ sym (ap (λ (w : ℕ). set (change t b g) a (f w)) (getD-set-other t b a (g (getD t b 0)) 0 d))
 
 -- a slot lies in the table
-onward-on : (rs : List ℕ) (c : ℕ) → c ≤ onward c rs
-onward-on [] c = omega arith
-onward-on (r ∷ rs) c = let h : c + r ≤ onward (c + r) rs = onward-on rs (c + r) in omega (arith, h)
-
 onward-below : (rs : List ℕ) (c k a : ℕ) → a < getD rs k 0 → c + place k rs a < onward c rs
 onward-below [] c k a h = absurd (omega arith)
 onward-below (r ∷ rs) c zero a h = omega (arith, h, onward-on rs (c + r))
@@ -222,7 +219,7 @@ get-apply n (write r x ∷ ws) s t h v l =
 -- a slot at a word of the map holds one of its digits
 kept-narrow : (n : ℕ) (s : Slot) (v word k : ℕ) → Valid n s → k < 2 → mapStart n + k ≡ address n s → kept n s v word < 2 ^ 32
 kept-narrow n s v word k h b e =
-    let p : 3 ≡ regionOf s = place-tells (regions n) 3 (regionOf s) k (wordOf n s) b (word-below n s h) (omega (arith, e)) .0 in
+    let p : 3 ≡ regionOf s = place-tells (regions n) 3 (regionOf s) k (wordOf n s) b (word-below n s h) (sym (place-is 3 (regions n) k) ∙ e) .0 in
     let q : cell (used (index s)) ≡ s = ap (λ (x : ℕ). slotOf x (index s)) p ∙ slot-of s in
     subst (λ (x : Slot). kept n x v word < 2 ^ 32) q (with-below ((index s - lineTerminations n) % 32) (v % 2) word (omega arith))
 

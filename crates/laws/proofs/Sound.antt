@@ -3,16 +3,16 @@ use Prim.Native.Nat.{ℕ, zero, suc, _+_, _-_, _*_, _/_, _%_, _^_, _≤_, _<_, m
 use mathlib.Core.Path.{_≡_, refl, sym, ap, _∙_}
 use mathlib.Core.Bool.{Bool, true, false, not, _&&_}
 use mathlib.Core.List.{List, [], _∷_, _++_}
-use lib.ListN.{length, replicate, getD, take, drop, length-take, length-drop, length-append, List·getD-append}
-use lib.Seq.{getD-take, getD-drop}
+use lib.ListN.{length, replicate, getD, length-drop, length-append, List·getD-append}
+use lib.Seq.{getD-drop}
 use lib.Dec.{ltb, leb, eqb}
 use borrow.Author.Tests.{eqb-true, eqb-false, eq-eqb, ne-eqb, ltb-true, lt-ltb, leb-true, le-leb, not-true, not-false}
 use native.Mathlib.Nat.{add-zero}
 use native.Mathlib.Omega.{arith}
 use Rattle.base.specs.Pick.{pick}
 use Rattle.base.specs.Lists.{every, count, same, lowestAbsent}
-use Rattle.megaco.specs.Table.{lineTerminations, ephemerals, terminations, contexts, words, mostLines, fitted, Sized, most, mapStart, prop, rec, used, flow, lowFlow, highFlow, ctx, cell, regions, onward, total, place, get, mapWords, places, freeEphemeral, usedEphemerals, contextWords, propertyWords, recordWords, flowWords, ephemeralContexts, ephemeralProperties, members, modeOf, stateOf, isPropertyWord, absentAreZero, recordIsSound, recordsAreSound, sized, mapIsSound, flowsAreSound, sound}
-use Rattle.megaco.proofs.Regions.{total-is, place-is}
+use Rattle.megaco.specs.Table.{lineTerminations, ephemerals, terminations, contexts, words, mostLines, fitted, Sized, most, mapStart, prop, rec, used, flow, lowFlow, highFlow, ctx, cell, regions, place, get, mapWords, places, freeEphemeral, usedEphemerals, contextWords, propertyWords, recordWords, flowWords, ephemeralContexts, ephemeralProperties, members, modeOf, stateOf, isPropertyWord, absentAreZero, recordIsSound, recordsAreSound, sized, mapIsSound, flowsAreSound, sound}
+use Rattle.megaco.proofs.Regions.{place-is, context-region, property-region, record-region, map-region, flow-region}
 use Rattle.megaco.specs.Square.{bits, rows, squareOf, mayFlow, rowIsSound, rowsAreSound, squareIsSound}
 use Rattle.megaco.specs.Map.{digits, digit, marks, inUse}
 use Rattle.megaco.proofs.Places.{length-digits, digits-joined, length-marks, marks-at, same-at, walk-marks, count-marks}
@@ -140,50 +140,21 @@ at-flows cs c (x ∷ y ∷ fs) k l f =
 
 -- ---- the parts of a table
 
--- each region ends within the whole, for any list of regions
-onward-more : (rs : List ℕ) (a : ℕ) → a ≤ onward a rs
-onward-more [] a = omega arith
-onward-more (r ∷ rs) a = omega (arith, onward-more rs (a + r))
-
-ends-within : (k : ℕ) (rs : List ℕ) (a : ℕ) → a + place k rs (getD rs k 0) ≤ onward a rs
-ends-within zero [] a = omega arith
-ends-within zero (r ∷ rs) a = onward-more rs (a + r)
-ends-within (suc k) [] a = omega arith
-ends-within (suc k) (r ∷ rs) a = omega (arith, ends-within k rs (a + r))
-
--- a region's words: how many there are, and where each stands
-abbrev part : ℕ → List ℕ → List ℕ → List ℕ
-part k rs t = take (getD rs k 0) (drop (total (take k rs)) t)
-
-part-long : (k : ℕ) (rs t : List ℕ) → length t ≡ total rs → length (part k rs t) ≡ getD rs k 0
-part-long k rs t l = simp (length-take, length-drop) (omega (arith, l, total-is rs, place-is k rs (getD rs k 0), ends-within k rs 0))
-
-part-from : (k : ℕ) (rs t : List ℕ) (i : ℕ) → i < getD rs k 0 → getD (part k rs t) i 0 ≡ getD t (total (take k rs) + i) 0
-part-from k rs t i h = getD-take (getD rs k 0) (drop (total (take k rs)) t) i 0 h ∙ getD-drop (total (take k rs)) t i 0
-
-part-at : (k : ℕ) (rs t : List ℕ) (i : ℕ) → i < getD rs k 0 → getD (part k rs t) i 0 ≡ getD t (place k rs i) 0
-part-at k rs t i h = part-from k rs t i h ∙ ap (λ (a : ℕ). getD t a 0) (place-is k rs i)
-
 module _ (t : List ℕ) (l : length t ≡ words (fitted t)) where
   pub context-words : length (contextWords t) ≡ terminations (fitted t)
-  unfolding contextWords
-  context-words = part-long 0 (regions (fitted t)) t l
+  context-words = context-region t .long l
 
   pub property-words : length (propertyWords t) ≡ terminations (fitted t)
-  unfolding propertyWords
-  property-words = part-long 1 (regions (fitted t)) t l
+  property-words = property-region t .long l
 
   pub record-words : length (recordWords t) ≡ contexts
-  unfolding recordWords
-  record-words = part-long 2 (regions (fitted t)) t l
+  record-words = record-region t .long l
 
   map-words : length (mapWords t) ≡ 2
-  unfolding mapWords
-  map-words = part-long 3 (regions (fitted t)) t l
+  map-words = map-region t .long l
 
   flow-words : length (flowWords t) ≡ 2 * contexts
-  unfolding flowWords
-  flow-words = part-long 4 (regions (fitted t)) t l
+  flow-words = flow-region t .long l
 
   pub ephemeral-contexts : length (ephemeralContexts t) ≡ ephemerals
   unfolding ephemeralContexts
@@ -194,24 +165,19 @@ module _ (t : List ℕ) (l : length t ≡ words (fitted t)) where
   ephemeral-properties = simp length-drop (omega (arith, property-words))
 
 pub context-at : (t : List ℕ) (i : ℕ) → i < terminations (fitted t) → getD (contextWords t) i 0 ≡ get t (ctx i)
-unfolding contextWords
-context-at t = part-at 0 (regions (fitted t)) t
+context-at t = context-region t .stands
 
 pub property-at : (t : List ℕ) (i : ℕ) → i < terminations (fitted t) → getD (propertyWords t) i 0 ≡ get t (cell (prop i))
-unfolding propertyWords
-property-at t = part-at 1 (regions (fitted t)) t
+property-at t = property-region t .stands
 
 pub record-at : (t : List ℕ) (k : ℕ) → k < contexts → getD (recordWords t) k 0 ≡ get t (cell (rec (1 + k)))
-unfolding recordWords
-record-at t k h = let n : 1 + k - 1 ≡ k = omega arith in rw n (part-at 2 (regions (fitted t)) t k h)
+record-at t k h = let n : 1 + k - 1 ≡ k = omega arith in rw n (record-region t .stands k h)
 
 map-word-at : (t : List ℕ) (k : ℕ) → k < 2 → getD (mapWords t) k 0 ≡ getD t (mapStart (fitted t) + k) 0
-unfolding mapWords
-map-word-at t = part-from 3 (regions (fitted t)) t
+map-word-at t = map-region t .from
 
 flow-at : (t : List ℕ) (k : ℕ) → k < 2 * contexts → getD (flowWords t) k 0 ≡ get t (cell (flow k))
-unfolding flowWords
-flow-at t = part-at 4 (regions (fitted t)) t
+flow-at t = flow-region t .stands
 
 pub ephemeral-context-at : (t : List ℕ) (k : ℕ) → k < ephemerals → getD (ephemeralContexts t) k 0 ≡ get t (ctx (lineTerminations (fitted t) + k))
 unfolding ephemeralContexts

@@ -1,22 +1,21 @@
 -- What an attempt sees depends on its footprint alone.
-use Prim.Native.Nat.{ℕ, _+_, _*_, _/_, _≤_, _<_}
+use Prim.Native.Nat.{ℕ, _+_, _*_, _/_, _≤_, _<_, min}
 use mathlib.Core.Path.{_≡_, refl, sym, ap, _∙_, subst}
 use mathlib.Core.Bool.{Bool, true, false}
 use mathlib.Core.List.{List}
-use lib.ListN.{take}
 use lib.Dec.{eqb, leb, ltb}
 use native.Mathlib.Omega.{arith}
 use borrow.Author.Tests.{leb-true, ltb-true}
 use Rattle.base.specs.Pick.{pick}
-use Rattle.base.specs.Lists.{count}
-use Rattle.megaco.specs.Table.{terminations, contexts, fitted, prop, rec, flow, lowFlow, highFlow, ctx, cell, get, known, members, placeIn, contextWords}
+use Rattle.megaco.specs.Table.{terminations, contexts, fitted, prop, rec, flow, lowFlow, highFlow, ctx, cell, get, known, members, placeIn}
 use Rattle.megaco.specs.Attempt.{unseen, seenIn, seen, numberOf, freeAt, look}
 use Rattle.megaco.specs.declared.Context.{Context}
 use Rattle.megaco.specs.declared.Context.the-variants.{Null, Numbered, Choose, All}
 use Rattle.megaco.specs.declared.Seen.{Seen}
 use Rattle.base.proofs.TestLaws.{clash, and-left, and-right}
 use Rattle.megaco.proofs.Sizes.{fitted-same}
-use Rattle.laws.proofs.Counting.{count-agree, take-short}
+use Rattle.megaco.proofs.Regions.{members-first, place-first}
+use Rattle.laws.proofs.Counting.{count-agree}
 use Rattle.laws.proofs.Frame.{Foot, Closed, Agree}
 
 pub known-above : (c : ℕ) → known c ≡ true → 0 < c
@@ -68,8 +67,7 @@ module _ (lines : ℕ) (N K : ℕ → Type 0) where
 
   module _ (F : Foot lines N K) (t u : List ℕ) (a : Agree lines N K t u) (f : fitted t ≡ lines) where
     members-alike : (c : ℕ) → K c → members c t ≡ members c u
-    unfolding members contextWords
-    members-alike c k = rw (f, sym (fitted-same t u (a .long)) ∙ f) (count-agree (terminations lines) c t u (a .long) (a .stand c k))
+    members-alike c k = rw (members-first t c, members-first u c, f, sym (fitted-same t u (a .long)) ∙ f) (count-agree (terminations lines) c t u (a .long) (a .stand c k))
 
     seen-same : (c : ℕ) → (known c ≡ true → K c) → seen c t ≡ seen c u
     unfolding seen pick
@@ -88,14 +86,15 @@ module _ (lines : ℕ) (N K : ℕ → Type 0) where
 
     -- the place of a termination among the members of a context
     pub place-same : (c i : ℕ) → (known c ≡ true → K c) → i < terminations lines → placeIn c i t ≡ placeIn c i u
-    unfolding placeIn contextWords pick
+    unfolding placeIn pick
     place-same c i s h = by (known c) refl
       where
-        by : (x : Bool) → known c ≡ x → pick x (count c (take i (take (terminations (fitted t)) t))) 0 ≡ pick x (count c (take i (take (terminations (fitted u)) u))) 0
+        by : (x : Bool) → known c ≡ x → placeIn c i t ≡ placeIn c i u
         by true e =
-            rw (f, sym (fitted-same t u (a .long)) ∙ f, take-short i (terminations lines) t (omega arith), take-short i (terminations lines) u (omega arith))
-            (count-agree i c t u (a .long) (λ j b. a .stand c (s e) j (omega (arith, b, h))))
-        by false e = refl
+            place-first t c i e
+            ∙ rw (f, sym (fitted-same t u (a .long)) ∙ f) (count-agree (min i (terminations lines)) c t u (a .long) (λ j b. a .stand c (s e) j (omega (arith, b, h))))
+            ∙ sym (place-first u c i e)
+        by false e = rw e
 
     -- what is seen of the context that a step stands in
     pub seat-same : (w : Context) → Seat w → seen (numberOf w) t ≡ seen (numberOf w) u

@@ -3,7 +3,7 @@ use Prim.Native.Nat.{ℕ, _+_, _-_, _<_, _≤_, min}
 use mathlib.Core.Path.{_≡_, refl, sym, ap, _∙_, subst}
 use mathlib.Core.List.{List, [], _∷_, _++_}
 use mathlib.Core.Bool.{Bool, true, false, _&&_}
-use lib.ListN.{length, getD, take, drop, drop-of-length-le, length-take}
+use lib.ListN.{length, getD, take, drop, drop-of-length-le}
 use lib.Dec.{ltb}
 use borrow.Author.Tests.{ltb-true, ltb-false}
 use lib.Seq.{drop-cons, take-all}
@@ -20,6 +20,7 @@ use Rattle.report.proofs.ReportLaws.{reports-split, refused-is, told-is, done-i
 use Rattle.megaco.specs.Attempt.{effect, concluded, judge, checks, changes, settled, detailOf, numberOf, look}
 use Rattle.megaco.specs.Command.{Outcome, outcome, attempts, wanted, matchesFrom, matches, matchTargets, commandError, runTargets}
 use Rattle.megaco.specs.Table.{mostLines, terminations, fitted, Sized, contextWords, exists, apply}
+use Rattle.megaco.proofs.Regions.{context-region}
 use Rattle.megaco.specs.State.{State, state, wrote}
 use Rattle.megaco.specs.Names.{inRange, nameText}
 use Rattle.attempt_view.specs.Noted.{Matched}
@@ -186,11 +187,8 @@ matches-from lines op c r i (x ∷ xs) =
     pick-ind (λ l. length l ≤ length (x ∷ xs)) (inRange lines r i && exists lines i x && wanted op c x) (i ∷ m) m (λ e. omega arith) (λ e. omega arith)
 
 pub matches-few : (op : Op) (at : Context) (r : Range) (t z u : List ℕ) (k : ℕ) → Matched (matches op at r t) z u k → k ≤ terminations (fitted t)
-unfolding matches contextWords
-matches-few op at r t z u k m =
-    let h : length (matches op at r t) ≤ length (contextWords t) = matches-from (fitted t) op (numberOf at) r 0 (contextWords t) in
-    let w : length (take (terminations (fitted t)) t) ≤ terminations (fitted t) = simp length-take (omega arith) in
-    omega (arith, m .many)
+unfolding matches
+matches-few op at r t z u k m = omega (arith, m .many, matches-from (fitted t) op (numberOf at) r 0 (contextWords t), context-region t .few)
 
 -- what was noted in a row that is long enough
 noted : (z u is : List ℕ) (k : ℕ) → Matched is z u k → k ≤ length z → take k u ≡ is

@@ -1,10 +1,10 @@
 -- How long the contexts of a sound table of any count of lines are, printed.
 use Prim.Native.Nat.{ℕ, suc, _+_, _*_, _-_, _/_, _%_, _≤_, _<_}
-use mathlib.Core.Path.{_≡_, refl}
+use mathlib.Core.Path.{_≡_, refl, sym, _∙_}
 use mathlib.Core.Bool.{Bool, true, false, _&&_}
 use mathlib.Core.List.{List, [], _∷_}
 use native.Mathlib.Omega.{arith}
-use lib.ListN.{length, take, drop, length-take}
+use lib.ListN.{length}
 use lib.Dec.{eqb, leb}
 use borrow.Author.Tests.{eqb-true, eqb-false, leb-false, ne-eqb}
 use Rattle.base.specs.Pick.{pick}
@@ -14,9 +14,10 @@ use Rattle.base.proofs.PickLaws.{pick-ind}
 use Rattle.base.proofs.TestLaws.{pick-both, and-both}
 use Rattle.base.proofs.TextLaws.{length-then, length-below}
 use Rattle.laws.proofs.Sound.{record-sound}
-use Rattle.megaco.specs.Table.{channels, terminations, contexts, words, mostLines, lineTerminations, isEphemeral, contextWords, propertyWords, recordWords, ephemeralContexts, ephemeralProperties, isPropertyWord, absentAreZero, priorityOf, emergencyOf, recordIsSound, recordsAreSound, sized, mapIsSound, flowWords, flowsAreSound, sound}
+use Rattle.megaco.specs.Table.{channels, terminations, contexts, startOf, words, fitted, regionWords, mostLines, lineTerminations, isEphemeral, contextWords, propertyWords, recordWords, ephemeralContexts, ephemeralProperties, isPropertyWord, absentAreZero, priorityOf, emergencyOf, recordIsSound, recordsAreSound, sized, mapIsSound, flowWords, flowsAreSound, sound}
 use Rattle.megaco.specs.Names.{nameText}
 use Rattle.megaco.proofs.Sizes.{fitted-is}
+use Rattle.megaco.proofs.Regions.{Region, region, context-region, record-region}
 use Rattle.sessions.specs.Session.{ready}
 use Rattle.sessions.specs.Lines.{lineEnd}
 use Rattle.sessions.specs.Listing.{lines, each, memberText, membersText, propertiesText, contextLine, present, countLine, partsText, contextsText, reportText}
@@ -116,19 +117,25 @@ records-of-sound t s =
     let map : Bool = mapIsSound t in
     and-both words′ r (and-both (words′ && r) map (and-both (words′ && r && map) (flowsAreSound (contextWords t) 1 (flowWords t)) s .0) .0) .1
 
-records-of : (n : ℕ) (t : List ℕ) → length t ≡ words n → sound t ≡ true
-    → recordsAreSound (take (terminations n) t) 1 (take contexts (drop (terminations n + terminations n) t)) ≡ true
-unfolding contextWords recordWords
-records-of n t l s = rw (fitted-is n t l) at (records-of-sound t s)
+-- a region has its words alone
+region-is : (n k : ℕ) (t ws : List ℕ) → Region n k t ws → ws ≡ regionWords n k t
+region-is n k t ws r = sym (r .cut (startOf n k) (startOf n (suc k)) refl refl) ∙ region n k t .cut (startOf n k) (startOf n (suc k)) refl refl
+
+records-of : (n : ℕ) (t : List ℕ) → length t ≡ words n → sound t ≡ true → recordsAreSound (regionWords n 0 t) 1 (regionWords n 2 t) ≡ true
+records-of n t l s =
+    let f : fitted t ≡ n = fitted-is n t l in
+    let a : contextWords t ≡ regionWords n 0 t = rw f at (region-is (fitted t) 0 t (contextWords t) (context-region t)) in
+    let b : recordWords t ≡ regionWords n 2 t = rw f at (region-is (fitted t) 2 t (recordWords t) (record-region t)) in
+    rw (a, b) at (records-of-sound t s)
 
 -- the contexts of a sound table of n lines take at most 5,645 bytes: 13 for their count, 9 for each context, 8 for each termination
 pub contexts-fit : (n : ℕ) (t : List ℕ) → n ≤ mostLines → length t ≡ words n → sound t ≡ true → length (contextsText n t) ≤ 5645
 unfolding contextsText partsText countLine
 contexts-fit n t m e s =
-    let ws : List ℕ = take (terminations n) t in
-    let rs : List ℕ = take contexts (drop (terminations n + terminations n) t) in
-    let k : length rs ≤ contexts = omega (arith, length-take contexts (drop (terminations n + terminations n) t)) in
-    let l : length ws ≤ terminations n = omega (arith, length-take (terminations n) t) in
+    let ws : List ℕ = regionWords n 0 t in
+    let rs : List ℕ = regionWords n 2 t in
+    let k : length rs ≤ contexts = region n 2 t .few in
+    let l : length ws ≤ terminations n = region n 0 t .few in
     simp length-then
     (omega (arith, length-below 2 (present rs) (omega (arith, present-fits rs)), spread-fits ws 1 rs, lines-fit n ws 1 rs m l (omega arith) (records-of n t e s)))
 

@@ -1,11 +1,10 @@
 -- What the listing program prints (document 01, 'Sessions to check').
 use Prim.Native.Nat.{ℕ, _+_}
 use mathlib.Core.List.{List, [], _∷_}
-use lib.ListN.{take, drop}
 use lib.Dec.{eqb}
 use Rattle.base.specs.Pick.{pick}
 use Rattle.base.specs.Bytes.{text, decimal, _then_}
-use Rattle.megaco.specs.Table.{terminations, contexts, priorityOf, emergencyOf}
+use Rattle.megaco.specs.Table.{regionWords, priorityOf, emergencyOf}
 use Rattle.megaco.specs.Names.{nameText}
 use Rattle.sessions.specs.Lines.{lineEnd}
 
@@ -53,7 +52,7 @@ partsText n ws rs = countLine (present rs) then contextLines n ws rs
 
 -- the same of a table of n lines
 unfoldable pub contextsText : ℕ → List ℕ → List ℕ
-contextsText n t = partsText n (take (terminations n) t) (take contexts (drop (terminations n + terminations n) t))
+contextsText n t = partsText n (regionWords n 0 t) (regionWords n 2 t)
 
 abbrev pub reportText : List ℕ → List ℕ
 reportText t = contextsText lines t

@@ -6,13 +6,8 @@ ghost use lib.ListN.{length};
 ghost use Rattle.base.specs.Out.{Appended};
 ghost use Rattle.sessions.specs.Lines.{lineEnd, lineFrom, lineEndAt};
 ghost use Rattle.sessions.specs.Listing.{memberText, membersText, propertiesText, contextLine, contextLines, present, countLine, partsText, contextsText, refusedText};
-use table::CHANNELS;
 
 const LINE_END: u8 = b'\n';
-
-const EPHEMERALS: usize = table::EPHEMERALS as usize;
-
-const CONTEXTS: usize = table::CONTEXTS as usize;
 
 // ---- lines taken
 
@@ -166,9 +161,8 @@ pub fn put_contexts(out: &mut [u8], at: usize, lines: u32, table: &[u32]) -> usi
     requires { ⌜ 0 < lines ⌝ }
     ensures { λ r. ⌜ Appended (now (out .entry)) at (contextsText lines (now (table .entry))) (now (out .exit)) r ⌝ }
 {
-    let n = CHANNELS * lines as usize + EPHEMERALS;
-    let a = within(table, n);
-    let b = within(table, n + n);
-    let e = within(table, n + n + CONTEXTS);
+    let a = within(table, table::start_by_lines(lines, 1));
+    let b = within(table, table::start_by_lines(lines, 2));
+    let e = within(table, table::start_by_lines(lines, 3));
     put_parts(out, at, lines, &table[0..a], &table[b..e])
 }

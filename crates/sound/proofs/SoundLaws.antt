@@ -17,8 +17,8 @@ use Rattle.base.specs.Lists.{every, count, same}
 use Rattle.megaco.proofs.Sizes.{sized-is}
 use Rattle.megaco.specs.Map.{digits, marks}
 use Rattle.megaco.proofs.Places.{length-digits, length-marks}
-use Rattle.megaco.specs.Table.{lineTerminations, ephemerals, terminations, contexts, words, mostLines, fitted, Sized, sized, contextWords, propertyWords, recordWords, ephemeralContexts, ephemeralProperties, mapStart, mapWords, places, flowWords, isPropertyWord, absentAreZero, recordIsSound, recordsAreSound, flowsAreSound, mapIsSound, sound}
-use Rattle.table.proofs.TableLaws.{drop-take}
+use Rattle.megaco.specs.Table.{lineTerminations, ephemerals, terminations, contexts, mostLines, fitted, Sized, sized, contextWords, propertyWords, recordWords, ephemeralContexts, ephemeralProperties, startOf, mapStart, mapWords, places, flowWords, isPropertyWord, absentAreZero, recordIsSound, recordsAreSound, flowsAreSound, mapIsSound, sound}
+use Rattle.megaco.proofs.Regions.{context-region, property-region, record-region, map-region, flow-region}
 use Rattle.sound.specs.Parts.{ephemeralIsSound, recordsMeet, flowIsSound, flowsMeet, partsAreSound}
 use Rattle.base.proofs.TestLaws.{and-both}
 
@@ -235,11 +235,11 @@ record-by r m = rw alike
 
 -- ---- the whole table
 
-every-part : (p : ℕ → Bool) (n m : ℕ) (l : List ℕ) → every p (take (n + m) l) ≡ (every p (take n l) && every p (take m (drop n l)))
+every-both : (p : ℕ → Bool) (n : ℕ) (l : List ℕ) → every p l ≡ (every p (take n l) && every p (drop n l))
 unfolding every pick
-every-part p zero m l = rw zero-add
-every-part p (suc n) m [] = rw (take-nil, take-nil)
-every-part p (suc n) m (x ∷ l) = rw (suc-add, every-part p n m l) (and-pick (p x) _ _)
+every-both p zero l = refl
+every-both p (suc n) [] = refl
+every-both p (suc n) (x ∷ l) = rw (every-both p n l) (and-pick (p x) _ _)
   where
     and-pick : (a b c : Bool) → pick a (b && c) false ≡ (pick a b false && c)
     and-pick true b c = refl
@@ -256,23 +256,6 @@ arrange true true true true true = refl
 
 arranged : (a b c e r l p z w : Bool) → a ≡ (e && r) → b ≡ l → c ≡ (p && z) → w ≡ (l && p) → (a && b && c) ≡ (e && w && z && r)
 arranged a b c e r l p z w f g h k = rw (f, g, h, k) (arrange e r l p z)
-
-long-part : (t : List ℕ) (a : ℕ) → a + 64 ≤ length t → length (take 64 (drop a t)) ≡ 64
-long-part t a h = simp (length-take, length-drop) (omega arith)
-
--- as many context words of ephemerals as properties
-pub even-parts : (t : List ℕ) (n : ℕ) → Sized t → n ≡ terminations (fitted t)
-    → length (take (n - (n - 64)) (drop (n - 64) t)) ≡ length (take (n + n - (n + (n - 64))) (drop (n + (n - 64)) t))
-even-parts t n s e =
-    let a : n - (n - 64) ≡ 64 = omega arith in
-    let b : n + n - (n + (n - 64)) ≡ 64 = omega arith in
-    let l : length t ≡ words (fitted t) = s .long in
-    let x : n - 64 + 64 ≤ length t = omega arith in
-    let y : n + (n - 64) + 64 ≤ length t = omega arith in
-    rw (a, b) (long-part t (n - 64) x ∙ sym (long-part t (n + (n - 64)) y))
-
-flows-cut : (n : ℕ) → n + n + 128 + 2 + 256 - (n + n + 128 + 2) ≡ 256
-flows-cut n = omega arith
 
 -- the map before the flows
 flows-last : (e p z r f m : Bool) → (e && p && z && (r && f) && m) ≡ (e && p && z && r && m && f)
@@ -297,68 +280,54 @@ same-high m = by (leb m mostLines) refl
     by true e = le-leb (terminations m) 560 (omega (arith, leb-true m mostLines e))
     by false e = lt-leb (terminations m) 560 (omega (arith, leb-false m mostLines e))
 
-module _ (t : List ℕ) where
-  N : ℕ
-  N = terminations (fitted t)
+ephemeral-contexts : (t : List ℕ) → ephemeralContexts t ≡ take ephemerals (drop (lineTerminations (fitted t)) t)
+unfolding ephemeralContexts
+ephemeral-contexts t =
+    let l : ℕ = lineTerminations (fitted t) in
+    let e : terminations (fitted t) - l ≡ ephemerals = omega arith in
+    sym (rw e at (context-region t .rest l (terminations (fitted t)) l (sym (zero-add l)) refl (omega arith)))
 
-  L : ℕ
-  L = lineTerminations (fitted t)
+-- the parts that the code takes of a table: the properties start at n, the records at r, the map at m, the flows at f
+module _ (t : List ℕ) (n r : ℕ) (s : Sized t) (p : n ≡ startOf (fitted t) 1) (q : r ≡ startOf (fitted t) 2) where
+  lines-end : n - 64 ≡ lineTerminations (fitted t)
+  lines-end = omega arith
 
-  ephemeral-contexts : ephemeralContexts t ≡ take ephemerals (drop L t)
-  unfolding ephemeralContexts contextWords L
-  ephemeral-contexts = drop-take (lineTerminations (fitted t)) ephemerals t
+  contexts-part : take (n - (n - 64)) (drop (n - 64) t) ≡ ephemeralContexts t
+  contexts-part = let e : n - (n - 64) ≡ 64 = omega arith in rw (e, lines-end) (sym (ephemeral-contexts t))
 
-  -- the properties of ephemerals stand behind those of lines
-  ephemeral-properties : ephemeralProperties t ≡ take ephemerals (drop (N + L) t)
-  unfolding ephemeralProperties propertyWords L N
-  ephemeral-properties =
-      drop-take (lineTerminations (fitted t)) ephemerals (drop (terminations (fitted t)) t)
-      ∙ ap (take ephemerals) (drop-drop (lineTerminations (fitted t)) (terminations (fitted t)) t)
+  properties-part : take (r - (n + (n - 64))) (drop (n + (n - 64)) t) ≡ ephemeralProperties t
+  unfolding ephemeralProperties
+  properties-part = property-region t .rest (n + (n - 64)) r (lineTerminations (fitted t)) (rw (lines-end, p)) q (omega arith)
 
-  properties : every isPropertyWord (propertyWords t) ≡ (every isPropertyWord (take L (drop N t)) && every isPropertyWord (take ephemerals (drop (N + L) t)))
-  unfolding propertyWords L N
-  properties =
-      every-part isPropertyWord (lineTerminations (fitted t)) ephemerals (drop (terminations (fitted t)) t)
-      ∙ ap (λ (l : List ℕ). every isPropertyWord (take (lineTerminations (fitted t)) (drop (terminations (fitted t)) t)) && every isPropertyWord (take ephemerals l))
-      (drop-drop (lineTerminations (fitted t)) (terminations (fitted t)) t)
+  lines-part : take (n + (n - 64) - n) (drop n t) ≡ take (lineTerminations (fitted t)) (propertyWords t)
+  lines-part = property-region t .front n (n + (n - 64)) (lineTerminations (fitted t)) p (rw lines-end) (omega arith)
 
-  parts : (a b c : Bool)
-      → a ≡ (every (λ w. leb w contexts) (contextWords t) && (recordsAreSound (contextWords t) 1 (recordWords t) && flowsAreSound (contextWords t) 1 (flowWords t)))
-      → b ≡ every isPropertyWord (take L (drop N t))
-      → c ≡ (every isPropertyWord (take ephemerals (drop (N + L) t)) && absentAreZero (take ephemerals (drop L t)) (take ephemerals (drop (N + L) t)))
+  -- as many context words of ephemerals as properties
+  pub even-parts : length (take (n - (n - 64)) (drop (n - 64) t)) ≡ length (take (r - (n + (n - 64))) (drop (n + (n - 64)) t))
+  unfolding ephemeralContexts ephemeralProperties
+  even-parts = rw (contexts-part, properties-part) (simp length-drop (omega (arith, context-region t .long (s .long), property-region t .long (s .long))))
+
+  pub parts-by : (m f : ℕ) (a b c : Bool) → m ≡ startOf (fitted t) 3 → f ≡ startOf (fitted t) 4
+      → a ≡ (every (λ w. leb w contexts) (take (n - 0) (drop 0 t)) && (recordsAreSound (take (n - 0) (drop 0 t)) 1 (take (m - r) (drop r t)) && flowsAreSound (take (n - 0) (drop 0 t)) 1 (take (length t - f) (drop f t))))
+      → b ≡ every isPropertyWord (take (n + (n - 64) - n) (drop n t))
+      → c ≡ (every isPropertyWord (take (r - (n + (n - 64))) (drop (n + (n - 64)) t)) && absentAreZero (take (n - (n - 64)) (drop (n - 64) t)) (take (r - (n + (n - 64))) (drop (n + (n - 64)) t)))
       → (a && b && c) ≡ partsAreSound t
   unfolding partsAreSound
-  parts a b c f g k =
-      rw (ephemeral-contexts, ephemeral-properties)
-      (arranged a b c
+  parts-by m f a b c u v x y z =
+      arranged a b c
       (every (λ w. leb w contexts) (contextWords t))
       (recordsAreSound (contextWords t) 1 (recordWords t) && flowsAreSound (contextWords t) 1 (flowWords t))
-      (every isPropertyWord (take L (drop N t)))
-      (every isPropertyWord (take ephemerals (drop (N + L) t)))
-      (absentAreZero (take ephemerals (drop L t)) (take ephemerals (drop (N + L) t)))
-      (every isPropertyWord (propertyWords t)) f g k properties)
+      (every isPropertyWord (take (lineTerminations (fitted t)) (propertyWords t)))
+      (every isPropertyWord (ephemeralProperties t))
+      (absentAreZero (ephemeralContexts t) (ephemeralProperties t))
+      (every isPropertyWord (propertyWords t))
+      (x ∙ rw (context-region t .cut 0 n refl p, record-region t .cut r m q u, flow-region t .cut f (length t) v (s .long)))
+      (y ∙ rw lines-part) (z ∙ rw (contexts-part, properties-part)) whole
+    where
+      whole : every isPropertyWord (propertyWords t) ≡ (every isPropertyWord (take (lineTerminations (fitted t)) (propertyWords t)) && every isPropertyWord (ephemeralProperties t))
+      whole = unfold ephemeralProperties in every-both isPropertyWord (lineTerminations (fitted t)) (propertyWords t)
 
-  -- the parts that the code takes of a table with n terminations
-  pub parts-by : (n : ℕ) (a b c : Bool) → n ≡ terminations (fitted t)
-      → a ≡ (every (λ w. leb w contexts) (take (n - 0) (drop 0 t)) && (recordsAreSound (take (n - 0) (drop 0 t)) 1 (take (n + n + 128 - (n + n)) (drop (n + n) t)) && flowsAreSound (take (n - 0) (drop 0 t)) 1 (take (n + n + 128 + 2 + 256 - (n + n + 128 + 2)) (drop (n + n + 128 + 2) t))))
-      → b ≡ every isPropertyWord (take (n + (n - 64) - n) (drop n t))
-      → c ≡ (every isPropertyWord (take (n + n - (n + (n - 64))) (drop (n + (n - 64)) t)) && absentAreZero (take (n - (n - 64)) (drop (n - 64) t)) (take (n + n - (n + (n - 64))) (drop (n + (n - 64)) t)))
-      → (a && b && c) ≡ partsAreSound t
-  unfolding contextWords recordWords flowWords L N
-  parts-by n a b c e f g h =
-      let l : ℕ = lineTerminations (fitted t) in
-      let m : ℕ = terminations (fitted t) in
-      let e₁ : n - 0 ≡ m = omega arith in
-      let e₂ : n + n + 128 - (n + n) ≡ 128 = omega arith in
-      let e₃ : n + n ≡ m + m = omega arith in
-      let e₄ : n + (n - 64) - n ≡ l = omega arith in
-      let e₅ : n + n - (n + (n - 64)) ≡ 64 = omega arith in
-      let e₆ : n + (n - 64) ≡ m + l = omega arith in
-      let e₇ : n - (n - 64) ≡ 64 = omega arith in
-      let e₈ : n - 64 ≡ l = omega arith in
-      let e₉ : n + n + 128 + 2 + 256 - (n + n + 128 + 2) ≡ 256 = flows-cut n in
-      parts a b c (f ∙ rw (e₉, e₂, e₁, e₃)) (g ∙ rw (e₄, e)) (h ∙ rw (e₅, e₇, e₆, e₈))
-
+module _ (t : List ℕ) where
   pub sound-by : (x r m : Bool) → x ≡ sized t → x ≡ true → r ≡ partsAreSound t → m ≡ mapIsSound t → (r && m) ≡ sound t
   unfolding sound partsAreSound
   sound-by x r m e h k f = rw (k, f, ← e, h) (flows-last (every (λ w. leb w contexts) (contextWords t)) _ _ _ _ _)
@@ -368,9 +337,9 @@ module _ (t : List ℕ) where
   unsound x e h = rw (← e, h)
 
   -- the size, as the code tests it
-  pub sized-by : (n : ℕ) → n ≡ terminations (fitted t) → (leb 95 n && leb n 560 && eqb (length t) (n + n + 128 + 2 + 256)) ≡ sized t
+  pub sized-by : (n e : ℕ) → n ≡ terminations (fitted t) → e ≡ startOf (fitted t) 5 → (leb 95 n && leb n 560 && eqb (length t) e) ≡ sized t
   unfolding sized
-  sized-by n e = let m : ℕ = fitted t in rw (e, same-low m, same-high m)
+  sized-by n e p q = let m : ℕ = fitted t in rw (p, q, same-low m, same-high m)
 
   pub sized-facts : (x : Bool) → x ≡ sized t → x ≡ true → Sized t
   sized-facts x e h = sized-is t (sym e ∙ h)
@@ -434,37 +403,37 @@ same-part (x ∷ a) (y ∷ b) c d l = by (eqb x y) (same-part a b c d (omega (ar
     by false e = refl
 
 -- the words of the map have 32 bits
-two-narrow : (t : List ℕ) (a : ℕ) → a + 2 ≤ length t → getD t a 0 < 2 ^ 32 → getD t (a + 1) 0 < 2 ^ 32 → every (λ w. ltb w (2 ^ 32)) (take 2 (drop a t)) ≡ true
+two-narrow : (l : List ℕ) → length l ≡ 2 → getD l 0 0 < 2 ^ 32 → getD l 1 0 < 2 ^ 32 → every (λ w. ltb w (2 ^ 32)) l ≡ true
 unfolding every pick
-two-narrow t a l h k =
-    let m : getD t (suc a) 0 < 2 ^ 32 = rw (← add-one a) k in
-    let o : a < length t = omega arith in
-    let p : suc a < length t = omega arith in
-    rw (drop-cons t a 0 o, drop-cons t (suc a) 0 p, lt-ltb (getD t a 0) (2 ^ 32) h, lt-ltb (getD t (suc a) 0) (2 ^ 32) m)
+two-narrow [] e h k = absurd (omega (arith, e))
+two-narrow (x ∷ []) e h k = absurd (omega (arith, e))
+two-narrow (x ∷ y ∷ []) e h k = rw (lt-ltb x (2 ^ 32) h, lt-ltb y (2 ^ 32) k)
+two-narrow (x ∷ y ∷ z ∷ l) e h k = absurd (omega (arith, e))
 
-pub map-by : (t : List ℕ) (n u v : ℕ) (x y : Bool) → Sized t → n ≡ terminations (fitted t)
-    → u ≡ getD t (n + n + 128) 0 → v ≡ getD t (n + n + 128 + 1) 0 → u < 2 ^ 32 → v < 2 ^ 32
+pub map-by : (t : List ℕ) (n a u v : ℕ) (x y : Bool) → Sized t → n ≡ terminations (fitted t) → a ≡ startOf (fitted t) 3
+    → u ≡ getD t a 0 → v ≡ getD t (a + 1) 0 → u < 2 ^ 32 → v < 2 ^ 32
     → x ≡ same (digits 32 u) (marks (take (n - 32 - (n - 64)) (drop (n - 64) t))) → y ≡ same (digits 32 v) (marks (take (n - (n - 32)) (drop (n - 32) t)))
     → (x && y) ≡ mapIsSound t
-unfolding mapIsSound mapWords places L
-map-by t n u v x y s e p q h k f g =
-    let a : ℕ = mapStart (fitted t) in
+unfolding mapIsSound places
+map-by t n a u v x y s e o p q h k f g =
+    let b : ℕ = mapStart (fitted t) in
     let l : ℕ = lineTerminations (fitted t) in
-    let e₁ : n + n + 128 ≡ a = omega arith in
     let e₂ : n - 32 - (n - 64) ≡ 32 = omega arith in
     let e₃ : n - (n - 32) ≡ 32 = omega arith in
     let e₄ : n - 64 ≡ l = omega arith in
     let e₅ : n - 32 ≡ l + 32 = omega arith in
-    let u₁ : u ≡ getD t a 0 = p ∙ rw e₁ in
-    let v₁ : v ≡ getD t (a + 1) 0 = q ∙ rw e₁ in
-    let w : every (λ z. ltb z (2 ^ 32)) (take 2 (drop a t)) ≡ true = two-narrow t a (omega (arith, s .long)) (rw (← u₁) h) (rw (← v₁) k) in
+    let u₁ : u ≡ getD t b 0 = p ∙ rw o in
+    let v₁ : v ≡ getD t (b + 1) 0 = q ∙ rw o in
+    let low : getD (mapWords t) 0 0 ≡ u = map-region t .from 0 (omega arith) ∙ rw add-zero (sym u₁) in
+    let high : getD (mapWords t) 1 0 ≡ v = map-region t .from 1 (omega arith) ∙ sym v₁ in
+    let w : every (λ z. ltb z (2 ^ 32)) (mapWords t) ≡ true = two-narrow (mapWords t) (map-region t .long (s .long)) (rw low h) (rw high k) in
     let m : marks (ephemeralContexts t) ≡ marks (take 32 (drop l t)) ++ marks (take 32 (drop (l + 32) t)) =
     ap marks (ephemeral-contexts t) ∙ marks-part 32 32 (drop l t) ∙ ap (λ (z : List ℕ). marks (take 32 (drop l t)) ++ marks (take 32 z)) (drop-drop 32 l t) in
-    let d : length (digits 32 (getD t a 0)) ≡ length (marks (take 32 (drop l t))) =
-    length-digits 32 (getD t a 0) ∙ sym (length-marks (take 32 (drop l t)) ∙ long) in
-    let x₁ : x ≡ same (digits 32 (getD t a 0)) (marks (take 32 (drop l t))) = f ∙ rw (e₂, e₄, u₁) in
-    let y₁ : y ≡ same (digits 32 (getD t (a + 1) 0)) (marks (take 32 (drop (l + 32) t))) = g ∙ rw (e₃, e₅, v₁) in
-    rw (w, m, same-part _ _ (digits 32 (getD t (a + 1) 0)) (marks (take 32 (drop (l + 32) t))) d, x₁, y₁)
+    let d : length (digits 32 (getD t b 0)) ≡ length (marks (take 32 (drop l t))) =
+    length-digits 32 (getD t b 0) ∙ sym (length-marks (take 32 (drop l t)) ∙ long) in
+    let x₁ : x ≡ same (digits 32 (getD t b 0)) (marks (take 32 (drop l t))) = f ∙ rw (e₂, e₄, u₁) in
+    let y₁ : y ≡ same (digits 32 (getD t (b + 1) 0)) (marks (take 32 (drop (l + 32) t))) = g ∙ rw (e₃, e₅, v₁) in
+    rw (w, m, same-part _ _ (digits 32 (getD t (b + 1) 0)) (marks (take 32 (drop (l + 32) t))) d, x₁, y₁)
   where
     long : length (take 32 (drop (lineTerminations (fitted t)) t)) ≡ 32
     long = simp (length-take, length-drop) (omega (arith, s .long))

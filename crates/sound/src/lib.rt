@@ -5,8 +5,6 @@
 use table::CHANNELS;
 use table::CONTEXTS;
 use table::EPHEMERALS;
-use table::FLOWS;
-use table::MAP;
 use table::MOST;
 use table::MOST_TERMINATIONS;
 ghost use mathlib.Core.Path.{_≡_};
@@ -50,21 +48,22 @@ fn is_sized(table: &[u32]) -> bool
     let n = table::terminations(table);
     (FEWEST_TERMINATIONS <= n)
         & (n <= MOST_TERMINATIONS)
-        & (table.len() == n + n + CONTEXTS as usize + MAP + FLOWS)
+        & (table.len() == table::region_start(table, 5))
 }
 
 fn parts_are_sound(table: &[u32]) -> bool
     requires { ⌜ Sized (now table) ⌝ }
     ensures { λ r. ⌜ r ≡ partsAreSound (now (table .entry)) ⌝ }
 {
-    let n = table::terminations(table);
+    let n = table::region_start(table, 1);
     let first = n - EPHEMERALS as usize;
-    let records = n + n;
-    let flows = records + CONTEXTS as usize + MAP;
+    let records = table::region_start(table, 2);
+    let map = table::region_start(table, 3);
+    let flows = table::region_start(table, 4);
     contexts_are_sound(
         &table[0..n],
-        &table[records..records + CONTEXTS as usize],
-        &table[flows..flows + FLOWS],
+        &table[records..map],
+        &table[flows..table.len()],
     )
         & lines_are_sound(&table[n..n + first])
         & ephemerals_are_sound(&table[first..n], &table[n + first..records])
@@ -289,7 +288,7 @@ fn map_is_sound(table: &[u32]) -> bool
     let n = table::terminations(table);
     let first = n - EPHEMERALS as usize;
     let middle = n - 32;
-    let a = n + n + CONTEXTS as usize;
+    let a = table::region_start(table, 3);
     half_is_sound(&table[first..middle], table::word_at(table, a))
         & half_is_sound(&table[middle..n], table::word_at(table, a + 1))
 }

@@ -2,19 +2,18 @@
 use Prim.Native.Nat.{ℕ, zero, suc, _+_, _-_, _*_, _/_, _%_, _^_, _<_, _≤_}
 use mathlib.Core.Path.{_≡_, refl, sym, ap, _∙_}
 use mathlib.Core.Bool.{Bool, true, false}
-use mathlib.Core.List.{List, [], _∷_, _++_}
+use mathlib.Core.List.{List, _++_}
 use native.Mathlib.Omega.{arith}
-use native.Mathlib.Nat.{pow-succ', pow-zero, div-one, div-div-eq-div-mul, mod-eq-of-lt, lt-of-lt-of-le, le-refl}
-use lib.Pow.{pow-mono, pow-lt}
+use native.Mathlib.Nat.{pow-succ', div-one, div-div-eq-div-mul, mod-eq-of-lt}
+use lib.Pow.{pow-lt}
 use lib.ListN.{getD, set}
 use lib.Dec.{ltb, eqb}
-use lib.Count.{ones, onesIn, ones-step, trailingZeros, under}
-use borrow.Author.Tests.{lt-ltb, le-ltb, ltb-true, ltb-false, eq-eqb, ne-eqb}
+use lib.Count.{ones, ones-step, trailingZeros, under}
+use borrow.Author.Tests.{lt-ltb, le-ltb, ltb-true, ltb-false}
 use Rattle.base.specs.Pick.{pick}
 use Rattle.base.specs.Lists.{lowestAbsent}
 use Rattle.megaco.specs.Map.{digits, ofDigits, withDigit, inUse}
-use Rattle.megaco.specs.Table.{lineTerminations, terminations, mapStart, regions, fitted, used, cell, wordOf, address, write, store, places, freeEphemeral, usedEphemerals}
-use Rattle.megaco.proofs.Regions.{place-is}
+use Rattle.megaco.specs.Table.{lineTerminations, regions, startOf, place, fitted, used, cell, address, write, store, places, freeEphemeral, usedEphemerals}
 use Rattle.megaco.proofs.Places.{digits-back, digits-joined}
 
 -- ---- the lowest absent number
@@ -124,8 +123,8 @@ off (suc k) (suc b) w h l e =
     let q = off k b (w / 2) (omega arith) (omega arith) (rw half at e) in
     omega (arith, q)
 
-place : (b : ℕ) → b < 32 → 1 * 2 ^ b % 2 ^ 32 ≡ 2 ^ b
-place b h = let l : 1 * 2 ^ b < 2 ^ 32 = let k = pow-lt {i = b} {j = 32} h in omega arith in mod-eq-of-lt l ∙ omega arith
+shifted : (b : ℕ) → b < 32 → 1 * 2 ^ b % 2 ^ 32 ≡ 2 ^ b
+shifted b h = let l : 1 * 2 ^ b < 2 ^ 32 = let k = pow-lt {i = b} {j = 32} h in omega arith in mod-eq-of-lt l ∙ omega arith
 
 -- the four ways through the code, and the two bounds
 module _ (w b : ℕ) (on? : Bool) (h : w < 2 ^ 32) (l : b < 32) where
@@ -138,18 +137,18 @@ module _ (w b : ℕ) (on? : Bool) (h : w < 2 ^ 32) (l : b < 32) where
   still-off e t = rw t (keep 32 b w 0 h l (omega (arith, e)))
 
   pub within : w / 2 ^ b % 2 ≡ 1 → 1 * 2 ^ b % 2 ^ 32 ≤ w
-  within e = rw (place b l) (let q = off 32 b w h l e in omega (arith, q))
+  within e = rw (shifted b l) (let q = off 32 b w h l e in omega (arith, q))
 
   pub cleared : (r : ℕ) → w / 2 ^ b % 2 ≡ 1 → on? ≡ false → r ≡ w - 1 * 2 ^ b % 2 ^ 32 → r ≡ withDigit b (pick on? 1 0) w
   unfolding withDigit pick
-  cleared r e t p = p ∙ rw (t, place b l) (let q = off 32 b w h l e in omega (arith, q))
+  cleared r e t p = p ∙ rw (t, shifted b l) (let q = off 32 b w h l e in omega (arith, q))
 
   pub fits : (w / 2 ^ b % 2 ≡ 1 → ⊥) → w + 1 * 2 ^ b % 2 ^ 32 < 2 ^ 32
-  fits e = rw (place b l) (on 32 b w h l (omega (arith, e)) .0)
+  fits e = rw (shifted b l) (on 32 b w h l (omega (arith, e)) .0)
 
   pub put : (r : ℕ) → (w / 2 ^ b % 2 ≡ 1 → ⊥) → on? ≡ true → r ≡ w + 1 * 2 ^ b % 2 ^ 32 → r ≡ withDigit b (pick on? 1 0) w
   unfolding withDigit pick
-  put r e t p = p ∙ rw (t, place b l) (on 32 b w h l (omega (arith, e)) .1)
+  put r e t p = p ∙ rw (t, shifted b l) (on 32 b w h l (omega (arith, e)) .1)
 
 -- 0 and 1 are digits
 pub one-digit : (on? : Bool) → pick on? 1 0 % 2 ≡ pick on? 1 0
@@ -158,14 +157,14 @@ one-digit true = refl
 one-digit false = refl
 
 -- the word of a place, with the place set
-pub put-digit : (t u : List ℕ) (i k a w x : ℕ) (on? : Bool) → k ≡ i - lineTerminations (fitted t) → a ≡ mapStart (fitted t) + k / 32
+pub put-digit : (t u : List ℕ) (i k a w x : ℕ) (on? : Bool) → k ≡ i - lineTerminations (fitted t) → a ≡ place 3 (regions (fitted t)) (k / 32)
     → w ≡ getD t a 0 → x ≡ withDigit (k % 32) (pick on? 1 0) w → u ≡ set t a x → u ≡ store (write (cell (used i)) (pick on? 1 0)) t
 put-digit t u i k a w x on? p q e f g =
     let y : x ≡ withDigit (k % 32) (pick on? 1 0 % 2) (getD t a 0) = f ∙ rw (one-digit on?, e) in
-    let z : a ≡ address (fitted t) (cell (used i)) = q ∙ rw p (place-is 3 (regions (fitted t)) (wordOf (fitted t) (cell (used i)))) in
+    let z : a ≡ address (fitted t) (cell (used i)) = q ∙ rw p in
     g ∙ ap (set t a) y ∙ (λ j. set t (z j) (withDigit (p j % 32) (pick on? 1 0 % 2) (getD t (z j) 0)))
 
-pub map-by : (t : List ℕ) (n l h r : ℕ) → n ≡ terminations (fitted t) → l ≡ getD t (n + n + 128) 0 → h ≡ getD t (n + n + 128 + 1) 0
+pub map-by : (t : List ℕ) (a l h r : ℕ) → a ≡ startOf (fitted t) 3 → l ≡ getD t a 0 → h ≡ getD t (a + 1) 0
     → digits 64 r ≡ digits 32 l ++ digits 32 h → digits 64 r ≡ places t
 unfolding places
-map-by t n l h r e p q d = d ∙ rw (p, q, e)
+map-by t a l h r e p q d = d ∙ rw (p, q, e)

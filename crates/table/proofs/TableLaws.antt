@@ -4,31 +4,44 @@ use mathlib.Core.Path.{_≡_, refl, sym, ap, _∙_}
 use mathlib.Core.List.{List, [], _∷_}
 use mathlib.Core.Bool.{Bool, true, false}
 use native.Mathlib.Numerals.{add-one}
-use native.Mathlib.Nat.{zero-add, suc-add, sub-zero, zero-min, min-zero, suc-min-suc}
+use native.Mathlib.Nat.{zero-add, suc-add, sub-zero}
 use native.Mathlib.Omega.{arith}
-use lib.ListN.{length, getD, set, take, drop, length-take, drop-of-length-le, List·getD-eq-default}
-use lib.Seq.{drop-cons, set-out, take-nil}
+use lib.ListN.{length, getD, set, take, drop, drop-of-length-le, List·getD-eq-default}
+use lib.Seq.{drop-cons, set-out, take-nil, take-all}
 use lib.Dec.{eqb}
 use mir.Syntax.{w32}
 use mir.Val.{Fits, boolByte}
 use borrow.Author.Tests.{eq-eqb, ne-eqb}
 use Rattle.base.specs.Pick.{pick}
 use Rattle.base.specs.Lists.{count, lowestAbsent}
-use Rattle.megaco.specs.Table.{regions, place, flow, cell, lowFlow, highFlow, address, get, write, store, lineTerminations, terminations, fitted, contextWords, recordWords, known, members, placeIn, freeContext}
-use Rattle.megaco.proofs.Regions.{place-is}
+use Rattle.megaco.specs.Table.{regions, total, startOf, place, words, prop, flow, cell, lowFlow, highFlow, address, get, write, store, terminations, fitted, recordWords, known, members, placeIn, freeContext}
+use Rattle.megaco.proofs.Regions.{place-is, context-region, record-region, members-first, place-first}
 
 -- past the end stands 0, and nothing is stored there
 pub read-past : (t : List ℕ) (k : ℕ) → length t ≤ k → 0 ≡ getD t k 0
 read-past t k h = sym (List·getD-eq-default t 0 h)
 
-pub read-beyond : (t : List ℕ) (k i : ℕ) → length t ≤ i → 0 ≡ getD t (k + i) 0
-read-beyond t k i h = read-past t (k + i) (omega arith)
+pub read-beyond : (t : List ℕ) (i : ℕ) → length t ≤ i → 0 ≡ get t (cell (prop i))
+read-beyond t i h = read-past t (address (fitted t) (cell (prop i))) (omega (arith, place-is 1 (regions (fitted t)) i))
 
 pub store-past : (t : List ℕ) (k v : ℕ) → length t ≤ k → t ≡ set t k v
 store-past t k v h = sym (set-out t k v h)
 
-pub store-beyond : (t : List ℕ) (k i v : ℕ) → length t ≤ i → t ≡ set t (k + i) v
-store-beyond t k i v h = store-past t (k + i) v (omega arith)
+pub store-beyond : (t : List ℕ) (i v : ℕ) → length t ≤ i → t ≡ store (write (cell (prop i)) v) t
+store-beyond t i v h = store-past t (address (fitted t) (cell (prop i))) v (omega (arith, place-is 1 (regions (fitted t)) i))
+
+-- behind the last region the table ends
+pub end-start : (n k : ℕ) → ((((Unit {0} × (k ≡ 0 → ⊥)) × (k ≡ 1 → ⊥)) × (k ≡ 2 → ⊥)) × (k ≡ 3 → ⊥)) × (k ≡ 4 → ⊥) → words n ≡ startOf n k
+end-start n k o =
+    let h : length (regions n) ≤ k = omega (arith, o .1, o .0 .1, o .0 .0 .1, o .0 .0 .0 .1, o .0 .0 .0 .0 .1) in
+    ap total (sym (take-all k (regions n) h))
+
+pub start-by : (x n k r : ℕ) → x ≡ n → r ≡ startOf x k → r ≡ startOf n k
+start-by x n k r e h = h ∙ rw e
+
+-- a region's word stands behind its start
+pub word-stands : (n k i a : ℕ) → a ≡ startOf n k → a + i ≡ place k (regions n) i
+word-stands n k i a e = ap (λ (x : ℕ). x + i) e ∙ place-is k (regions n) i
 
 -- the next word of a region
 next-word : (k : ℕ) (rs : List ℕ) (i : ℕ) → place k rs i + 1 ≡ place k rs (i + 1)
@@ -93,31 +106,12 @@ absent-at-most n (x ∷ l) =
     let r : lowestAbsent (n + 1) l ≤ n + suc (length l) = omega (arith, absent-at-most (n + 1) l) in
     pick-at-most (eqb x 0) n (lowestAbsent (n + 1) l) (n + suc (length l)) (omega arith) r
 
--- a number that `lowestAbsent` gives of a short row fits a word
-short-fits : (r k : ℕ) (l : List ℕ) → r ≡ lowestAbsent 1 (take k l) → k ≤ 1000 → Fits w32 r
-short-fits r k l e h =
-    let s : r ≤ 1 + length (take k l) = omega (arith, e, absent-at-most 1 (take k l)) in
-    record { fits = omega (arith, length-take k l) }
-
 -- ---- parts of the table
-
--- the last of the first
-pub drop-take : (n m : ℕ) (l : List ℕ) → drop n (take (n + m) l) ≡ take m (drop n l)
-drop-take zero m l = rw zero-add
-drop-take (suc n) m [] = rw (take-nil, take-nil)
-drop-take (suc n) m (x ∷ l) = rw suc-add (drop-take n m l)
 
 -- a part that the code takes of a table with n terminations
 pub members-part : (t : List ℕ) (c n r : ℕ) → n ≡ terminations (fitted t) → r ≡ count c (take (n - 0) (drop 0 t)) → r ≡ members c t
-unfolding members contextWords
-members-part t c n r e h = h ∙ rw (sub-zero, e)
-
--- the first of the first
-take-first : (i n : ℕ) (l : List ℕ) → take i (take n l) ≡ take (min i n) l
-take-first zero n l = rw zero-min
-take-first (suc i) zero l = rw min-zero
-take-first (suc i) (suc n) [] = rw (suc-min-suc, take-nil)
-take-first (suc i) (suc n) (x ∷ l) = rw suc-min-suc (ap (λ (m : List ℕ). x ∷ m) (take-first i n l))
+unfolding members
+members-part t c n r e h = h ∙ ap (count c) (context-region t .cut 0 n refl e)
 
 count-part : (c n m : ℕ) (l : List ℕ) → count c (take (n + m) l) ≡ count c (take n l) + count c (take m (drop n l))
 unfolding count
@@ -128,14 +122,12 @@ count-part c (suc n) m (x ∷ l) = rw (suc-add, count-part c n m l) (omega arith
 -- two parts that the code takes, before number i and from it on
 module _ (t : List ℕ) (c i n k a : ℕ) (e : n ≡ terminations (fitted t)) (f : k ≡ min i n) (p : a ≡ count c (take (k - 0) (drop 0 t))) where
   pub place-part : known c ≡ true → a ≡ placeIn c i t
-  unfolding placeIn contextWords pick
-  place-part h = p ∙ rw (sub-zero, f, e, h, take-first i (terminations (fitted t)) t)
+  place-part h = p ∙ rw (sub-zero, f, e) (sym (place-first t c i h))
 
   pub both-parts : (b : ℕ) → b ≡ count c (take (n - k) (drop k t)) → a + b ≡ members c t
-  unfolding members contextWords
   both-parts b q =
       let s : k + (n - k) ≡ terminations (fitted t) = omega arith in
-      rw (p, sub-zero, q) (sym (count-part c k (n - k) t) ∙ rw s)
+      rw (p, sub-zero, q, members-first t c) (sym (count-part c k (n - k) t) ∙ rw s)
 
 pub known-yes : (x : Bool) (c : ℕ) → x ≡ known c → x ≡ true → known c ≡ true
 known-yes x c e h = sym e ∙ h
@@ -144,12 +136,12 @@ pub place-none : (t : List ℕ) (c i : ℕ) (x : Bool) → x ≡ known c → x �
 unfolding placeIn pick
 place-none t c i x e h = rw (← e, h)
 
-module _ (t : List ℕ) (n r : ℕ) (e : n ≡ terminations (fitted t)) where
-  -- the records
-  module _ (h : r ≡ lowestAbsent 1 (take (n + n + 128 - (n + n)) (drop (n + n) t))) where
-    pub records-fit : Fits w32 r
-    records-fit = short-fits r (n + n + 128 - (n + n)) (drop (n + n) t) h (omega arith)
+-- the records
+module _ (t : List ℕ) (a e r : ℕ) (p : a ≡ startOf (fitted t) 2) (q : e ≡ startOf (fitted t) 3) (h : r ≡ lowestAbsent 1 (take (e - a) (drop a t))) where
+  pub records-part : r ≡ freeContext t
+  unfolding freeContext
+  records-part = h ∙ ap (lowestAbsent 1) (record-region t .cut a e p q)
 
-    pub records-part : r ≡ freeContext t
-    unfolding freeContext recordWords
-    records-part = let m : n + n + 128 - (n + n) ≡ 128 = omega arith in h ∙ rw (m, e)
+  pub records-fit : Fits w32 r
+  unfolding freeContext
+  records-fit = record { fits = omega (arith, records-part, absent-at-most 1 (recordWords t), record-region t .few) }

@@ -1,13 +1,13 @@
 // The lent table, whose size tells the lines fitted, read and written by the number of a termination and by the number of a context.
 ghost use mathlib.Core.Path.{_≡_};
-ghost use Prim.Native.Nat.{_+_, _-_, _*_, _/_, _<_, _≤_};
+ghost use Prim.Native.Nat.{_+_, _-_, _*_, _/_, _^_, _<_, _≤_};
 ghost use mathlib.Core.Bool.{true};
 ghost use mathlib.Core.List.{_++_};
 ghost use lib.ListN.{length, getD, set};
 ghost use Rattle.base.specs.Pick.{pick};
 ghost use Rattle.base.specs.Lists.{count, lowestAbsent};
 ghost use Rattle.megaco.specs.Map.{digits, withDigit, inUse};
-ghost use Rattle.megaco.specs.Table.{lineTerminations, terminations, mapStart, fitted, Sized, prop, rec, used, flow, lowFlow, highFlow, ctx, cell, address, get, write, store, places, isEphemeral, exists, known, members, placeIn, freeContext, freeEphemeral, usedEphemerals};
+ghost use Rattle.megaco.specs.Table.{lineTerminations, terminations, regions, startOf, place, words, fitted, Sized, prop, rec, used, flow, lowFlow, highFlow, ctx, cell, address, get, write, store, places, isEphemeral, exists, known, members, placeIn, freeContext, freeEphemeral, usedEphemerals};
 
 // The most lines that can be fitted.
 pub const MOST_LINES: u32 = 16;
@@ -26,10 +26,10 @@ pub const MOST: usize = 8;
 pub const MOST_TERMINATIONS: usize = CHANNELS * MOST_LINES as usize + EPHEMERALS as usize;
 
 // The words of the map.
-pub const MAP: usize = 2;
+const MAP: usize = 2;
 
 // The words of the flows, two for each context.
-pub const FLOWS: usize = 2 * CONTEXTS as usize;
+const FLOWS: usize = 2 * CONTEXTS as usize;
 
 // The words of a table without lines, and those that each line adds.
 const NO_LINES: usize = 2 * EPHEMERALS as usize + CONTEXTS as usize + MAP + FLOWS;
@@ -55,7 +55,7 @@ pub fn lines(table: &[u32]) -> u32
     count_lines(table) as u32
 }
 
-// All terminations; their properties start at this word.
+// All terminations.
 pub fn terminations(table: &[u32]) -> usize
     ensures { λ r. ⌜ (r ≡ terminations (fitted (now (table .entry)))) × (2 * r ≤ 128 + length (now (table .entry))) ⌝ }
 {
@@ -67,6 +67,51 @@ pub fn line_terminations(lines: u32) -> usize
     ensures { λ r. ⌜ r ≡ lineTerminations lines ⌝ }
 {
     CHANNELS * lines as usize
+}
+
+// ---- regions: 0 the contexts, 1 the properties, 2 the records, 3 the map, 4 the flows; behind them the table ends
+
+// Where a region starts in a table of so many lines. No other function adds the regions' sizes.
+fn start_of(lines: usize, k: usize) -> usize
+    requires { ⌜ lines ≤ 2 ^ 57 ⌝ }
+    ensures { λ r. ⌜ (r ≡ startOf lines k) × (r ≤ words lines) ⌝ }
+{
+    let n = CHANNELS * lines + EPHEMERALS as usize;
+    match k {
+        0 => 0,
+        1 => n,
+        2 => n + n,
+        3 => n + n + CONTEXTS as usize,
+        4 => n + n + CONTEXTS as usize + MAP,
+        _ => n + n + CONTEXTS as usize + MAP + FLOWS,
+    }
+}
+
+pub fn start_by_lines(lines: u32, k: usize) -> usize
+    ensures { λ r. ⌜ r ≡ startOf lines k ⌝ }
+{
+    start_of(lines as usize, k)
+}
+
+pub fn region_start(table: &[u32], k: usize) -> usize
+    ensures { λ r. ⌜ (r ≡ startOf (fitted (now (table .entry))) k) × (r ≤ words 0 + length (now (table .entry))) ⌝ }
+{
+    start_of(count_lines(table), k)
+}
+
+// Where a region's word i stands.
+fn word_place(table: &[u32], k: usize, i: usize) -> usize
+    requires { ⌜ i ≤ 2 ^ 62 ⌝ }
+    ensures { λ r. ⌜ r ≡ place k (regions (fitted (now (table .entry)))) i ⌝ }
+{
+    region_start(table, k) + i
+}
+
+// The number of a context among the contexts, from 0 on.
+fn context_number(c: u32) -> usize
+    ensures { λ r. ⌜ r ≡ c - 1 ⌝ }
+{
+    if c == 0 { 0 } else { c as usize - 1 }
 }
 
 // ---- one word
@@ -91,12 +136,7 @@ pub fn put_word(table: &mut [u32], k: usize, v: u32)
 fn record_place(table: &[u32], c: u32) -> usize
     ensures { λ r. ⌜ r ≡ address (fitted (now (table .entry))) (cell (rec c)) ⌝ }
 {
-    let n = terminations(table);
-    if c == 0 {
-        n + n
-    } else {
-        n + (n + (c as usize - 1))
-    }
+    word_place(table, 2, context_number(c))
 }
 
 // ---- words by number
@@ -119,8 +159,8 @@ pub fn property_of(table: &[u32], i: usize) -> u32
     ensures { λ r. ⌜ r ≡ get (now (table .entry)) (cell (prop i)) ⌝ }
 {
     if i < table.len() {
-        let n = terminations(table);
-        word_at(table, n + i)
+        let k = word_place(table, 1, i);
+        word_at(table, k)
     } else {
         0
     }
@@ -130,8 +170,8 @@ pub fn set_property(table: &mut [u32], i: usize, word: u32)
     ensures { λ _. ⌜ now (table .exit) ≡ store (write (cell (prop i)) word) (now (table .entry)) ⌝ }
 {
     if i < table.len() {
-        let n = terminations(table);
-        put_word(table, n + i, word);
+        let k = word_place(table, 1, i);
+        put_word(table, k, word);
     }
 }
 
@@ -156,12 +196,7 @@ pub fn set_record(table: &mut [u32], c: u32, held: u32)
 fn flow_place(table: &[u32], c: u32) -> usize
     ensures { λ r. ⌜ r ≡ address (fitted (now (table .entry))) (cell (flow (lowFlow c))) ⌝ }
 {
-    let n = terminations(table);
-    if c == 0 {
-        n + (n + (CONTEXTS as usize + MAP))
-    } else {
-        n + (n + (CONTEXTS as usize + (MAP + 2 * (c as usize - 1))))
-    }
+    word_place(table, 4, 2 * context_number(c))
 }
 
 // Rows 0 to 3 of a context's flows.
@@ -225,8 +260,7 @@ fn joined(low: u32, high: u32) -> u64
 pub fn map_of(table: &[u32]) -> u64
     ensures { λ r. ⌜ digits 64 r ≡ places (now (table .entry)) ⌝ }
 {
-    let n = terminations(table);
-    let a = n + n + CONTEXTS as usize;
+    let a = region_start(table, 3);
     joined(word_at(table, a), word_at(table, a + 1))
 }
 
@@ -259,20 +293,12 @@ fn ephemeral_number(table: &[u32], i: usize) -> usize
     i - first
 }
 
-// Where the map's place of an ephemeral stands, k being its number.
-fn map_place(table: &[u32], k: usize) -> usize
-    ensures { λ r. ⌜ r ≡ mapStart (fitted (now (table .entry))) + k / 32 ⌝ }
-{
-    let n = terminations(table);
-    n + (n + (CONTEXTS as usize + k / 32))
-}
-
 // Marks an ephemeral in the map as existing or absent.
 pub fn set_used(table: &mut [u32], i: usize, on: bool)
     ensures { λ _. ⌜ now (table .exit) ≡ store (write (cell (used i)) (pick on 1 0)) (now (table .entry)) ⌝ }
 {
     let k = ephemeral_number(table, i);
-    let a = map_place(table, k);
+    let a = word_place(table, 3, k / 32);
     let w = word_at(table, a);
     put_word(table, a, with_digit(w, (k % 32) as u32, on));
 }
@@ -361,9 +387,8 @@ pub fn free_context(table: &[u32]) -> u32
     requires { ⌜ Sized (now table) ⌝ }
     ensures { λ r. ⌜ r ≡ freeContext (now (table .entry)) ⌝ }
 {
-    let n = terminations(table);
-    let a = n + n;
-    let e = a + CONTEXTS as usize;
+    let a = region_start(table, 2);
+    let e = region_start(table, 3);
     lowest_absent(&table[a..e]) as u32
 }
 

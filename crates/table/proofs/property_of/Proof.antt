@@ -8,7 +8,6 @@ property-of-spec =
     tie.close
     (tie.spec
     (λ c κs. search needs)
-    (λ c. search needs)
     (λ c κs. search needs)
     (λ c. cc)
     (λ c. search read-beyond))
