@@ -28,7 +28,7 @@
  * a caller sees. 1 had no number.
  *
  * What changes when words are added. The table grows at its end only: the words
- * told below keep their places and their meaning, CORDAFINA_TABLE_WORDS grows, and
+ * named below keep their places and their meaning, CORDAFINA_TABLE_WORDS grows, and
  * the new words have macros of their own. A program that uses the macros is
  * compiled again, and no more; a table that was kept by an older version is of
  * another length and is turned down (CORDAFINA_TABLE_UNSOUND), and so is one lent
@@ -161,9 +161,9 @@ extern "C" {
  * and the reply buffer.
  *
  * What the caller sees to. Contents, lengths and the count of lines need no
- * check beforehand: line noise, a trampled table, one of another count and a
+ * check beforehand: line noise, a damaged table, one of another count and a
  * short buffer are answered. But each pointer
- * must be that of a readable (table, reply: writable) area of the length told,
+ * must be that of a readable (table, reply: writable) area of the length given,
  * not null even where that is 0; the table is aligned as a uint32_t is; and
  * neither the table nor the reply overlaps any other of the four areas.
  *
@@ -231,7 +231,7 @@ static inline uint64_t cordafina_flows(uint32_t lines, const uint32_t *table, ui
 /*
  * Whether one termination hears another: 1 if both stand in one context and the
  * speaker flows to the listener, else 0. Each is given by its number, as
- * CORDAFINA_LINE and CORDAFINA_EPHEMERAL tell it; none hears itself.
+ * CORDAFINA_LINE and CORDAFINA_EPHEMERAL give it; none hears itself.
  */
 static inline int cordafina_hears(uint32_t lines, const uint32_t *table, size_t listener, size_t speaker)
 {

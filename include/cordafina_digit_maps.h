@@ -41,7 +41,7 @@ extern "C" {
  * Bits 0 to 7 of the result are the answer, bits 8 to 15 the timer, bits 16 to
  * 31 the refusal; with a refusal the rest is 0. 6 goes before 7. Contents and
  * lengths need no check beforehand. Each pointer must be that of a readable
- * area of the length told, not null even where that is 0. Nothing is kept and
+ * area of the length given, not null even where that is 0. Nothing is kept and
  * nothing is written; calls may run at the same time.
  */
 uint32_t cordafina_dial(const uint8_t *map, size_t map_len,

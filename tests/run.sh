@@ -40,8 +40,8 @@ without_archive() ( # a clone can be read and checked before anything is proved;
     export CARGO_TARGET_DIR=rust/target/without-archive CORDAFINA_LIB=rust/target/no.a RUSTDOCFLAGS="-D warnings"
     rust doc --no-deps -p cordafina || exit 1
     rust check --workspace --all-targets || exit 1
-    said=$(rust build -p call 2>&1) && { echo "a program was linked without the archive"; exit 1; }
-    [[ $said == *cordafina_is_missing__make_it_with__rt_staticlib_cordafina* ]] || { echo "$said"; exit 1; }
+    output=$(rust build -p call 2>&1) && { echo "a program was linked without the archive"; exit 1; }
+    [[ $output == *cordafina_is_missing__make_it_with__rt_staticlib_cordafina* ]] || { echo "$output"; exit 1; }
 )
 
 if [ ! -f "$archive" ]; then

@@ -120,15 +120,15 @@ static size_t most(size_t a, size_t b)
 }
 
 /* The most that was used by the call, the contexts and the questions about the map, and how many messages were answered. */
-static size_t call, told, asked, calls;
+static size_t by_call, by_contexts, by_questions, calls;
 
 static void message(const char *bytes, size_t count)
 {
     text = bytes;
     length = count;
-    call = most(call, used(answer));
-    told = most(told, used(contexts));
-    asked = most(asked, used(questions));
+    by_call = most(by_call, used(answer));
+    by_contexts = most(by_contexts, used(contexts));
+    by_questions = most(by_questions, used(questions));
     calls++;
 }
 
@@ -171,16 +171,16 @@ int main(int count, char **files)
             second = most(second, used(plain));
         }
     }
-    printf("stack: of %zu calls the deepest %zu bytes, contexts %zu, the map %zu, digit maps %zu, the plain matcher %zu;", calls, call, told,
-           asked, first, second);
+    printf("stack: of %zu calls the deepest %zu bytes, contexts %zu, the map %zu, digit maps %zu, the plain matcher %zu;", calls,
+           by_call, by_contexts, by_questions, first, second);
     printf(" %zu of each are this test's\n", base);
-    if (most(most(call, told), most(asked, first)) > CORDAFINA_STACK_BYTES || second > CORDAFINA_PLAIN_STACK_BYTES) {
+    if (most(most(by_call, by_contexts), most(by_questions, first)) > CORDAFINA_STACK_BYTES || second > CORDAFINA_PLAIN_STACK_BYTES) {
         printf("stack: FAILED, more than the %d bytes, for the plain matcher %d, that the headers say\n", CORDAFINA_STACK_BYTES,
                CORDAFINA_PLAIN_STACK_BYTES);
         return 1;
     }
     /* A test that sees nothing would pass. */
-    if (call < base + 2049 || calls < 2672) {
+    if (by_call < base + 2049 || calls < 2672) {
         printf("stack: FAILED, an action's buffer of 2,049 bytes was not seen, or some messages were not\n");
         return 1;
     }

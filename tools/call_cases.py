@@ -66,7 +66,7 @@ def total(numbers):
     return sum_
 
 
-def told(k, row):
+def row_text(k, row):
     reply, table = bytes.fromhex(row["reply"]), [0] * row["table_len"]
     for i, v in row["after"]:
         table[i] = v
@@ -212,7 +212,7 @@ def main():
     with open(os.path.join(crate, "stdin"), "wb") as f:
         f.write(b"".join(record(r) for r in taken))
     with open(os.path.join(crate, "stdout"), "wb") as f:
-        f.write(b"".join(told(k, r) for k, r in enumerate(taken, 1)))
+        f.write(b"".join(row_text(k, r) for k, r in enumerate(taken, 1)))
     shown = collections.Counter(m for r in taken for m in marks(r))
     for what in ("code", "refusal", "topology", "direction", "report", "wildcard", "lines", "table", "buffer"):
         print(what, " ".join("%s:%d" % (c.decode() if isinstance(c, bytes) else c, n) for (k, c), n in sorted(shown.items(), key=str) if k == what))

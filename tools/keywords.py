@@ -98,7 +98,7 @@ ghost use lib.ListN.{length};
 ghost use Rattle.base.specs.Lists.{same};
 ghost use Rattle.megaco.specs.Bytes.{capitals};
 ghost use Rattle.megaco.specs.Keywords.{page, formsOf, spells, meaningOf};
-ghost use Rattle.keywords.specs.Page.{rowOf, rowsOf, tokenAt, longOf, shortOf, told, meaningLater};
+ghost use Rattle.keywords.specs.Page.{rowOf, rowsOf, tokenAt, longOf, shortOf, tokenOf, meaningLater};
 use crate::KEYWORDS;
 use crate::Meaning;
 use crate::Row;
@@ -165,7 +165,7 @@ pub fn spells(k: Token, w: &[u8]) -> bool
 
 // What a row's keyword means.
 fn of(i: usize) -> Meaning
-    ensures { λ r. ⌜ told r ≡ some (tokenAt i) ⌝ }
+    ensures { λ r. ⌜ tokenOf r ≡ some (tokenAt i) ⌝ }
 {
     let r = row_at(i);
     let m = r.0;
@@ -177,13 +177,13 @@ fn of(i: usize) -> Meaning
 """
     for n, j, fs, more in reversed(list(pieces(rows))):
         out += "fn %s(w: &[u8]) -> Meaning\n" % name(n, j)
-        out += "    ensures { λ r. ⌜ told r ≡ meaningLater %d %d (now (w .entry)) ⌝ }\n{\n" % (n, j)
+        out += "    ensures { λ r. ⌜ tokenOf r ≡ meaningLater %d %d (now (w .entry)) ⌝ }\n{\n" % (n, j)
         for i, kind in fs:
             out += "    if is_%s(w, %d, %d) {\n        return of(%d);\n    }\n" % (kind, i, n, i)
         out += "    %s\n}\n\n" % ("%s(w)" % name(n, j + MOST) if more else "Meaning::Nothing")
     out += """// The meaning of the row that spells the word, letter case aside, or none.
 pub fn meaning_of(w: &[u8]) -> Meaning
-    ensures { λ r. ⌜ told r ≡ meaningOf (now (w .entry)) ⌝ }
+    ensures { λ r. ⌜ tokenOf r ≡ meaningOf (now (w .entry)) ⌝ }
 {
     let n = w.len();
 """
@@ -283,14 +283,14 @@ def proofs(rows):
     out["of"] = proof("of", ["Rattle.keywords.proofs.RowLaws.{of-row}"], "", [call, "(λ c. search of-row)"])
     for n, j, fs, more in pieces(rows):
         ret = "(λ c. rw (%s _) (search (pick-yes-by, pick-no-by) depth 20))" % law(n, j)
-        last = ret if more else "(λ c. unfold told in rw (%s _) (search (pick-yes-by, pick-no-by) depth 20))" % law(n, j)
+        last = ret if more else "(λ c. unfold tokenOf in rw (%s _) (search (pick-yes-by, pick-no-by) depth 20))" % law(n, j)
         out[name(n, j)] = proof(
             name(n, j),
             [
                 "mathlib.Core.Path.{refl}",
                 "Rattle.base.specs.Pick.{pick-yes-by, pick-no-by}",
                 "Rattle.megaco.specs.Keywords.{formsOf}",
-                "Rattle.keywords.specs.Page.{tokenAt, longOf, shortOf, told}",
+                "Rattle.keywords.specs.Page.{tokenAt, longOf, shortOf, tokenOf}",
                 "Rattle.keywords.proofs.LengthLaws.{%s}" % law(n, j),
             ],
             "",

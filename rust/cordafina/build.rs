@@ -36,7 +36,7 @@ fn main() {
     println!("cargo:rustc-link-lib=static:-bundle={name}");
 }
 
-/// A folder that cargo tells a build script.
+/// A folder that cargo names to a build script.
 fn folder(variable: &str) -> PathBuf {
     env::var_os(variable).map(PathBuf::from).expect(variable)
 }

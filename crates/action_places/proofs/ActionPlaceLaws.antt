@@ -1,6 +1,6 @@
 -- The parts and ends that are found are those of the tree told by position, in the form in which `search` uses them.
 use Prim.Native.Nat.{ℕ, suc, _+_, _-_, _<_, _≤_}
-use mathlib.Core.Path.{_≡_, sym, ap, _∙_}
+use mathlib.Core.Path.{_≡_, refl, sym, ap, _∙_}
 use mathlib.Core.Bool.{Bool, true, false}
 use mathlib.Core.List.{List}
 use native.Mathlib.Omega.{arith}
@@ -10,23 +10,17 @@ use Rattle.base.specs.Lists.{isAt, part}
 use Rattle.megaco.specs.Bytes.{comma, leftBrace, rightBrace, dash, dollar, star}
 use Rattle.megaco.specs.Keywords.{spells}
 use Rattle.megaco.specs.Tokens.{markAt, rowAt, terminationAt, numberAt}
-use Rattle.megaco.specs.Tree as tree
 use Rattle.megaco.specs.Tree.{priority, emergency, topology, Triple}
 use Rattle.megaco.specs.Reading.{unlimited, keyAt, isProperty, wordHere, senderAt}
-use Rattle.megaco.specs.declared.Parsed.{Parsed}
-use Rattle.megaco.specs.declared.Number.{Number}
-use Rattle.megaco.specs.declared.Number.the-variants.{Got, Bad}
-use Rattle.megaco.specs.declared.Class.the-variants.{WordByte}
-use Rattle.megaco.specs.declared.Context.the-variants.{Null, Numbered, Choose, All}
-use Rattle.megaco.specs.declared.Direction.{Direction}
-use Rattle.megaco.specs.declared.Property.the-variants.{Priority, Emergency, Topology}
-use Rattle.megaco.specs.declared.Token.the-variants.{CtxToken, EmergencyToken, TopologyToken}
+use Rattle.types.specs.Types.{Parsed, Next, Fault, Number, Got, Bad, WordByte, Null, Numbered, Choose, All, Direction, Priority, Emergency, Topology, CtxToken, EmergencyToken, TopologyToken}
 use Rattle.read_command.specs.declared.Piece.{Piece}
 use Rattle.read_command.specs.Pieces.{Holds}
 use Rattle.read_command.specs.declared.Rest.{Rest}
 use Rattle.read_command.specs.Places.{priorityAt, commandAt, commandsAt, contextStart, contextAt, bodyStart, directionOf, directionAt, partyAt, partyEnd, twoStart, directionStart, tripleAt, triplesStart, triplesAt, topologyAt, propertyAt, rest, restOf, restIn, bodyEnd, actionAt, actionsAt}
 use Rattle.read_command.specs.Messages.{braceAt, identifierAt, versionAt, actionsStart, closingEnd, transactionEnd, headerEnd}
-use Rattle.read_command.specs.Production.{endOf, valueIn, nextIn, pastWhite, pastSign, wordEnd, listEnd, listAfter, listP}
+use Rattle.read_command.specs.Production.{endOf, valueIn, nextIn, pastWhite, pastSign, wordEnd, listEnd, listP}
+use Rattle.command_places.specs.Found.{nextAt}
+use Rattle.command_places.proofs.NextLaws.{part-last, part-more}
 use Rattle.action_places.specs.declared.ContextPlaces.{ContextPlaces}
 use Rattle.action_places.specs.declared.ActionPlaces.{ActionPlaces}
 use Rattle.action_places.specs.declared.TriplePlaces.{TriplePlaces}
@@ -138,18 +132,6 @@ module _ (s : List ℕ) (at : ℕ) (x : Bool) (g : x ≡ spells EmergencyToken (
 
 -- ---- what a property is, by its kind
 
-pub kind-priority : (x : tree.Property) (n : ℕ) → kindOf x ≡ Priority n → x ≡ priority n
-unfolding kindOf
-kind-priority (priority m) n e = let z : m ≡ n = cc in ap priority z
-kind-priority emergency n e = cc
-kind-priority (topology ts) n e = cc
-
-pub kind-emergency : (x : tree.Property) → kindOf x ≡ Emergency → x ≡ emergency
-unfolding kindOf
-kind-emergency (priority m) e = cc
-kind-emergency emergency e = cc
-kind-emergency (topology ts) e = cc
-
 kind-pick : (x y : Bool) (ts : List Triple) (n : ℕ) → kindOf (pick x emergency (pick y (topology ts) (priority n))) ≡ Topology → pick x emergency (pick y (topology ts) (priority n)) ≡ topology ts
 unfolding kindOf pick
 kind-pick true y ts n e = cc
@@ -184,29 +166,20 @@ module _ (s : List ℕ) (n i : ℕ) (q : Rest) (inv : q ≡ restOf (length s + 1
     unfolding pick
     rest-commands f = sym (turn ∙ rw f)
 
-    module _ (t : z ≡ true) (p : PropertyPlaces) (e : p ≡ propertyPlaces s i) (x : Bool) (g : x ≡ isAt s (p .end) comma) where
+    module _ (t : z ≡ true) (p : PropertyPlaces) (e : p ≡ propertyPlaces s i) (x : Parsed) (g : x ≡ nextAt s (p .end)) where
       ends : p .end ≡ propertyAt s i .end
       unfolding propertyPlaces
       ends = ap (λ (y : PropertyPlaces). y .end) e
 
-      pub rest-last : x ≡ false → rest false (p .end) ≡ q
+      pub rest-last : x ≡ Fault → rest false (p .end) ≡ q
       unfolding pick
-      rest-last f = sym (turn ∙ rw (t, ← ends, ← g, f))
+      rest-last w = sym (turn ∙ rw (t, ← ends) (part-last s (p .end) (p .end) refl x g (restOf (length s + 1 - (n + 1)) s) (rest false (p .end)) w))
 
-      pub rest-more : (u : ℕ) → x ≡ true → u ≡ pastSign comma s (p .end) → q ≡ restOf (length s + 1 - (n + 1)) s u
+      pub rest-more : (u : ℕ) → x ≡ Next u → q ≡ restOf (length s + 1 - (n + 1)) s u
       unfolding pick
-      rest-more u f l = turn ∙ rw (t, ← ends, ← g, f, ← l)
+      rest-more u w = turn ∙ rw t (part-more s (p .end) (propertyAt s i .end) ends x g (restOf (length s + 1 - (n + 1)) s) (rest false (propertyAt s i .end)) u w)
 
 -- ---- ends
-
-module _ (end : ℕ → ℕ) (s : List ℕ) (k e : ℕ) (x : Bool) (g : x ≡ isAt s e comma) where
-  pub after-more : (p r : ℕ) → x ≡ true → p ≡ pastSign comma s e → r ≡ listEnd end s k p → r ≡ listAfter end s k e
-  unfolding listAfter pick
-  after-more p r t a b = b ∙ rw (← g, t, a)
-
-  pub after-none : x ≡ false → e ≡ listAfter end s k e
-  unfolding listAfter pick
-  after-none f = rw (← g, f)
 
 -- a body with commands
 pub body-commands : (s : List ℕ) (b : Rest) (r : ℕ) → b .commands ≡ true → r ≡ listP (commandAt s) s 64 (b .at) .end → r ≡ bodyEnd s b

@@ -10,6 +10,7 @@ use megaco::Class;
 use megaco::Context;
 use megaco::Direction;
 use megaco::Number;
+use megaco::Parsed;
 use megaco::Property;
 use megaco::Token;
 use read_command::Piece;
@@ -156,12 +157,12 @@ pub fn triples_end(s: &[u8], at: usize) -> usize
     let mut n = 0;
     while n <= s.len() {
         let e = triple_end(s, i);
-        if text::is_at(s, e, b',') {
-            i = command_places::past_comma(s, e);
-            n += 1;
-        } else {
+        let x = command_places::next_part(s, e);
+        let Parsed::Next(u) = x else {
             return e;
-        }
+        };
+        i = u;
+        n += 1;
     }
     i
 }
@@ -219,15 +220,15 @@ pub fn rest_of(s: &[u8], at: usize) -> Rest
         if read_action::property_here(s, i) {
             let p = property_places(s, i);
             let e = p.end;
-            if text::is_at(s, e, b',') {
-                i = command_places::past_comma(s, e);
-                n += 1;
-            } else {
+            let x = command_places::next_part(s, e);
+            let Parsed::Next(u) = x else {
                 return Rest {
                     commands: false,
                     at: e,
                 };
-            }
+            };
+            i = u;
+            n += 1;
         } else {
             return Rest {
                 commands: true,
@@ -258,12 +259,12 @@ fn commands_end(s: &[u8], most: usize, at: usize) -> usize
     let mut left = most;
     while 0 < left {
         let e = command_end(s, i);
-        if text::is_at(s, e, b',') {
-            i = command_places::past_comma(s, e);
-            left -= 1;
-        } else {
+        let x = command_places::next_part(s, e);
+        let Parsed::Next(u) = x else {
             return e;
-        }
+        };
+        i = u;
+        left -= 1;
     }
     i
 }
@@ -272,10 +273,11 @@ fn commands_end(s: &[u8], most: usize, at: usize) -> usize
 pub fn commands_after(s: &[u8], most: usize, e: usize) -> usize
     ensures { λ r. ⌜ r ≡ listAfter (λ j. commandAt (now (s .entry)) j .end) (now (s .entry)) most e ⌝ }
 {
-    if text::is_at(s, e, b',') {
-        return commands_end(s, most, command_places::past_comma(s, e));
-    }
-    e
+    let x = command_places::next_part(s, e);
+    let Parsed::Next(u) = x else {
+        return e;
+    };
+    commands_end(s, most, u)
 }
 
 // The end of what stands in an action's braces, behind its properties.
@@ -305,12 +307,12 @@ fn actions_end(s: &[u8], most: usize, at: usize) -> usize
     let mut left = most;
     while 0 < left {
         let e = action_end(s, i);
-        if text::is_at(s, e, b',') {
-            i = command_places::past_comma(s, e);
-            left -= 1;
-        } else {
+        let x = command_places::next_part(s, e);
+        let Parsed::Next(u) = x else {
             return e;
-        }
+        };
+        i = u;
+        left -= 1;
     }
     i
 }
@@ -319,10 +321,11 @@ fn actions_end(s: &[u8], most: usize, at: usize) -> usize
 pub fn actions_after(s: &[u8], most: usize, e: usize) -> usize
     ensures { λ r. ⌜ r ≡ listAfter (λ j. actionAt (now (s .entry)) j .end) (now (s .entry)) most e ⌝ }
 {
-    if text::is_at(s, e, b',') {
-        return actions_end(s, most, command_places::past_comma(s, e));
-    }
-    e
+    let x = command_places::next_part(s, e);
+    let Parsed::Next(u) = x else {
+        return e;
+    };
+    actions_end(s, most, u)
 }
 
 // ---- transactions

@@ -14,15 +14,9 @@ use Rattle.megaco.specs.Square.{Square, squareOf, ofBits, ofRows, lowOf, highOf
 use Rattle.megaco.specs.Table.{Write, write, ctx, cell, prop, rec, used, flow, lowFlow, highFlow, most, isEphemeral, store, apply}
 use Rattle.megaco.specs.Items.{update}
 use Rattle.megaco.specs.Attempt.{numberOf, isChoose, target, flowsOf, flowing, joining, leaving, placed, marking, added, subtracted, changes}
-use Rattle.megaco.specs.declared.Op.{Op}
-use Rattle.megaco.specs.declared.Op.the-variants.{Add, Modify, Subtract, Move, AuditValue}
-use Rattle.megaco.specs.declared.Context.{Context}
-use Rattle.megaco.specs.declared.Given.{Given}
-use Rattle.megaco.specs.declared.Given.the-variants.{Keep, To}
-use Rattle.megaco.specs.declared.Values.{Values}
-use Rattle.megaco.specs.declared.Seen.{Seen}
-use Rattle.megaco.specs.declared.View.{View}
-use Rattle.attempt.specs.Judging.{valueOr, Fair}
+use Rattle.types.specs.Types.{Op, Add, Modify, Subtract, Move, AuditValue, Context, Given, Keep, To, Values, Seen, View}
+use Rattle.types.specs.Ranges.{InRange}
+use Rattle.attempt.specs.Judging.{valueOr}
 
 -- ---- property words
 
@@ -30,7 +24,7 @@ value-small : (g : Given) (x m : ℕ) → valueOr g 0 ≤ m → valueOr g x ≤ 
 value-small Keep x m h = omega arith
 value-small (To y) x m h = omega arith
 
-module _ (vs : Values) (word a b : ℕ) (f : Fair vs) (e : a ≡ valueOr (vs .mode) (word % 8)) (d : b ≡ valueOr (vs .state) (word / 8)) where
+module _ (vs : Values) (word a b : ℕ) (f : InRange vs) (e : a ≡ valueOr (vs .mode) (word % 8)) (d : b ≡ valueOr (vs .state) (word / 8)) where
   pub state-fits : word < 4294967296 → Fits w32 (8 * b)
   state-fits h = record { fits = omega (arith, d, value-small (vs .state) (word / 8) 2 (f .state)) }
 

@@ -9,12 +9,7 @@ use borrow.Author.Tests.{eq-eqb, ne-eqb, le-leb, lt-leb}
 use Rattle.base.specs.Pick.{pick}
 use Rattle.megaco.specs.Table.{stateOf}
 use Rattle.megaco.specs.Attempt.{Check, check, judge, numberOf, roomChecks, checks}
-use Rattle.megaco.specs.declared.Op.{Op}
-use Rattle.megaco.specs.declared.Op.the-variants.{Add, Modify, Subtract, Move, AuditValue}
-use Rattle.megaco.specs.declared.Context.{Context}
-use Rattle.megaco.specs.declared.Checked.{Checked}
-use Rattle.megaco.specs.declared.Checked.the-variants.{Passes, Fails}
-use Rattle.megaco.specs.declared.View.{View}
+use Rattle.types.specs.Types.{Op, Add, Modify, Subtract, Move, AuditValue, Context, Checked, Passes, Fails, View}
 
 -- ---- the tests in turn
 

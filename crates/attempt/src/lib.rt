@@ -14,31 +14,21 @@ ghost use lib.Dec.{ltb};
 ghost use Rattle.megaco.specs.Square.{joined, parted};
 ghost use Rattle.megaco.specs.Table.{most, apply};
 ghost use Rattle.megaco.specs.Items.{update};
-ghost use Rattle.megaco.specs.Attempt.{judge, isChoose, target, roomChecks, checks, flowsOf, flowing, joining, leaving, placed, marking, added, subtracted, changes, settled};
-ghost use Rattle.attempt.specs.Judging.{valueOr, Fair};
+ghost use Rattle.megaco.specs.Attempt.{judge, target, roomChecks, checks, flowsOf, flowing, joining, leaving, placed, marking, added, subtracted, changes, settled};
+ghost use Rattle.types.specs.Ranges.{InRange};
+ghost use Rattle.attempt.specs.Judging.{valueOr};
 
 // ---- judging
 
-// The state that bars Move.
+// The state of a termination that may not be moved.
 const OUT_OF_SERVICE: u32 = 1;
-
-fn is_choose(at: Context) -> bool
-    ensures { λ r. ⌜ r ≡ isChoose at ⌝ }
-{
-    match at {
-        Context::Null => false,
-        Context::Numbered(_) => false,
-        Context::Choose => true,
-        Context::All => false,
-    }
-}
 
 // 412 and 434.
 fn judge_room(at: Context, view: View) -> Checked
     ensures { λ r. ⌜ r ≡ judge (roomChecks at view) ⌝ }
 {
     let there = view.there;
-    if is_choose(at) & (view.free == 0) {
+    if at.is_choose() & (view.free == 0) {
         return Checked::Fails(412);
     }
     if table::MOST <= there.members {
@@ -51,7 +41,7 @@ fn judge_room(at: Context, view: View) -> Checked
 pub fn judge_attempt(op: Op, at: Context, view: View) -> Checked
     ensures { λ r. ⌜ r ≡ judge (checks op at view) ⌝ }
 {
-    let c = attempt_view::number_of(at);
+    let c = at.number();
     match op {
         Op::Add => {
             if view.here != 0 {
@@ -96,10 +86,10 @@ pub fn judge_attempt(op: Op, at: Context, view: View) -> Checked
 fn target(at: Context, view: View) -> u32
     ensures { λ r. ⌜ r ≡ target at view ⌝ }
 {
-    if is_choose(at) {
+    if at.is_choose() {
         view.free
     } else {
-        attempt_view::number_of(at)
+        at.number()
     }
 }
 
@@ -107,7 +97,7 @@ fn target(at: Context, view: View) -> u32
 pub fn settled(at: Context, view: View) -> Context
     ensures { λ r. ⌜ r ≡ settled at view ⌝ }
 {
-    if is_choose(at) {
+    if at.is_choose() {
         Context::Numbered(view.free)
     } else {
         at
@@ -127,7 +117,7 @@ fn value_or(g: Given, x: u32) -> u32
 
 // A property word with the values given set in it.
 fn update(values: Values, word: u32) -> u32
-    requires { ⌜ Fair values ⌝ }
+    requires { ⌜ InRange values ⌝ }
     ensures { λ r. ⌜ r ≡ update values word ⌝ }
 {
     let mode = values.mode;
@@ -218,11 +208,11 @@ fn join_flows(table: &mut [u32], c: u32, there: Seen, place: usize)
 fn join(table: &mut [u32], at: Context, given: u32, view: View)
     ensures { λ _. ⌜ now (table .exit) ≡ apply (joining at given view []) (now (table .entry)) ⌝ }
 {
-    if is_choose(at) {
+    if at.is_choose() {
         table::set_record(table, view.free, given);
     } else {
         let there = view.there;
-        join_flows(table, attempt_view::number_of(at), there, view.into);
+        join_flows(table, at.number(), there, view.into);
     }
 }
 
@@ -265,7 +255,7 @@ pub fn change(
     values: Values,
     view: View,
 )
-    requires { ⌜ Fair values ⌝ }
+    requires { ⌜ InRange values ⌝ }
     ensures { λ _. ⌜ now (table .exit) ≡ apply (changes op at given i values view) (now (table .entry)) ⌝ }
 {
     match op {

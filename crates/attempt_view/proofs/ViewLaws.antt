@@ -13,11 +13,8 @@ use Rattle.megaco.specs.Table.{prop, rec, flow, ctx, cell, lowFlow, highFlow, g
 use Rattle.megaco.proofs.Regions.{context-region}
 use Rattle.megaco.specs.Attempt.{unseen, seen, numberOf, freeAt, look}
 use Rattle.megaco.specs.Command.{matchesFrom, matches}
-use Rattle.megaco.specs.declared.View.{View}
-use Rattle.megaco.specs.declared.Context.{Context}
-use Rattle.megaco.specs.declared.Op.{Op}
-use Rattle.megaco.specs.declared.Range.{Range}
-use Rattle.attempt_view.specs.Sight.{Finds}
+use Rattle.types.specs.Types.{View, Context, Op, Range}
+use Rattle.attempt_view.specs.Sight.{SeesContext}
 use Rattle.attempt_view.specs.declared.ContextSeen.{ContextSeen}
 use Rattle.attempt_view.specs.Noted.{isMatch, Noted, Matched}
 
@@ -25,18 +22,18 @@ use Rattle.attempt_view.specs.Noted.{isMatch, Noted, Matched}
 
 module _ (t : List ℕ) (c i : ℕ) where
   pub found-known : (r : ContextSeen) → known c ≡ true → r .place ≡ placeIn c i t → r .seen .held ≡ get t (cell (rec c)) → r .seen .members ≡ members c t
-      → r .seen .low ≡ get t (cell (flow (lowFlow c))) → r .seen .high ≡ get t (cell (flow (highFlow c))) → Finds c i t r
+      → r .seen .low ≡ get t (cell (flow (lowFlow c))) → r .seen .high ≡ get t (cell (flow (highFlow c))) → SeesContext c i t r
   unfolding seen pick
   found-known r h p e m l g = record { context = rw h (λ k. record { held = e k; members = m k; low = l k; high = g k }); order = p }
 
-  pub found-none : (x : Bool) → x ≡ known c → x ≡ false → Finds c i t (record { seen = unseen; place = 0 })
+  pub found-none : (x : Bool) → x ≡ known c → x ≡ false → SeesContext c i t (record { seen = unseen; place = 0 })
   unfolding seen placeIn pick
   found-none x e h = record { context = rw (← e, h); order = rw (← e, h) }
 
-pub found-same : (t : List ℕ) (c d i : ℕ) (r : ContextSeen) → Finds c i t r → c ≡ d → Finds d i t r
+pub found-same : (t : List ℕ) (c d i : ℕ) (r : ContextSeen) → SeesContext c i t r → c ≡ d → SeesContext d i t r
 found-same t c d i r f e = rw e at f
 
-pub looked : (t : List ℕ) (at : Context) (i c : ℕ) (v : View) (a b : ContextSeen) → c ≡ numberOf at → v .here ≡ get t (ctx i) → Finds c i t a → Finds (v .here) i t b
+pub looked : (t : List ℕ) (at : Context) (i c : ℕ) (v : View) (a b : ContextSeen) → c ≡ numberOf at → v .here ≡ get t (ctx i) → SeesContext c i t a → SeesContext (v .here) i t b
     → v .word ≡ get t (cell (prop i)) → v .free ≡ freeAt at t → v .lines ≡ fitted t → v .there ≡ a .seen → v .from ≡ b .seen → v .into ≡ a .place → v .out ≡ b .place
     → v ≡ look at i t
 unfolding look

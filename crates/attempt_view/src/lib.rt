@@ -9,34 +9,20 @@ ghost use Prim.Native.Nat.{_<_};
 ghost use lib.ListN.{length};
 ghost use mathlib.Core.Bool.{true};
 ghost use Rattle.megaco.specs.Table.{Sized, known};
-ghost use Rattle.megaco.specs.Attempt.{numberOf, freeAt, look};
+ghost use Rattle.megaco.specs.Attempt.{freeAt, look};
 ghost use Rattle.megaco.specs.Command.{wanted, matchesFrom, matches};
-ghost use Rattle.attempt_view.specs.Sight.{Finds};
+ghost use Rattle.attempt_view.specs.Sight.{SeesContext};
 ghost use Rattle.attempt_view.specs.Noted.{isMatch, Noted, Matched};
-
-// A context's number; null, `$` and `*` are 0.
-pub fn number_of(at: Context) -> u32
-    ensures { λ r. ⌜ r ≡ numberOf at ⌝ }
-{
-    match at {
-        Context::Null => 0,
-        Context::Numbered(c) => c,
-        Context::Choose => 0,
-        Context::All => 0,
-    }
-}
 
 // The lowest number absent, asked in `$` alone.
 fn free_at(table: &[u32], at: Context) -> u32
     requires { ⌜ Sized (now table) ⌝ }
     ensures { λ r. ⌜ r ≡ freeAt at (now (table .entry)) ⌝ }
 {
-    match at {
-        Context::Null => 0,
-        Context::Numbered(_) => 0,
-        Context::Choose => table::free_context(table),
-        Context::All => 0,
+    if at.is_choose() {
+        return table::free_context(table);
     }
+    0
 }
 
 // A context as it is seen, and the place of one termination among its members.
@@ -48,7 +34,7 @@ pub struct ContextSeen {
 // A context and the place of termination i in it; nothing where there can be no such context.
 fn find(table: &[u32], c: u32, i: usize) -> ContextSeen
     requires { ⌜ Sized (now table) ⌝ }
-    ensures { λ r. ⌜ Finds c i (now (table .entry)) r ⌝ }
+    ensures { λ r. ⌜ SeesContext c i (now (table .entry)) r ⌝ }
 {
     if table::is_known(c) {
         find_known(table, c, i)
@@ -65,7 +51,7 @@ fn find(table: &[u32], c: u32, i: usize) -> ContextSeen
 
 fn find_known(table: &[u32], c: u32, i: usize) -> ContextSeen
     requires { ⌜ (Sized (now table)) × (known c ≡ true) ⌝ }
-    ensures { λ r. ⌜ Finds c i (now (table .entry)) r ⌝ }
+    ensures { λ r. ⌜ SeesContext c i (now (table .entry)) r ⌝ }
 {
     let n = table::count_members(table, c, i);
     let s = Seen {
@@ -82,8 +68,8 @@ fn find_known(table: &[u32], c: u32, i: usize) -> ContextSeen
 
 // The same of context d, where it is not the one that was found already.
 fn find_other(table: &[u32], c: u32, found: ContextSeen, d: u32, i: usize) -> ContextSeen
-    requires { ⌜ (Sized (now table)) × (Finds c i (now table) found) ⌝ }
-    ensures { λ r. ⌜ Finds d i (now (table .entry)) r ⌝ }
+    requires { ⌜ (Sized (now table)) × (SeesContext c i (now table) found) ⌝ }
+    ensures { λ r. ⌜ SeesContext d i (now (table .entry)) r ⌝ }
 {
     if c == d {
         return found;
@@ -97,7 +83,7 @@ pub fn look(table: &[u32], at: Context, i: usize) -> View
     ensures { λ r. ⌜ r ≡ look at i (now (table .entry)) ⌝ }
 {
     let here = table::context_of(table, i);
-    let c = number_of(at);
+    let c = at.number();
     let there = find(table, c, i);
     let from = find_other(table, c, there, here, i);
     let word = table::property_of(table, i);
@@ -172,5 +158,5 @@ pub fn note_matches(table: &[u32], op: Op, at: Context, r: Range, out: &mut [u32
 {
     let n = table::terminations(table);
     let lines = table::lines(table);
-    note_row(lines, &table[0..n], op, number_of(at), r, out)
+    note_row(lines, &table[0..n], op, at.number(), r, out)
 }

@@ -12,20 +12,10 @@ use Rattle.megaco.specs.State.{State, wrote}
 use Rattle.megaco.specs.Reply.{Acted}
 use Rattle.megaco.specs.Topology.{Link, linksOf, triplesOf}
 use Rattle.megaco.specs.Attempt.{judge, checks, changes, seen, numberOf, look, concluded, effect, Effect}
-use Rattle.megaco.specs.Command.{Outcome, attempts, commandError, actionError, Targets, noTarget, gateway, targets, runTargets, opOf, forbiddenInNull, noContext, named, tested, unlessOptional, ordered, runCommand}
+use Rattle.megaco.specs.Command.{Outcome, attempts, commandError, actionError, Targets, noTarget, gateway, targets, runTargets, opOf, forbiddenInNull, noContext, fromTest4, fromTest2, unlessOptional, fromTest1, runCommand}
 use Rattle.megaco.specs.Action.{startChecks, startWrites, anyGiven, over15, startedBy, started}
 use Rattle.megaco.specs.Transaction.{Step, start, commandStep, commandSteps, noCommands, steps, Course, course, begin, advance, proceed, step, run, fresh, runTransaction}
-use Rattle.megaco.specs.declared.Context.{Context}
-use Rattle.megaco.specs.declared.Context.the-variants.{Null, Numbered, Choose, All}
-use Rattle.megaco.specs.declared.Op.{Op}
-use Rattle.megaco.specs.declared.Op.the-variants.{AuditValue}
-use Rattle.megaco.specs.declared.Judged.{Judged}
-use Rattle.megaco.specs.declared.Judged.the-variants.{Wrong, Right}
-use Rattle.megaco.specs.declared.Checked.{Checked}
-use Rattle.megaco.specs.declared.Checked.the-variants.{Passes, Fails}
-use Rattle.megaco.specs.declared.Values.{Values}
-use Rattle.megaco.specs.declared.Seen.{Seen}
-use Rattle.megaco.specs.declared.View.{View}
+use Rattle.types.specs.Types.{Context, Null, Numbered, Choose, All, Op, AuditValue, Judged, Wrong, Right, Checked, Passes, Fails, Values, Seen, View}
 use Rattle.audits.specs.Audits.{IsAudit, Stays, Audits, OnlyAudits, TransactionStays, no-more, more}
 
 -- ---- a command
@@ -54,21 +44,21 @@ targets-keep name given vs (noTarget code) at st = refl
 targets-keep name given vs gateway at st = refl
 targets-keep name given vs (targets wild is) at st = attempts-keep wild name given vs is at st
 
-named-keeps : (name : List ℕ) (given : ℕ) (items : Bool) (j : Judged) (at : Context) (st : State) → named AuditValue name given items j at st .state ≡ st
-unfolding named commandError
-named-keeps name given items (Wrong code) at st = refl
-named-keeps name given items (Right vs) at st = targets-keep name given vs _ at st
+test4-keeps : (name : List ℕ) (given : ℕ) (items : Bool) (j : Judged) (at : Context) (st : State) → fromTest4 AuditValue name given items j at st .state ≡ st
+unfolding fromTest4 commandError
+test4-keeps name given items (Wrong code) at st = refl
+test4-keeps name given items (Right vs) at st = targets-keep name given vs _ at st
 
-ordered-keeps : (o : Bool) (name : List ℕ) (items : Items) (given : ℕ) (at : Context) (st : State) → ordered o (some AuditValue) name items given at st .state ≡ st
-unfolding ordered actionError unlessOptional tested commandError
-ordered-keeps o name items given at st =
+test1-keeps : (o : Bool) (name : List ℕ) (items : Items) (given : ℕ) (at : Context) (st : State) → fromTest1 o (some AuditValue) name items given at st .state ≡ st
+unfolding fromTest1 actionError unlessOptional fromTest2 commandError
+test1-keeps o name items given at st =
     pick-of (λ (x : Outcome). x .state ≡ st) (forbiddenInNull AuditValue at) (λ _. refl)
-    (λ _. pick-of (λ (x : Outcome). x .state ≡ st) (noContext AuditValue at (seen (numberOf at) (st .table) .held)) (λ _. refl) (λ _. named-keeps name given _ _ at st))
+    (λ _. pick-of (λ (x : Outcome). x .state ≡ st) (noContext AuditValue at (seen (numberOf at) (st .table) .held)) (λ _. refl) (λ _. test4-keeps name given _ _ at st))
 
 pub stays : Stays
 unfolding runCommand
 stays (command o w word name items) e given at st =
-    subst (λ (op : Option Op). ordered o op name items given at st .state ≡ st) (sym e) (ordered-keeps o name items given at st)
+    subst (λ (op : Option Op). fromTest1 o op name items given at st .state ≡ st) (sym e) (test1-keeps o name items given at st)
 
 -- ---- a transaction
 

@@ -1,5 +1,5 @@
 pub mod Keeping
 pub mod Reporting
 pub mod Matching
-pub mod Telling
+pub mod ReadBack
 pub mod Theorems

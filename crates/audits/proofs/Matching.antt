@@ -20,11 +20,7 @@ use Rattle.megaco.specs.Items.{given?}
 use Rattle.megaco.specs.Reply.{Report, refused}
 use Rattle.megaco.specs.Attempt.{numberOf, seen, isChoose}
 use Rattle.megaco.specs.Command.{noContext, wanted, matchesFrom, matches, Targets, matchTargets, notForRoot, targetsOf, runTargets, commandError, opOf, runCommand}
-use Rattle.megaco.specs.declared.Context.{Context}
-use Rattle.megaco.specs.declared.Op.the-variants.{AuditValue}
-use Rattle.megaco.specs.declared.Range.{Range}
-use Rattle.megaco.specs.declared.Name.the-variants.{Wildcard}
-use Rattle.megaco.specs.declared.Values.{Values}
+use Rattle.types.specs.Types.{Context, AuditValue, Range, Wildcard, Values}
 use Rattle.laws.specs.Membership.{_∈_}
 use Rattle.laws.specs.Sound.{Whole}
 use Rattle.laws.proofs.Sound.{sound-whole, context-words, context-at}
@@ -151,9 +147,9 @@ reports-wild o w word name items vs given at st r s e l j n =
       matched = is;
       exactly = λ i. (in-covered r at t (W .long) i, covered-in r at t (W .long) i);
       ascending = matches-rise r at t (W .long);
-      reports = told same (wild-reports name given vs at st is (settled-place at _ l) (λ i m. in-covered r at t (W .long) i m .stands));
+      reports = same-reports same (wild-reports name given vs at st is (settled-place at _ l) (λ i m. in-covered r at t (W .long) i m .stands));
     }
   where
-    told : {rs xs ys : List Report} {is : List ℕ} → rs ≡ xs → (xs ≡ ys) ⊎ ((is ≡ []) × (xs ≡ refused AuditValue name 431 ∷ [])) → (rs ≡ ys) ⊎ ((is ≡ []) × (rs ≡ refused AuditValue name 431 ∷ []))
-    told q (inl p) = inl (q ∙ p)
-    told q (inr p) = inr (p .0, q ∙ p .1)
+    same-reports : {rs xs ys : List Report} {is : List ℕ} → rs ≡ xs → (xs ≡ ys) ⊎ ((is ≡ []) × (xs ≡ refused AuditValue name 431 ∷ [])) → (rs ≡ ys) ⊎ ((is ≡ []) × (rs ≡ refused AuditValue name 431 ∷ []))
+    same-reports q (inl p) = inl (q ∙ p)
+    same-reports q (inr p) = inr (p .0, q ∙ p .1)

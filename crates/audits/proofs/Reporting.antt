@@ -16,18 +16,8 @@ use Rattle.megaco.specs.Names.{nameOf, nameText}
 use Rattle.megaco.specs.Items.{given?, judgeItems}
 use Rattle.megaco.specs.Reply.{nothing, Report, done, refused, failed}
 use Rattle.megaco.specs.Attempt.{Check, check, judge, checks, seen, numberOf, look, isChoose, settled, detailOf, concluded, effect, Effect}
-use Rattle.megaco.specs.Command.{Outcome, attempts, commandError, actionError, Targets, noTarget, gateway, targets, isNull, isSubtract, inPlace, notForRoot, targetsOf, runTargets, opOf, forbiddenInNull, noContext, named, tested, unlessOptional, ordered, runCommand}
-use Rattle.megaco.specs.declared.Context.{Context}
-use Rattle.megaco.specs.declared.Context.the-variants.{Null, Numbered, Choose, All}
-use Rattle.megaco.specs.declared.Op.{Op}
-use Rattle.megaco.specs.declared.Op.the-variants.{AuditValue}
-use Rattle.megaco.specs.declared.Name.{Name}
-use Rattle.megaco.specs.declared.Name.the-variants.{Termination}
-use Rattle.megaco.specs.declared.Judged.{Judged}
-use Rattle.megaco.specs.declared.Judged.the-variants.{Wrong, Right}
-use Rattle.megaco.specs.declared.Checked.{Checked}
-use Rattle.megaco.specs.declared.Checked.the-variants.{Passes, Fails}
-use Rattle.megaco.specs.declared.Values.{Values}
+use Rattle.megaco.specs.Command.{Outcome, attempts, commandError, actionError, Targets, noTarget, gateway, targets, isNull, isSubtract, inPlace, notForRoot, targetsOf, runTargets, opOf, forbiddenInNull, noContext, fromTest4, fromTest2, unlessOptional, fromTest1, runCommand}
+use Rattle.types.specs.Types.{Context, Null, Numbered, Choose, All, Op, AuditValue, Name, Termination, Judged, Wrong, Right, Checked, Passes, Fails, Values}
 use Rattle.audits.specs.Audits.{IsAudit, heldReport, Honest, of-one, of-root, of-none, of-action, AllHonest, no-more, more, ReportsHeld, ReportsNamed, reportsOf}
 use Rattle.audits.proofs.Keeping.{effect-keeps}
 
@@ -90,22 +80,22 @@ targets-honest name given vs gateway at st n = more of-root no-more
 targets-honest name given vs (targets wild is) at st n =
     subst (AllHonest at (st .table)) (sym (attempts-report wild name given vs is at st n)) (all-honest wild name given vs at (st .table) is)
 
-named-honest : (name : List ℕ) (given : ℕ) (items : Bool) (j : Judged) (at : Context) (st : State) → isChoose at ≡ false → AllHonest at (st .table) (named AuditValue name given items j at st .reports)
-unfolding named commandError
-named-honest name given items (Wrong code) at st n = more (of-none name code) no-more
-named-honest name given items (Right vs) at st n = targets-honest name given vs _ at st n
+test4-honest : (name : List ℕ) (given : ℕ) (items : Bool) (j : Judged) (at : Context) (st : State) → isChoose at ≡ false → AllHonest at (st .table) (fromTest4 AuditValue name given items j at st .reports)
+unfolding fromTest4 commandError
+test4-honest name given items (Wrong code) at st n = more (of-none name code) no-more
+test4-honest name given items (Right vs) at st n = targets-honest name given vs _ at st n
 
-ordered-honest : (o : Bool) (name : List ℕ) (items : Items) (given : ℕ) (at : Context) (st : State) → AllHonest at (st .table) (ordered o (some AuditValue) name items given at st .reports)
-unfolding ordered actionError unlessOptional tested commandError
-ordered-honest o name items given at st =
+test1-honest : (o : Bool) (name : List ℕ) (items : Items) (given : ℕ) (at : Context) (st : State) → AllHonest at (st .table) (fromTest1 o (some AuditValue) name items given at st .reports)
+unfolding fromTest1 actionError unlessOptional fromTest2 commandError
+test1-honest o name items given at st =
     pick-of (λ (x : Outcome). AllHonest at (st .table) (x .reports)) (forbiddenInNull AuditValue at) (λ _. more (of-action 421) no-more)
     (λ _. pick-of (λ (x : Outcome). AllHonest at (st .table) (x .reports)) (noContext AuditValue at (seen (numberOf at) (st .table) .held)) (λ _. more (of-none name 411) no-more)
-    (λ l. named-honest name given _ _ at st (settled-place at _ l)))
+    (λ l. test4-honest name given _ _ at st (settled-place at _ l)))
 
 pub reports-held : ReportsHeld
 unfolding runCommand
 reports-held (command o w word name items) e given at st =
-    subst (λ (op : Option Op). AllHonest at (st .table) (ordered o op name items given at st .reports)) (sym e) (ordered-honest o name items given at st)
+    subst (λ (op : Option Op). AllHonest at (st .table) (fromTest1 o op name items given at st .reports)) (sym e) (test1-honest o name items given at st)
 
 -- ---- a command that comes to its attempts
 
@@ -121,7 +111,7 @@ pub targets-run : (o w : Bool) (word name : List ℕ) (items : Items) (vs : Valu
     → noContext AuditValue at (seen (numberOf at) (st .table) .held) ≡ false → judgeItems AuditValue items ≡ Right vs
     → runCommand (command o w word name items) given at st .reports
     ≡ runTargets AuditValue name given vs (targetsOf AuditValue at (notForRoot AuditValue (given? items) vs) (nameOf (fitted (st .table)) name) (st .table)) at st .reports
-unfolding runCommand ordered tested named unlessOptional pick
+unfolding runCommand fromTest1 fromTest2 fromTest4 unlessOptional pick
 targets-run o w word name items vs given at st e l j = rw (e, never-421 at, l, j)
 
 pub reports-named : ReportsNamed

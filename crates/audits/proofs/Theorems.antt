@@ -13,7 +13,7 @@ use Rattle.audits.specs.Audits.{Faulty, AsBefore, Trusted}
 use Rattle.audits.proofs.Keeping.{stays, transaction-stays}
 use Rattle.audits.proofs.Reporting.{reports-held, reports-named}
 use Rattle.audits.proofs.Matching.{reports-wild}
-use Rattle.audits.proofs.Telling.{texts-tell}
+use Rattle.audits.proofs.ReadBack.{texts-tell}
 
 not-run : (m : List ℕ) → Faulty m → (xs : List Transaction) → messageR m ≢ wellFormed xs
 not-run m (inl e) xs q = let z : _≡_ {A = ℕ} 0 1 = cc in omega arith

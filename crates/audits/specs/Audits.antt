@@ -17,12 +17,7 @@ use Rattle.megaco.specs.Attempt.{seen, numberOf, detailOf}
 use Rattle.megaco.specs.Command.{noContext, matches, opOf, runCommand}
 use Rattle.megaco.specs.Transaction.{runTransaction}
 use Rattle.megaco.specs.Call.{call}
-use Rattle.megaco.specs.declared.Context.{Context}
-use Rattle.megaco.specs.declared.Op.the-variants.{AuditValue}
-use Rattle.megaco.specs.declared.Range.{Range}
-use Rattle.megaco.specs.declared.Name.the-variants.{Termination, Wildcard}
-use Rattle.megaco.specs.declared.Judged.the-variants.{Right}
-use Rattle.megaco.specs.declared.Values.{Values}
+use Rattle.types.specs.Types.{Context, AuditValue, Range, Termination, Wildcard, Right, Values}
 use Rattle.laws.specs.Membership.{_∈_}
 
 -- a command that is AuditValue, without `W-`

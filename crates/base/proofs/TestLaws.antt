@@ -1,5 +1,5 @@
 -- What tests tell: a choice by a test, tests joined, lists found the same.
-use Prim.Native.Nat.{ℕ, zero, suc, _<_}
+use Prim.Native.Nat.{ℕ, zero, suc, _<_, _≤_}
 use mathlib.Core.Path.{_≡_, refl, sym}
 use mathlib.Core.Bool.{Bool, true, false, _&&_, _||_}
 use mathlib.Core.List.{List, [], _∷_}
@@ -8,6 +8,7 @@ use native.Mathlib.Nat.{eq-or-lt-of-le}
 use native.Mathlib.Omega.{arith}
 use lib.Dec.{eqb}
 use borrow.Author.Tests.{eqb-true, eqb-false}
+use mir.Val.{boolByte}
 use Rattle.base.specs.Pick.{pick}
 use Rattle.base.specs.Lists.{same}
 
@@ -90,3 +91,8 @@ below-at p zero i e h = absurd (omega arith)
 below-at p (suc n) i e h =
     let b = pick-both (p n) (below p n) e in
     ⊎-elim (λ l. rw l (b .0)) (λ l. below-at p n i (b .1) l) (eq-or-lt-of-le {n = i} {m = n} (omega arith))
+
+-- a test as a number
+pub bit-small : (b : Bool) → boolByte b ≤ 1
+bit-small true = omega arith
+bit-small false = omega arith

@@ -1,12 +1,11 @@
 // Recorded calls. The input has for each call a line of 36 bytes (six numbers of five digits: the bytes of the gateway's own mId,
-// the bytes of the message, the runs of words that are not 0, the lines told, the words of the table, the bytes of the reply buffer),
-// then the mId, the message, the runs (21 bytes each: from, to, word) and a line end. Each call is told in one line: its number, the
+// the bytes of the message, the runs of words that are not 0, the count of lines, the words of the table, the bytes of the reply buffer),
+// then the mId, the message, the runs (21 bytes each: from, to, word) and a line end. Each call has one line of output: its number, the
 // refusal or the reply's length and its bytes, the sum of the table and the sum of the whole buffer. tools/call_cases.py writes the
 // input and the output.
 use gateway::CallOutcome;
 use libc::STDIN_FILENO;
-use libc::STDOUT_FILENO;
-ghost use Prim.Native.Nat.{_<_, _≤_};
+ghost use Prim.Native.Nat.{_<_};
 ghost use mathlib.Core.Path.{_≡_};
 ghost use lib.ListN.{length};
 
@@ -29,18 +28,18 @@ fn run(room: &mut [u8], table: &mut [u32], reply: &mut [u8]) {
     }
 }
 
-// Reads one call and tells it; whether there was one.
+// Reads one call and prints its line; whether there was one.
 fn one(k: u64, room: &mut [u8], table: &mut [u32], reply: &mut [u8]) -> bool {
     let mut head = [0u8; 36];
     if io::read_full(STDIN_FILENO, &mut head) < 36 {
         return false;
     }
-    let own = number(&head[0..5]);
-    let message = own + number(&head[6..11]);
-    let runs = message + number(&head[12..17]) * 21;
-    let lines = number(&head[18..23]) as u32;
-    let words = number(&head[24..29]);
-    let buffer = number(&head[30..35]);
+    let own = program_io::number(&head);
+    let message = own + program_io::number(&head[6..]);
+    let runs = message + program_io::number(&head[12..]) * 21;
+    let lines = program_io::number(&head[18..]) as u32;
+    let words = program_io::number(&head[24..]);
+    let buffer = program_io::number(&head[30..]);
     if runs < room.len() {
         let e = runs + 1;
         if io::read_full(STDIN_FILENO, &mut room[0..e]) < e {
@@ -100,30 +99,8 @@ fn call(
 ) {
     prepare(table, reply, runs);
     let a = gateway::answer(lines, message, table, own, reply);
-    tell(k, a, reply);
-    sums(table, reply);
-}
-
-// ---- numbers
-
-// The number that five digits write.
-fn number(s: &[u8]) -> usize
-    requires { ⌜ length (now s) ≡ 5 ⌝ }
-    ensures { λ r. ⌜ r < 100000 ⌝ }
-{
-    digit(s[0]) * 10000 + digit(s[1]) * 1000 + digit(s[2]) * 100 + digit(s[3]) * 10 + digit(s[4])
-}
-
-fn digit(b: u8) -> usize
-    ensures { λ r. ⌜ r ≤ 9 ⌝ }
-{
-    if b < 48 {
-        return 0;
-    }
-    if 57 < b {
-        return 0;
-    }
-    (b - 48) as usize
+    print_outcome(k, a, reply);
+    print_sums(table, reply);
 }
 
 // ---- what is lent
@@ -131,7 +108,7 @@ fn digit(b: u8) -> usize
 // The table of the runs, and a buffer of bytes 170.
 fn prepare(table: &mut [u32], reply: &mut [u8], runs: &[u8]) {
     let n = table.len();
-    put_run(table, 0, n, 0);
+    program_io::put_run(table, 0, n, 0);
     put_runs(table, runs);
     let b = reply.len();
     fill(reply, b);
@@ -149,11 +126,11 @@ fn put_runs(table: &mut [u32], runs: &[u8]) {
 fn put_one(table: &mut [u32], s: &[u8])
     requires { ⌜ length (now s) ≡ 21 ⌝ }
 {
-    put_run(
+    program_io::put_run(
         table,
-        number(&s[0..5]),
-        number(&s[5..10]),
-        word(number(&s[10..15]), number(&s[15..20])),
+        program_io::number(s),
+        program_io::number(&s[5..]),
+        word(program_io::number(&s[10..]), program_io::number(&s[15..])),
     );
 }
 
@@ -162,15 +139,6 @@ fn word(high: usize, low: usize) -> u32
     requires { ⌜ (high < 100000) × (low < 100000) ⌝ }
 {
     ((high * 100000 + low) % 4294967296) as u32
-}
-
-// One word from a place up to another.
-fn put_run(table: &mut [u32], from: usize, to: usize, v: u32) {
-    let mut i = from;
-    while i < to {
-        table::put_word(table, i, v);
-        i += 1;
-    }
 }
 
 fn fill(reply: &mut [u8], n: usize) {
@@ -220,37 +188,28 @@ fn sum_bytes(reply: &[u8]) -> u32 {
 
 // ---- writing
 
-fn tell(k: u64, a: CallOutcome, reply: &[u8]) {
-    io::print_decimal(STDOUT_FILENO, k);
+fn print_outcome(k: u64, a: CallOutcome, reply: &[u8]) {
+    program_io::print_number(b"", k);
     match a {
-        CallOutcome::Taken(n) => say_reply(reply, n),
-        CallOutcome::MessageUnfit => say(b" refused 1"),
-        CallOutcome::TableUnsound => say(b" refused 2"),
-        CallOutcome::ReplyTooShort => say(b" refused 3"),
-        CallOutcome::MidUnfit => say(b" refused 4"),
-        CallOutcome::LinesUnfit => say(b" refused 8"),
+        CallOutcome::Taken(n) => print_reply(reply, n),
+        CallOutcome::MessageUnfit => program_io::print(b" refused 1"),
+        CallOutcome::TableUnsound => program_io::print(b" refused 2"),
+        CallOutcome::ReplyTooShort => program_io::print(b" refused 3"),
+        CallOutcome::MidUnfit => program_io::print(b" refused 4"),
+        CallOutcome::LinesUnfit => program_io::print(b" refused 8"),
     }
 }
 
-fn say_reply(reply: &[u8], n: usize) {
-    say_number(b" taken ", n as u64);
-    say(b" ");
+fn print_reply(reply: &[u8], n: usize) {
+    program_io::print_number(b" taken ", n as u64);
+    program_io::print(b" ");
     if n <= reply.len() {
-        say(&reply[0..n]);
+        program_io::print(&reply[0..n]);
     }
 }
 
-fn sums(table: &[u32], reply: &[u8]) {
-    say_number(b" ", sum_words(table) as u64);
-    say_number(b" ", sum_bytes(reply) as u64);
-    say(b"\n");
-}
-
-fn say(s: &[u8]) {
-    io::write_all(STDOUT_FILENO, s);
-}
-
-fn say_number(s: &[u8], n: u64) {
-    io::write_all(STDOUT_FILENO, s);
-    io::print_decimal(STDOUT_FILENO, n);
+fn print_sums(table: &[u32], reply: &[u8]) {
+    program_io::print_number(b" ", sum_words(table) as u64);
+    program_io::print_number(b" ", sum_bytes(reply) as u64);
+    program_io::print(b"\n");
 }

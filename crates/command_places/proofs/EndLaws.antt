@@ -1,16 +1,26 @@
 -- Where parts joined by commas end, from the place that was reached.
 use Prim.Native.Nat.{ℕ, suc, _+_, _*_, _-_, _<_, _≤_}
 use mathlib.Core.Path.{_≡_, refl, sym, _∙_}
-use mathlib.Core.Bool.{Bool, true, false}
 use mathlib.Core.List.{List}
 use native.Mathlib.Omega.{arith}
 use lib.ListN.{length}
-use Rattle.base.specs.Pick.{pick}
-use Rattle.base.specs.Lists.{isAt}
-use Rattle.megaco.specs.Bytes.{comma}
 use Rattle.megaco.specs.Reading.{unlimited}
-use Rattle.read_command.specs.Production.{pastSign, listEnd, listAfter}
+use Rattle.types.specs.Types.{Parsed, Next, Fault}
+use Rattle.read_command.specs.Production.{listEnd, listAfter}
 use Rattle.read_command.specs.Places.{itemAt, itemsAt}
+use Rattle.command_places.specs.Found.{nextAt}
+use Rattle.command_places.proofs.NextLaws.{part-last, part-more}
+
+-- ---- behind a part that ends at e
+
+module _ (end : ℕ → ℕ) (s : List ℕ) (k e : ℕ) (x : Parsed) (g : x ≡ nextAt s e) where
+  pub after-none : x ≡ Fault → e ≡ listAfter end s k e
+  unfolding listAfter
+  after-none w = sym (part-last s e e refl x g (listEnd end s k) e w)
+
+  pub after-more : (u r : ℕ) → x ≡ Next u → r ≡ listEnd end s k u → r ≡ listAfter end s k e
+  unfolding listAfter
+  after-more u r w l = l ∙ sym (part-more s e e refl x g (listEnd end s k) e u w)
 
 -- ---- at most k parts: q is the end of all
 
@@ -19,26 +29,24 @@ module _ (end : ℕ → ℕ) (s : List ℕ) (k i q : ℕ) (inv : q ≡ listEnd e
   unfolding listEnd
   end-none h = let z : k ≡ 0 = omega arith in sym (inv ∙ rw z)
 
-  module _ (h : 0 < k) (e : ℕ) (d : e ≡ end i) (x : Bool) (g : x ≡ isAt s e comma) where
-    end-turn : q ≡ pick x (listEnd end s (k - 1) (pastSign comma s e)) e
-    unfolding listEnd
+  module _ (h : 0 < k) (e : ℕ) (d : e ≡ end i) where
+    end-turn : q ≡ listAfter end s (k - 1) e
+    unfolding listEnd listAfter
     end-turn = let z : k ≡ suc (k - 1) = omega arith in by k (k - 1) z inv
       where
-        by : (a b : ℕ) → a ≡ suc b → q ≡ listEnd end s a i → q ≡ pick x (listEnd end s b (pastSign comma s e)) e
-        by a b z f = rw (g, d) (rw z at f)
+        by : (a b : ℕ) → a ≡ suc b → q ≡ listEnd end s a i → q ≡ listAfter end s b e
+        by a b z f = rw d (rw z at f)
 
-    pub end-last : x ≡ false → e ≡ q
-    unfolding pick
-    end-last f = sym (end-turn ∙ rw f)
+    -- the rest is passed over
+    pub end-after : (u : ℕ) → u ≡ listAfter end s (k - 1) e → u ≡ q
+    end-after u l = l ∙ sym end-turn
 
-    pub end-more : (u : ℕ) → x ≡ true → u ≡ pastSign comma s e → q ≡ listEnd end s (k - 1) u
-    unfolding pick
-    end-more u t l = end-turn ∙ rw (t, ← l)
+    module _ (x : Parsed) (g : x ≡ nextAt s e) where
+      pub end-last : x ≡ Fault → e ≡ q
+      end-last w = end-after e (after-none end s (k - 1) e x g w)
 
-  -- the rest is passed over
-  pub end-after : (e u : ℕ) → 0 < k → e ≡ end i → u ≡ listAfter end s (k - 1) e → u ≡ q
-  unfolding listAfter
-  end-after e u h d l = l ∙ sym (end-turn h e d (isAt s e comma) refl)
+      pub end-more : (u : ℕ) → x ≡ Next u → q ≡ listEnd end s (k - 1) u
+      end-more u w = end-turn ∙ sym (after-more end s (k - 1) e x g u _ w refl)
 
 -- ---- parts without a limit, of which n were passed
 
@@ -46,17 +54,17 @@ module _ (end : ℕ → ℕ) (s : List ℕ) (n i q : ℕ) (inv : q ≡ listEnd e
   pub all-end-none : length s < n → i ≡ q
   all-end-none h = let z : length s + 1 - n ≤ 0 = omega arith in end-none end s (length s + 1 - n) i q inv z
 
-  module _ (h : n ≤ length s) (e : ℕ) (d : e ≡ end i) (x : Bool) (g : x ≡ isAt s e comma) where
+  module _ (h : n ≤ length s) (e : ℕ) (d : e ≡ end i) (x : Parsed) (g : x ≡ nextAt s e) where
     some-left : 0 < length s + 1 - n
     some-left = omega arith
 
-    pub all-end-last : x ≡ false → e ≡ q
-    all-end-last f = end-last end s (length s + 1 - n) i q inv some-left e d x g f
+    pub all-end-last : x ≡ Fault → e ≡ q
+    all-end-last w = end-last end s (length s + 1 - n) i q inv some-left e d x g w
 
-    pub all-end-more : (u : ℕ) → x ≡ true → u ≡ pastSign comma s e → q ≡ listEnd end s (length s + 1 - (n + 1)) u
-    all-end-more u t l =
+    pub all-end-more : (u : ℕ) → x ≡ Next u → q ≡ listEnd end s (length s + 1 - (n + 1)) u
+    all-end-more u w =
         let z : length s + 1 - n - 1 ≡ length s + 1 - (n + 1) = omega arith in
-        rw (← z) (end-more end s (length s + 1 - n) i q inv some-left e d x g u t l)
+        rw (← z) (end-more end s (length s + 1 - n) i q inv some-left e d x g u w)
 
 -- ---- items
 

@@ -12,9 +12,7 @@ use Rattle.megaco.specs.Bytes.{equal, leftBrace, rightBrace, slash, quote}
 use Rattle.megaco.specs.Tokens.{rowAt, valueAt, terminationAt}
 use Rattle.megaco.specs.Tree.{plain, quoted}
 use Rattle.megaco.specs.Reading.{Read, valueOf, mayBeEmpty, prefixAt, prefixEnd}
-use Rattle.megaco.specs.declared.Parsed.{Parsed}
-use Rattle.megaco.specs.declared.Parsed.the-variants.{Next, Fault}
-use Rattle.megaco.specs.declared.Class.the-variants.{WordByte}
+use Rattle.types.specs.Types.{Parsed, Next, Fault, WordByte}
 use Rattle.read_command.specs.declared.Piece.{Piece}
 use Rattle.read_command.specs.Places.{orderStart, orderAt, bracesAt, auditAt, emptyAt, orNoneAt, itemAt, itemsAt, commandAt, secondAt, equalPlace, valueEnd, valueItemAt, headEnd, orderEnd, nameStart, nameEnd, commandHeadEnd}
 use Rattle.read_command.specs.Pieces.{Holds}
@@ -122,9 +120,9 @@ item-found s at w u q i p x b v ew ep ex eu eq ev eb ei =
 -- ---- a command that was found
 
 -- a prefix stands where its end is further on
-prefix-told : (b : ℕ) (s : List ℕ) (at o : ℕ) → o ≡ prefixEnd b s at → ltb at o ≡ prefixAt b s at
+prefix-law : (b : ℕ) (s : List ℕ) (at o : ℕ) → o ≡ prefixEnd b s at → ltb at o ≡ prefixAt b s at
 unfolding prefixEnd pick
-prefix-told b s at o e = rw e (by (prefixAt b s at))
+prefix-law b s at o e = rw e (by (prefixAt b s at))
   where
     by : (t : Bool) → ltb at (pick t (at + 2) at) ≡ t
     by true = lt-ltb at (at + 2) (omega arith)
@@ -132,7 +130,7 @@ prefix-told b s at o e = rw e (by (prefixAt b s at))
 
 pub marks-found : (s : List ℕ) (at o w : ℕ) → o ≡ prefixEnd 0x4f s at → w ≡ prefixEnd 0x57 s o → record { optional = ltb at o; wild = ltb o w; at = w } ≡ marksOf s at
 unfolding marksOf orderStart
-marks-found s at o w e f = rw (prefix-told 0x4f s at o e, prefix-told 0x57 s o w f, f, e)
+marks-found s at o w e f = rw (prefix-law 0x4f s at o e, prefix-law 0x57 s o w f, f, e)
 
 pub command-found : (s : List ℕ) (at e f p n z i : ℕ) (m : Marks) (word name : Piece) (x : Parsed) (b : Bool) → m ≡ marksOf s at → e ≡ rowAt WordByte s (m .at) → Holds s (m .at) e word
     → p ≡ pastWhite s e → n ≡ pastSign equal s p → x ≡ terminationAt s n → f ≡ endOf x → Holds s n f name → z ≡ pastWhite s f → b ≡ isAt s z leftBrace → i ≡ pastSign leftBrace s z

@@ -7,9 +7,10 @@ use mathlib.Core.Option.{Option, none, some}
 use lib.ListN.{length}
 use Rattle.base.specs.Pick.{pick}
 use Rattle.base.specs.Lists.{isAt, part}
-use Rattle.megaco.specs.Bytes.{equal, leftBrace, rightBrace, slash, quote}
+use Rattle.megaco.specs.Bytes.{comma, equal, leftBrace, rightBrace, slash, quote}
 use Rattle.megaco.specs.Tree.{Value, plain, quoted, ItemOf, item, Items, Command, command}
 use Rattle.megaco.specs.Reading.{prefixAt, prefixEnd}
+use Rattle.types.specs.Types.{Parsed, Next, Fault}
 use Rattle.read_command.specs.declared.Piece.{Piece}
 use Rattle.read_command.specs.Places.{orderStart, equalPlace, valueEnd, valueItemAt, headEnd, itemsAt, orderEnd, nameStart, nameEnd, commandHeadEnd}
 use Rattle.read_command.specs.Pieces.{pieceOf, Holds}
@@ -22,6 +23,10 @@ use Rattle.command_places.specs.declared.CommandPlaces.{CommandPlaces}
 -- the bytes of a part that was found
 abbrev pub bytesOf : List ℕ → Piece → List ℕ
 bytesOf s p = part s (p .from) (p .to)
+
+-- where the next of the parts joined by commas begins, if one follows the part that ends at e
+unfoldable pub nextAt : List ℕ → ℕ → Parsed
+nextAt s e = pick (isAt s e comma) (Next (pastSign comma s e)) Fault
 
 -- ---- items
 

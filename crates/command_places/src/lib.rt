@@ -5,7 +5,7 @@ ghost use Prim.Native.Nat.{_<_};
 ghost use Rattle.megaco.specs.Bytes.{comma, leftBrace, rightBrace};
 ghost use Rattle.read_command.specs.Production.{endOf, pastWhite, pastSign};
 ghost use Rattle.read_command.specs.Places.{secondAt, itemAt, itemsAt};
-ghost use Rattle.command_places.specs.Found.{OfValue, OfItem, marksOf, OfCommand, commandEndFrom};
+ghost use Rattle.command_places.specs.Found.{nextAt, OfValue, OfItem, marksOf, OfCommand, commandEndFrom};
 use megaco::Class;
 use megaco::Parsed;
 use read_command::Piece;
@@ -87,6 +87,16 @@ pub fn past_closing(s: &[u8], at: usize) -> usize
     ensures { λ r. ⌜ r ≡ pastSign rightBrace (now (s .entry)) at ⌝ }
 {
     past_sign(s, at, b'}')
+}
+
+// Where the next of the parts joined by commas begins, if one follows the part that ends here.
+pub fn next_part(s: &[u8], e: usize) -> Parsed
+    ensures { λ r. ⌜ r ≡ nextAt (now (s .entry)) e ⌝ }
+{
+    if text::is_at(s, e, b',') {
+        return Parsed::Next(past_comma(s, e));
+    }
+    Parsed::Fault
 }
 
 // ---- items
@@ -174,12 +184,12 @@ fn items_end(s: &[u8], left: usize, at: usize) -> usize
     let mut n = 0;
     while n <= s.len() {
         let e = item_end(s, left - 1, i);
-        if text::is_at(s, e, b',') {
-            i = past_comma(s, e);
-            n += 1;
-        } else {
+        let x = next_part(s, e);
+        let Parsed::Next(u) = x else {
             return e;
-        }
+        };
+        i = u;
+        n += 1;
     }
     i
 }

@@ -3,37 +3,28 @@ use Prim.Native.Nat.{ℕ}
 use mathlib.Core.Path.{_≡_, refl, ap, _∙_, subst}
 use mathlib.Core.List.{List}
 use mathlib.Core.Option.{Option, none, some}
-use mathlib.Core.Bool.{Bool, true, false, _&&_}
-use lib.Dec.{ltb, leb}
+use mathlib.Core.Bool.{Bool, true, false}
 use Rattle.base.specs.Pick.{pick}
-use Rattle.megaco.specs.Table.{fitted, known, rec, cell, get, contexts}
+use Rattle.megaco.specs.Table.{fitted, known, rec, cell, get}
 use Rattle.megaco.specs.State.{State, state}
 use Rattle.megaco.specs.Names.{nameOf}
 use Rattle.megaco.specs.Attempt.{seen, numberOf}
-use Rattle.megaco.specs.Command.{opOf, commandError, targetsOf, runTargets, notForRoot, named}
+use Rattle.megaco.specs.Command.{opOf, commandError, targetsOf, runTargets, notForRoot, fromTest4}
 use Rattle.megaco.specs.Keywords.{isToken, meaningOf}
 use Rattle.megaco.proofs.Meanings.{spells-means, spells-none}
-use Rattle.keywords.proofs.RowLaws.{told-some, told-none}
-use Rattle.keywords.specs.Page.{told}
+use Rattle.keywords.proofs.RowLaws.{token-some, token-none}
+use Rattle.keywords.specs.Page.{tokenOf}
 use Rattle.keywords.specs.declared.Meaning.{Meaning}
 use Rattle.keywords.specs.declared.Meaning.the-variants.{Of, Nothing}
-use Rattle.megaco.specs.declared.Token.{Token}
-use Rattle.megaco.specs.declared.Token.the-variants.{AddToken, ModifyToken, SubtractToken, MoveToken, AuditValueToken}
-use Rattle.megaco.specs.declared.Context.{Context}
-use Rattle.megaco.specs.declared.Op.{Op}
-use Rattle.megaco.specs.declared.Op.the-variants.{Add, Modify, Subtract, Move, AuditValue}
-use Rattle.megaco.specs.declared.Judged.{Judged}
-use Rattle.megaco.specs.declared.Judged.the-variants.{Wrong, Right}
-use Rattle.megaco.specs.declared.Values.{Values}
-use Rattle.megaco.specs.declared.Name.{Name}
-use Rattle.attempt.specs.Judging.{Fair}
+use Rattle.types.specs.Types.{Token, AddToken, ModifyToken, SubtractToken, MoveToken, AuditValueToken, Context, Op, Add, Modify, Subtract, Move, AuditValue, Judged, Wrong, Right, Values, Name}
+use Rattle.types.specs.Ranges.{InRange, JudgedInRange, right}
 use Rattle.targets.specs.Targets.{targetOf, targetsIn}
 use Rattle.targets.proofs.TargetLaws.{target-is}
 use Rattle.targets.specs.declared.Target.{Target}
-use Rattle.run_attempts.specs.Contract.{Did, CommandFailed}
+use Rattle.run_attempts.specs.Contract.{RunsTo, CommandFailed}
 use Rattle.run_attempts.specs.declared.Turn.{Turn}
-use Rattle.run_attempts.specs.declared.Went.{Went}
-use Rattle.command_tests.specs.CommandTests.{foundOf, opBy, heldAt, FairJudged}
+use Rattle.run_attempts.specs.declared.CommandOutcome.{CommandOutcome}
+use Rattle.command_tests.specs.CommandTests.{foundOf, opBy, heldAt}
 use Rattle.command_tests.specs.declared.Found.{Found}
 use Rattle.command_tests.specs.declared.Found.the-variants.{Built, Unbuilt}
 
@@ -57,57 +48,60 @@ op-any k = by (isToken AddToken k) (isToken ModifyToken k) (isToken SubtractToke
     by false false false false true = refl
     by false false false false false = refl
 
-module _ (wild : Bool) (w : List ℕ) (m : Meaning) (e : wild ≡ false) (h : told m ≡ meaningOf w) where
+module _ (wild : Bool) (w : List ℕ) (m : Meaning) (e : wild ≡ false) (h : tokenOf m ≡ meaningOf w) where
   pub op-of-token : (k : Token) (r : Found) → m ≡ Of k → r ≡ opBy k → foundOf r ≡ opOf wild w
   unfolding opOf
   op-of-token k r g q =
-      let z : meaningOf w ≡ some k = told-some w m k h g in
+      let z : meaningOf w ≡ some k = token-some w m k h g in
       rw (e, q, spells-means AddToken k w z, spells-means ModifyToken k w z, spells-means SubtractToken k w z, spells-means MoveToken k w z, spells-means AuditValueToken k w z) (op-any k)
 
   pub op-of-none : m ≡ Nothing → foundOf Unbuilt ≡ opOf wild w
   unfolding opOf foundOf pick
   op-of-none g =
-      let z : meaningOf w ≡ none = told-none w m h g in
+      let z : meaningOf w ≡ none = token-none w m h g in
       rw (e, spells-none AddToken w z, spells-none ModifyToken w z, spells-none SubtractToken w z, spells-none MoveToken w z, spells-none AuditValueToken w z)
 
 -- ---- the record of the action's context
 
-module _ (t : List ℕ) (n : ℕ) where
-  seen-known : (ltb 0 n && leb n contexts) ≡ true → get t (cell (rec n)) ≡ seen n t .held
-  unfolding seen known pick
-  seen-known h = rw h
+module _ (t : List ℕ) (n : ℕ) (x : Bool) (k : x ≡ known n) where
+  seen-known : x ≡ true → get t (cell (rec n)) ≡ seen n t .held
+  unfolding seen pick
+  seen-known h = rw (← k, h)
 
-  seen-none : (ltb 0 n && leb n contexts) ≡ false → 0 ≡ seen n t .held
-  unfolding seen known pick
-  seen-none h = rw h
+  seen-none : x ≡ false → 0 ≡ seen n t .held
+  unfolding seen pick
+  seen-none h = rw (← k, h)
 
-module _ (at : Context) (t : List ℕ) (n : ℕ) (e : n ≡ numberOf at) where
-  pub held-known : (r : ℕ) → (ltb 0 n && leb n contexts) ≡ true → r ≡ get t (cell (rec n)) → r ≡ heldAt at t
+module _ (at : Context) (t : List ℕ) (n : ℕ) (x : Bool) (e : n ≡ numberOf at) (k : x ≡ known n) where
+  pub held-known : (r : ℕ) → x ≡ true → r ≡ get t (cell (rec n)) → r ≡ heldAt at t
   unfolding heldAt
-  held-known r h q = q ∙ seen-known t n h ∙ ap (λ (m : ℕ). seen m t .held) e
+  held-known r h q = q ∙ seen-known t n x k h ∙ ap (λ (m : ℕ). seen m t .held) e
 
-  pub held-none : (ltb 0 n && leb n contexts) ≡ false → 0 ≡ heldAt at t
+  pub held-none : x ≡ false → 0 ≡ heldAt at t
   unfolding heldAt
-  held-none h = seen-none t n h ∙ ap (λ (m : ℕ). seen m t .held) e
+  held-none h = seen-none t n x k h ∙ ap (λ (m : ℕ). seen m t .held) e
 
 -- ---- a command's tests
 
 module _ (op : Op) (name : List ℕ) (items : Bool) (given : ℕ) (at : Context) (first : Bool) (t o : List ℕ) (p : ℕ) (t′ : State) (o′ : List ℕ) where
-  pub named-targets : (vs : Values) (k : ℕ) (n : Name) (b : Bool) (x : Target) (w : Went) → k ≡ fitted t → n ≡ nameOf k name → b ≡ notForRoot op items vs → x ≡ targetOf op at b n t
-      → Did (runTargets op name given vs (targetsIn x op at t) at (state t)) first o p t′ o′ w → Did (named op name given items (Right vs) at (state t)) first o p t′ o′ w
-  unfolding named
+  pub named-targets : (vs : Values) (k : ℕ) (n : Name) (b : Bool) (x : Target) (w : CommandOutcome) → k ≡ fitted t → n ≡ nameOf k name → b ≡ notForRoot op items vs → x ≡ targetOf op at b n t
+      → RunsTo (runTargets op name given vs (targetsIn x op at t) at (state t)) first o p t′ o′ w → RunsTo (fromTest4 op name given items (Right vs) at (state t)) first o p t′ o′ w
+  unfolding fromTest4
   named-targets vs k n b x w l e g f d =
-      subst (λ (a : Rattle.megaco.specs.Command.Targets). Did (runTargets op name given vs a at (state t)) first o p t′ o′ w)
+      subst (λ (a : Rattle.megaco.specs.Command.Targets). RunsTo (runTargets op name given vs a at (state t)) first o p t′ o′ w)
       (ap (λ (y : Target). targetsIn y op at t) f ∙ target-is op at t b n ∙ ap (λ (m : Name). targetsOf op at b m t) (e ∙ ap (λ (j : ℕ). nameOf j name) l) ∙ ap (λ (z : Bool). targetsOf op at z (nameOf (fitted t) name) t) g) d
 
-  pub judged-right : (j : Judged) (vs : Values) (w : Went) → j ≡ Right vs → Did (named op name given items (Right vs) at (state t)) first o p t′ o′ w
-      → Did (named op name given items j at (state t)) first o p t′ o′ w
+  pub judged-right : (j : Judged) (vs : Values) (w : CommandOutcome) → j ≡ Right vs → RunsTo (fromTest4 op name given items (Right vs) at (state t)) first o p t′ o′ w
+      → RunsTo (fromTest4 op name given items j at (state t)) first o p t′ o′ w
   judged-right j vs w e d = rw e d
 
-pub judged-wrong : (op : Op) (name : List ℕ) (items : Bool) (turn : Turn) (t : State) (o o′ : List ℕ) (j : Judged) (code : ℕ) (w : Went) → j ≡ Wrong code → CommandFailed op name code turn o o′ w
-    → Did (named op name (turn .given) items j (turn .at) t) (turn .first) o (turn .next) t o′ w
-unfolding named commandError
+pub judged-wrong : (op : Op) (name : List ℕ) (items : Bool) (turn : Turn) (t : State) (o o′ : List ℕ) (j : Judged) (code : ℕ) (w : CommandOutcome) → j ≡ Wrong code → CommandFailed op name code turn o o′ w
+    → RunsTo (fromTest4 op name (turn .given) items j (turn .at) t) (turn .first) o (turn .next) t o′ w
+unfolding fromTest4 commandError
 judged-wrong op name items turn t o o′ j code w e m = rw e (record { state = refl; text = m .text; place = m .place; going = m .going })
 
-pub fair-right : (j : Judged) (vs : Values) → j ≡ Right vs → FairJudged j → Fair vs
-fair-right j vs e f = rw e at f
+pub right-in-range : (j : Judged) (vs : Values) → j ≡ Right vs → JudgedInRange j → InRange vs
+right-in-range j vs e f = by (rw e at f)
+  where
+    by : JudgedInRange (Right vs) → InRange vs
+    by (right g) = g

@@ -5,14 +5,7 @@ use mathlib.Core.Option.{Option, none, some}
 use Rattle.base.specs.Pick.{pick}
 use Rattle.megaco.specs.Keywords.{isToken}
 use Rattle.megaco.specs.Attempt.{seen, numberOf}
-use Rattle.megaco.specs.declared.Context.{Context}
-use Rattle.megaco.specs.declared.Op.{Op}
-use Rattle.megaco.specs.declared.Op.the-variants.{Add, Modify, Subtract, Move, AuditValue}
-use Rattle.megaco.specs.declared.Token.{Token}
-use Rattle.megaco.specs.declared.Token.the-variants.{AddToken, ModifyToken, SubtractToken, MoveToken, AuditValueToken}
-use Rattle.megaco.specs.declared.Judged.{Judged}
-use Rattle.megaco.specs.declared.Judged.the-variants.{Wrong, Right}
-use Rattle.attempt.specs.Judging.{Fair}
+use Rattle.types.specs.Types.{Context, Op, Add, Modify, Subtract, Move, AuditValue, Token, AddToken, ModifyToken, SubtractToken, MoveToken, AuditValueToken}
 use Rattle.command_tests.specs.declared.Found.{Found}
 use Rattle.command_tests.specs.declared.Found.the-variants.{Built, Unbuilt}
 
@@ -33,8 +26,3 @@ opBy k =
 -- the record of an action's context, 0 if it does not exist
 unfoldable pub heldAt : Context → List ℕ → ℕ
 heldAt at t = seen (numberOf at) t .held
-
--- the values that items give are modes and states
-abbrev pub FairJudged : Judged → Type 0
-FairJudged (Wrong code) = Unit {0}
-FairJudged (Right vs) = Fair vs

@@ -2,19 +2,19 @@
 ghost use mathlib.Core.Path.{_≡_};
 ghost use Rattle.megaco.specs.Table.{Sized};
 ghost use Rattle.megaco.specs.State.{state};
-ghost use Rattle.megaco.specs.Command.{opOf, noContext, forbiddenInNull, notForRoot, named};
-ghost use Rattle.megaco.specs.declared.Judged.the-variants.{Right};
-ghost use Rattle.attempt.specs.Judging.{Fair};
-ghost use Rattle.run_attempts.specs.Contract.{Did};
-ghost use Rattle.command_tests.specs.CommandTests.{foundOf, opBy, heldAt, FairJudged};
+ghost use Rattle.megaco.specs.Command.{opOf, noContext, forbiddenInNull, notForRoot, fromTest4};
+ghost use Rattle.types.specs.Types.{Right};
+ghost use Rattle.types.specs.Ranges.{InRange, JudgedInRange};
+ghost use Rattle.run_attempts.specs.Contract.{RunsTo};
+ghost use Rattle.command_tests.specs.CommandTests.{foundOf, opBy, heldAt};
 use keywords::Meaning;
 use megaco::Context;
 use megaco::Judged;
 use megaco::Op;
 use megaco::Token;
 use megaco::Values;
+use run_attempts::CommandOutcome;
 use run_attempts::Turn;
-use run_attempts::Went;
 
 // What a command's word and its `W-` tell: one of the commands that are built, or another.
 pub enum Found {
@@ -57,7 +57,7 @@ pub fn no_context(op: Op, at: Context, held: u32) -> bool
     match at {
         Context::Null => false,
         Context::Numbered(_) => held == 0,
-        Context::Choose => targets::in_place(op) | targets::is_subtract(op),
+        Context::Choose => op.in_place() | op.is_subtract(),
         Context::All => true,
     }
 }
@@ -66,15 +66,15 @@ pub fn no_context(op: Op, at: Context, held: u32) -> bool
 pub fn forbidden_in_null(op: Op, at: Context) -> bool
     ensures { λ r. ⌜ r ≡ forbiddenInNull op at ⌝ }
 {
-    targets::is_null(at) & !targets::in_place(op)
+    at.is_null() & !op.in_place()
 }
 
 // The record of the action's context, 0 if it does not exist.
 pub fn held_at(table: &[u32], at: Context) -> u32
     ensures { λ r. ⌜ r ≡ heldAt at (now (table .entry)) ⌝ }
 {
-    let c = attempt_view::number_of(at);
-    if (0 < c) & (c <= table::CONTEXTS) {
+    let c = at.number();
+    if table::is_known(c) {
         return table::record_of(table, c);
     }
     0
@@ -102,9 +102,9 @@ fn run_named(
     turn: Turn,
     table: &mut [u32],
     out: &mut [u8],
-) -> Went
-    requires { ⌜ (Sized (now table)) × Fair values ⌝ }
-    ensures { λ r. ⌜ Did (named op (now (name .entry)) (turn .given) items (Right values) (turn .at) (state (now (table .entry)))) (turn .first) (now (out .entry)) (turn .next) (state (now (table .exit))) (now (out .exit)) r ⌝ }
+) -> CommandOutcome
+    requires { ⌜ (Sized (now table)) × InRange values ⌝ }
+    ensures { λ r. ⌜ RunsTo (fromTest4 op (now (name .entry)) (turn .given) items (Right values) (turn .at) (state (now (table .entry)))) (turn .first) (now (out .entry)) (turn .next) (state (now (table .exit))) (now (out .exit)) r ⌝ }
 {
     let n = names::name_of(table::lines(table), name);
     let at = turn.at;
@@ -122,9 +122,9 @@ pub fn run_judged(
     turn: Turn,
     table: &mut [u32],
     out: &mut [u8],
-) -> Went
-    requires { ⌜ (Sized (now table)) × FairJudged judged ⌝ }
-    ensures { λ r. ⌜ Did (named op (now (name .entry)) (turn .given) items judged (turn .at) (state (now (table .entry)))) (turn .first) (now (out .entry)) (turn .next) (state (now (table .exit))) (now (out .exit)) r ⌝ }
+) -> CommandOutcome
+    requires { ⌜ (Sized (now table)) × JudgedInRange judged ⌝ }
+    ensures { λ r. ⌜ RunsTo (fromTest4 op (now (name .entry)) (turn .given) items judged (turn .at) (state (now (table .entry)))) (turn .first) (now (out .entry)) (turn .next) (state (now (table .exit))) (now (out .exit)) r ⌝ }
 {
     match judged {
         Judged::Wrong(code) => run_attempts::command_error(op, name, code, turn, out),

@@ -5,6 +5,7 @@ ghost use Rattle.digits.specs.Dialling.{load, dial};
 ghost use Rattle.digits.specs.Codes.{progressCode, timerCode, timerAt, zeroAt, packed};
 ghost use Rattle.dialling.specs.Cells.{planIn};
 ghost use Rattle.cordafina.specs.Heads.{headOf, loadedAt};
+use dialling::CELLS;
 use dialling::Loaded;
 use digits::Dialled;
 use digits::Progress;
@@ -83,7 +84,7 @@ fn packed(d: Dialled) -> u32
 pub extern "C" fn cordafina_dial(map: &[u8], start: u32, zero: u32, dialled: &[u8]) -> u32
     ensures { λ r. ⌜ r ≡ packed (dial (load (now (map .entry)) start (zeroAt zero)) (now (dialled .entry))) ⌝ }
 {
-    let mut cells = [0u32; 1040];
+    let mut cells = [0u32; CELLS];
     let l = dialling::load(map, start, zero_at(zero), &mut cells);
     packed(dialling::dial(l, &cells, dialled))
 }
@@ -118,7 +119,7 @@ pub extern "C" fn cordafina_load_map(
     map: &[u8],
     start: u32,
     zero: u32,
-    cells: &mut [u32; 1040],
+    cells: &mut [u32; CELLS],
 ) -> u32
     ensures { λ r. ⌜ planIn (loadedAt r) (now (cells .exit)) ≡ load (now (map .entry)) start (zeroAt zero) ⌝ }
 {
@@ -127,7 +128,7 @@ pub extern "C" fn cordafina_load_map(
 
 // A string is dialled on a map that was loaded.
 #[no_mangle]
-pub extern "C" fn cordafina_dial_map(head: u32, cells: &[u32; 1040], dialled: &[u8]) -> u32
+pub extern "C" fn cordafina_dial_map(head: u32, cells: &[u32; CELLS], dialled: &[u8]) -> u32
     ensures { λ r. ⌜ r ≡ packed (dial (planIn (loadedAt head) (now (cells .entry))) (now (dialled .entry))) ⌝ }
 {
     packed(dialling::dial(loaded_at(head), cells, dialled))

@@ -21,7 +21,7 @@ use Rattle.gateway.specs.declared.CallOutcome.{CallOutcome}
 use Rattle.gateway.specs.declared.CallOutcome.the-variants.{Taken, ReplyTooShort, TableUnsound, MidUnfit, MessageUnfit, LinesUnfit}
 use Rattle.demands.specs.Demands.{Made, replyWith, Leaves, Admitted, Fault400, Demand-2}
 use Rattle.demands.proofs.Turning.{Fits, fits, fit-call, number-is}
-use Rattle.demands.proofs.Telling.{run-told, told-400, told-403, told-406}
+use Rattle.demands.proofs.ByReply.{only-run, only-400, only-403, only-406}
 
 -- ---- a text at the start of a buffer
 
@@ -90,16 +90,16 @@ module _ {n : ℕ} {m : List ℕ} {st : State} {own o : List ℕ} (c : Made n m 
   run : Admitted m ↔ ((xs : List Transaction) × Leaves c (runTransactions xs st))
   run = (
     λ d. (d .0, gives (d .0) (d .1)),
-    λ l. let r = run-told st (messageR m) (l .0) (one-text left (l .1)) in (r .0, read-derives m (r .0) (r .1)),
+    λ l. let r = only-run st (messageR m) (l .0) (one-text left (l .1)) in (r .0, read-derives m (r .0) (r .1)),
   )
 
   on-406 : Fault406 m ↔ Leaves c (ran st (errorText 406))
   unfolding runMessage
-  on-406 = (λ f. read-as fault406 (fault-406 m .1 f), λ l. fault-406 m .0 (told-406 st (messageR m) (one-text left l)))
+  on-406 = (λ f. read-as fault406 (fault-406 m .1 f), λ l. fault-406 m .0 (only-406 st (messageR m) (one-text left l)))
 
   on-403 : (id : ℕ) → Fault403 m id ↔ Leaves c (ran st (replyText id (errorText 403)))
   unfolding runMessage
-  on-403 id = (λ f. read-as (fault403 id) (fault-403 m id .1 f), λ l. fault-403 m id .0 (told-403 st (messageR m) id (one-text left l)))
+  on-403 id = (λ f. read-as (fault403 id) (fault-403 m id .1 f), λ l. fault-403 m id .0 (only-403 st (messageR m) id (one-text left l)))
 
 elsewhere : (m : List ℕ) → messageR m ≡ fault400 ↔ Fault400 m
 elsewhere m = (
@@ -109,7 +109,7 @@ elsewhere m = (
 
 on-400 : {n : ℕ} {m : List ℕ} {st : State} {own o : List ℕ} (c : Made n m st own o) → refusalOf (c .answer) ≡ 0 → Fault400 m ↔ Leaves c (ran st (errorText 400))
 unfolding runMessage
-on-400 {n} {m} {st} c e = (λ f. read-as c e fault400 (elsewhere m .1 f), λ l. elsewhere m .0 (told-400 st (messageR m) (one-text (left c e) l)))
+on-400 {n} {m} {st} c e = (λ f. read-as c e fault400 (elsewhere m .1 f), λ l. elsewhere m .0 (only-400 st (messageR m) (one-text (left c e) l)))
 
 one-of : (m : List ℕ) → Admitted m ⊎ Fault406 m ⊎ ((id : ℕ) × Fault403 m id) ⊎ Fault400 m
 one-of m = go (messageR m) refl

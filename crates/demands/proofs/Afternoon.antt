@@ -15,7 +15,7 @@ use Rattle.laws.proofs.Bounds.{fault-keeps}
 use Rattle.gateway.specs.Answers.{refusalOf, sizeOf}
 use Rattle.demands.specs.Demands.{Made, replyWith, replyOf}
 use Rattle.demands.specs.Afternoon.{Faulted, with-400, with-406, with-403, SameAs, Afternoon}
-use Rattle.demands.proofs.Telling.{told-400, told-406, told-403}
+use Rattle.demands.proofs.ByReply.{only-400, only-406, only-403}
 use Rattle.demands.proofs.Admitting.{behind, left}
 use Rattle.demands.proofs.Ordering.{leaves-reply}
 
@@ -27,9 +27,9 @@ module _ {n : ℕ} {m : List ℕ} {st : State} {own o : List ℕ} (c : Made n m 
       sym (behind (headerText own) (runMessage (messageR m) st .text)) ∙ ap (drop (length (headerText own))) w ∙ behind (headerText own) x
 
   faulty : Faulted c → (xs : List Transaction) → messageR m ≢ wellFormed xs
-  faulty (with-400 q) xs f = let g : messageR m ≡ fault400 = told-400 st (messageR m) (text-is _ q) in let z : _≡_ {A = ℕ} 0 1 = cc in omega arith
-  faulty (with-406 q) xs f = let g : messageR m ≡ fault406 = told-406 st (messageR m) (text-is _ q) in let z : _≡_ {A = ℕ} 0 1 = cc in omega arith
-  faulty (with-403 id q) xs f = let g : messageR m ≡ fault403 id = told-403 st (messageR m) id (text-is _ q) in let z : _≡_ {A = ℕ} 0 1 = cc in omega arith
+  faulty (with-400 q) xs f = let g : messageR m ≡ fault400 = only-400 st (messageR m) (text-is _ q) in let z : _≡_ {A = ℕ} 0 1 = cc in omega arith
+  faulty (with-406 q) xs f = let g : messageR m ≡ fault406 = only-406 st (messageR m) (text-is _ q) in let z : _≡_ {A = ℕ} 0 1 = cc in omega arith
+  faulty (with-403 id q) xs f = let g : messageR m ≡ fault403 id = only-403 st (messageR m) id (text-is _ q) in let z : _≡_ {A = ℕ} 0 1 = cc in omega arith
 
   state-kept : Faulted c → c .state ≡ st
   state-kept f = c .promise .state ∙ fault-keeps n m st own o (faulty f)

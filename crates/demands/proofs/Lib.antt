@@ -1,5 +1,5 @@
 pub mod Turning
-pub mod Telling
+pub mod ByReply
 pub mod Admitting
 pub mod Ordering
 pub mod Witness

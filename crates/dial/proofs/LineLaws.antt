@@ -10,13 +10,12 @@ use lib.Seq.{drop-cons}
 use lib.Dec.{eqb}
 use borrow.Author.Tests.{eq-eqb, ne-eqb}
 use Rattle.base.specs.Pick.{pick}
-use Rattle.base.specs.Lists.{same, before}
+use Rattle.base.specs.Lists.{same}
 use Rattle.base.specs.Bytes.{_then_}
 use Rattle.base.specs.Out.{Appended}
 use Rattle.base.proofs.OutLaws.{_▸_}
 use Rattle.megaco.specs.Tokens.{numberAt}
-use Rattle.megaco.specs.declared.Number.{Number}
-use Rattle.megaco.specs.declared.Number.the-variants.{Got, Bad}
+use Rattle.types.specs.Types.{Number, Got, Bad}
 use Rattle.digits.specs.Dialling.{load, dial}
 use Rattle.digits.specs.declared.ZeroStart.{ZeroStart}
 use Rattle.digits.specs.declared.Dialled.{Dialled}
@@ -25,23 +24,6 @@ use Rattle.dialling.specs.declared.Loaded.{Loaded}
 use Rattle.dial.specs.Words.{ruleOf, settingsAfter, settingsOf, answerText}
 use Rattle.dial.specs.declared.Settings.{Settings}
 use Rattle.dial.specs.declared.Settings.the-variants.{Unread}
-
--- ---- the length of the first line
-pub line-start : (s : List ℕ) → length (before 10 s) ≡ 0 + length (before 10 (drop 0 s))
-line-start s = omega arith
-
-module _ (s : List ℕ) (i : ℕ) (inv : length (before 10 s) ≡ i + length (before 10 (drop i s))) where
-  pub line-stop : i < length s → getD s i 0 ≡ 10 → i ≡ length (before 10 s)
-  unfolding before pick
-  line-stop h e = let k : length (before 10 (drop i s)) ≡ 0 = rw (drop-cons s i 0 h, eq-eqb (getD s i 0) 10 e) in omega arith
-
-  pub line-on : i < length s → (getD s i 0 ≡ 10 → ⊥) → length (before 10 s) ≡ i + 1 + length (before 10 (drop (i + 1) s))
-  unfolding before pick
-  line-on h n = let k : length (before 10 (drop i s)) ≡ 1 + length (before 10 (drop (i + 1) s)) = rw (drop-cons s i 0 h, ne-eqb (getD s i 0) 10 n, add-one) (omega arith) in omega arith
-
-  pub line-out : length s ≤ i → i ≡ length (before 10 s)
-  unfolding before
-  line-out h = let k : length (before 10 (drop i s)) ≡ 0 = rw (drop-of-length-le s h) in omega arith
 
 -- ---- two texts
 

@@ -4,12 +4,13 @@ ghost use mathlib.Core.Path.{_≡_};
 ghost use mathlib.Core.List.{[], _∷_};
 ghost use Prim.Native.Nat.{_≤_};
 ghost use lib.ListN.{length};
-ghost use Rattle.base.specs.Lists.{same, before};
+ghost use Rattle.base.specs.Lists.{same};
 ghost use Rattle.base.specs.Bytes.{_then_};
 ghost use Rattle.base.specs.Out.{Appended};
 ghost use Rattle.digits.specs.Dialling.{load, dial};
 ghost use Rattle.dialling.specs.Cells.{Keeps};
 ghost use Rattle.dial.specs.Words.{ruleOf, settingsOf, progressText, timerText, shownText, answerText};
+use dialling::CELLS;
 use dialling::Loaded;
 use digits::Dialled;
 use digits::Progress;
@@ -31,21 +32,6 @@ enum Settings {
 const LINE_END: u8 = b'\n';
 
 // ---- lines taken
-
-// How many bytes the first line of a text has.
-fn line_length(s: &[u8]) -> usize
-    ensures { λ r. ⌜ r ≡ length (before 10 (now (s .entry))) ⌝ }
-    ensures { λ r. ⌜ r ≤ length (now (s .entry)) ⌝ }
-{
-    let mut i: usize = 0;
-    while i < s.len() {
-        if s[i] == LINE_END {
-            return i;
-        }
-        i += 1;
-    }
-    i
-}
 
 fn same_text(s: &[u8], form: &[u8]) -> bool
     ensures { λ r. ⌜ r ≡ same (now (s .entry)) (now (form .entry)) ⌝ }
@@ -171,7 +157,7 @@ struct Asked {
 }
 
 // The answer to one dialled string, by either matcher.
-fn answer(x: Asked, map: &[u8], cells: &[u32; 1040], w: &[u8]) -> Dialled
+fn answer(x: Asked, map: &[u8], cells: &[u32; CELLS], w: &[u8]) -> Dialled
     requires { ⌜ Keeps (load (now map) (x .start) (x .rule)) (x .loaded) (now cells) ⌝ }
     ensures { λ r. ⌜ r ≡ dial (load (now (map .entry)) (x .start) (x .rule)) (now (w .entry)) ⌝ }
 {
@@ -185,18 +171,18 @@ fn answer(x: Asked, map: &[u8], cells: &[u32; 1040], w: &[u8]) -> Dialled
 }
 
 // Tells the answer to the first line of a text; how long that line is.
-fn tell_line(t: &[u8], out: &mut [u8], x: Asked, map: &[u8], cells: &[u32; 1040]) -> usize
+fn tell_line(t: &[u8], out: &mut [u8], x: Asked, map: &[u8], cells: &[u32; CELLS]) -> usize
     requires { ⌜ Keeps (load (now map) (x .start) (x .rule)) (x .loaded) (now cells) ⌝ }
     ensures { λ r. ⌜ r ≤ length (now (t .entry)) ⌝ }
 {
-    let n = line_length(t);
+    let n = program_io::line_length(t);
     let k = put_line(out, answer(x, map, cells, &t[0..n]));
     io::write_all(1, &out[0..k]);
     n
 }
 
 // Tells the answers to the lines of a text.
-fn tell(s: &[u8], out: &mut [u8], x: Asked, map: &[u8], cells: &[u32; 1040])
+fn tell(s: &[u8], out: &mut [u8], x: Asked, map: &[u8], cells: &[u32; CELLS])
     requires { ⌜ Keeps (load (now map) (x .start) (x .rule)) (x .loaded) (now cells) ⌝ }
 {
     let mut from: usize = 0;
@@ -214,7 +200,7 @@ fn dial_all(
     map: &[u8],
     s: &[u8],
     out: &mut [u8],
-    cells: &mut [u32; 1040],
+    cells: &mut [u32; CELLS],
 ) {
     let l = dialling::load(map, start, rule, cells);
     let x = Asked {
@@ -226,10 +212,10 @@ fn dial_all(
     tell(s, out, x, map, cells);
 }
 
-fn run(s: &[u8], out: &mut [u8], cells: &mut [u32; 1040]) {
-    let n = line_length(s);
+fn run(s: &[u8], out: &mut [u8], cells: &mut [u32; CELLS]) {
+    let n = program_io::line_length(s);
     let t = map_text::rest(s, n + 1);
-    let m = line_length(t);
+    let m = program_io::line_length(t);
     let x = read_settings(&t[0..m]);
     match x {
         Settings::Set { start, rule, plain } => {
@@ -254,7 +240,7 @@ fn run(s: &[u8], out: &mut [u8], cells: &mut [u32; 1040]) {
 
 fn main() {
     let mut room = io::large_buffer();
-    let mut cells = [0u32; 1040];
+    let mut cells = [0u32; CELLS];
     let mut out = [0u8; 64];
     let n = io::read_full(0, &mut room);
     if n < 65536 {

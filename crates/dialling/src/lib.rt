@@ -19,6 +19,12 @@ use digits::ZeroStart;
 use map_text::Bounds;
 use megaco::Parsed;
 
+// The cells that are lent for a map: document 02's.
+pub const CELLS: usize = 1040;
+
+// The places between the elements of one alternative, before the first and behind the last.
+const PLACES: usize = CELLS + 1;
+
 // A map that was loaded: whether it is good, the timer before any symbol, and how many of the lent cells it has. The cells hold the
 // selectors of its alternatives, 0 after each alternative.
 pub struct Loaded {
@@ -88,7 +94,7 @@ fn walk(a: &[u32], dialled: &[u8]) -> Reach
     requires { ⌜ length (now a) ≤ 1040 ⌝ }
     ensures { λ r. ⌜ Reaches (now (a .entry)) (symbolsOf (now (dialled .entry))) r ⌝ }
 {
-    let mut live = [false; 1041];
+    let mut live = [false; PLACES];
     live[0] = true;
     follow(a, &mut live, dialled)
 }
@@ -226,7 +232,7 @@ fn first_timer(start: u32, zero: ZeroStart) -> Timer
 }
 
 // A map is read and kept in the lent cells, with its start timer and the rule for zero. A malformed one is kept as refused.
-pub fn load(map: &[u8], start: u32, zero: ZeroStart, cells: &mut [u32; 1040]) -> Loaded
+pub fn load(map: &[u8], start: u32, zero: ZeroStart, cells: &mut [u32; CELLS]) -> Loaded
     ensures { λ r. ⌜ Keeps (load (now (map .entry)) start zero) r (now (cells .exit)) ⌝ }
 {
     let first = first_timer(start, zero);
@@ -318,7 +324,7 @@ fn among_first(cells: &[u32], count: usize, w: &[u8]) -> Reach
 }
 
 // A dialled string is answered, or refused: 6 for the map before 7 for the string.
-pub fn dial(l: Loaded, cells: &[u32; 1040], w: &[u8]) -> Dialled
+pub fn dial(l: Loaded, cells: &[u32; CELLS], w: &[u8]) -> Dialled
     ensures { λ r. ⌜ r ≡ dial (planIn l (now (cells .entry))) (now (w .entry)) ⌝ }
 {
     let good = l.good;

@@ -9,7 +9,7 @@ use Rattle.base.specs.Pick.{pick}
 use Rattle.base.specs.Lists.{every}
 use Rattle.base.proofs.TestLaws.{clash, and-both, both-and}
 use Rattle.digits.specs.Symbols.{takes, dotted}
-use Rattle.digits.specs.Dialling.{atEnd, once, repeated, meets, meetsAny, progress, progressOf}
+use Rattle.digits.specs.Dialling.{atEnd, once, repeated, matchesOne, matchesAny, progress, progressOf}
 use Rattle.digits.specs.Language.{Matches, ends, one, none, more, InLanguage, first, other, Extends, Says}
 
 or-case : {P : Type 0} (a b : Bool) → a || b ≡ true → (a ≡ true → P) → (b ≡ true → P) → P
@@ -23,15 +23,15 @@ or-right : (a b : Bool) → b ≡ true → a || b ≡ true
 or-right true b e = refl
 or-right false b e = e
 
--- ---- one alternative: how `meets` opens, with a dot and without
+-- ---- one alternative: how `matchesOne` opens, with a dot and without
 module _ (whole : Bool) (set : ℕ) (a w : List ℕ) where
-  meets-dot : dotted set ≡ true → meets whole (set ∷ a) w ≡ repeated whole set (meets whole a) w
-  unfolding meets pick
-  meets-dot d = rw d
+  match-dot : dotted set ≡ true → matchesOne whole (set ∷ a) w ≡ repeated whole set (matchesOne whole a) w
+  unfolding matchesOne pick
+  match-dot d = rw d
 
-  meets-plain : dotted set ≡ false → meets whole (set ∷ a) w ≡ once whole set (meets whole a) w
-  unfolding meets pick
-  meets-plain d = rw d
+  match-plain : dotted set ≡ false → matchesOne whole (set ∷ a) w ≡ once whole set (matchesOne whole a) w
+  unfolding matchesOne pick
+  match-plain d = rw d
 
   by-dot : {P : Type 0} → (dotted set ≡ true → P) → (dotted set ≡ false → P) → P
   by-dot {P} f g = go (dotted set) refl
@@ -47,37 +47,37 @@ unfolding repeated
 repeated-rest whole set rest [] e = or-left (rest []) (not whole) e
 repeated-rest whole set rest (c ∷ w) e = or-left (rest (c ∷ w)) _ e
 
-pub matched-complete : {a w : List ℕ} → Matches a w → meets true a w ≡ true
-unfolding meets atEnd once repeated
+pub matched-complete : {a w : List ℕ} → Matches a w → matchesOne true a w ≡ true
+unfolding matchesOne atEnd once repeated
 matched-complete ends = refl
-matched-complete (one {set} {c} {a} {w} d t x) = meets-plain true set a (c ∷ w) d ∙ both-and (takes set c) (meets true a w) t (matched-complete x)
-matched-complete (none {set} {a} {w} d x) = meets-dot true set a w d ∙ repeated-rest true set (meets true a) w (matched-complete x)
+matched-complete (one {set} {c} {a} {w} d t x) = match-plain true set a (c ∷ w) d ∙ both-and (takes set c) (matchesOne true a w) t (matched-complete x)
+matched-complete (none {set} {a} {w} d x) = match-dot true set a w d ∙ repeated-rest true set (matchesOne true a) w (matched-complete x)
 matched-complete (more {set} {c} {a} {w} d t x) =
-    meets-dot true set a (c ∷ w) d
-    ∙ or-right (meets true a (c ∷ w)) _ (both-and (takes set c) (repeated true set (meets true a) w) t (sym (meets-dot true set a w d) ∙ matched-complete x))
+    match-dot true set a (c ∷ w) d
+    ∙ or-right (matchesOne true a (c ∷ w)) _ (both-and (takes set c) (repeated true set (matchesOne true a) w) t (sym (match-dot true set a w d) ∙ matched-complete x))
 
-module _ (set : ℕ) (a : List ℕ) (rest : (w : List ℕ) → meets true a w ≡ true → Matches a w) where
-  repeated-sound : dotted set ≡ true → (w : List ℕ) → repeated true set (meets true a) w ≡ true → Matches (set ∷ a) w
+module _ (set : ℕ) (a : List ℕ) (rest : (w : List ℕ) → matchesOne true a w ≡ true → Matches a w) where
+  repeated-sound : dotted set ≡ true → (w : List ℕ) → repeated true set (matchesOne true a) w ≡ true → Matches (set ∷ a) w
   unfolding repeated
-  repeated-sound d [] e = none d (rest [] (or-case (meets true a []) false e (λ t. t) (λ f. absurd (clash (sym f)))))
+  repeated-sound d [] e = none d (rest [] (or-case (matchesOne true a []) false e (λ t. t) (λ f. absurd (clash (sym f)))))
   repeated-sound d (c ∷ w) e =
-      let deeper : repeated true set (meets true a) w ≡ true → Matches (set ∷ a) w = repeated-sound d w in
-      or-case (meets true a (c ∷ w)) (takes set c && repeated true set (meets true a) w) e
+      let deeper : repeated true set (matchesOne true a) w ≡ true → Matches (set ∷ a) w = repeated-sound d w in
+      or-case (matchesOne true a (c ∷ w)) (takes set c && repeated true set (matchesOne true a) w) e
       (λ t. none d (rest (c ∷ w) t))
-      (λ t. let p = and-both (takes set c) (repeated true set (meets true a) w) t in more d (p .0) (deeper (p .1)))
+      (λ t. let p = and-both (takes set c) (repeated true set (matchesOne true a) w) t in more d (p .0) (deeper (p .1)))
 
-  once-sound : dotted set ≡ false → (w : List ℕ) → once true set (meets true a) w ≡ true → Matches (set ∷ a) w
+  once-sound : dotted set ≡ false → (w : List ℕ) → once true set (matchesOne true a) w ≡ true → Matches (set ∷ a) w
   unfolding once
   once-sound d [] e = absurd (clash (sym e))
-  once-sound d (c ∷ w) e = let p = and-both (takes set c) (meets true a w) e in one d (p .0) (rest w (p .1))
+  once-sound d (c ∷ w) e = let p = and-both (takes set c) (matchesOne true a w) e in one d (p .0) (rest w (p .1))
 
-pub matched-sound : (a w : List ℕ) → meets true a w ≡ true → Matches a w
-unfolding meets atEnd
+pub matched-sound : (a w : List ℕ) → matchesOne true a w ≡ true → Matches a w
+unfolding matchesOne atEnd
 matched-sound [] [] e = ends
 matched-sound [] (c ∷ w) e = absurd (clash (sym e))
 matched-sound (set ∷ a) w e =
-    let rest : (v : List ℕ) → meets true a v ≡ true → Matches a v = matched-sound a in
-    by-dot true set a w (λ d. repeated-sound set a rest d w (sym (meets-dot true set a w d) ∙ e)) (λ d. once-sound set a rest d w (sym (meets-plain true set a w d) ∙ e))
+    let rest : (v : List ℕ) → matchesOne true a v ≡ true → Matches a v = matched-sound a in
+    by-dot true set a w (λ d. repeated-sound set a rest d w (sym (match-dot true set a w d) ∙ e)) (λ d. once-sound set a rest d w (sym (match-plain true set a w d) ∙ e))
 
 -- ---- longer: some strictly longer string is
 
@@ -123,39 +123,39 @@ starts (with-one {set} {a} f g) =
     (λ d. record { next = f .symbol; further = r .further; symbols = s; matched = more d (f .taken) (none d (r .matched)) })
     (λ d. record { next = f .symbol; further = r .further; symbols = s; matched = one d (f .taken) (r .matched) })
 
-module _ (set : ℕ) (a : List ℕ) (filled : Filled (set ∷ a)) (rest : (w : List ℕ) → meets false a w ≡ true → Lengthens a w) where
-  repeated-longer : dotted set ≡ true → (w : List ℕ) → repeated false set (meets false a) w ≡ true → Lengthens (set ∷ a) w
+module _ (set : ℕ) (a : List ℕ) (filled : Filled (set ∷ a)) (rest : (w : List ℕ) → matchesOne false a w ≡ true → Lengthens a w) where
+  repeated-longer : dotted set ≡ true → (w : List ℕ) → repeated false set (matchesOne false a) w ≡ true → Lengthens (set ∷ a) w
   unfolding repeated
   repeated-longer d [] e = starts filled
   repeated-longer d (c ∷ w) e =
-      let deeper : repeated false set (meets false a) w ≡ true → Lengthens (set ∷ a) w = repeated-longer d w in
-      or-case (meets false a (c ∷ w)) (takes set c && repeated false set (meets false a) w) e
+      let deeper : repeated false set (matchesOne false a) w ≡ true → Lengthens (set ∷ a) w = repeated-longer d w in
+      or-case (matchesOne false a (c ∷ w)) (takes set c && repeated false set (matchesOne false a) w) e
       (λ t. let r = rest (c ∷ w) t in record { next = r .next; further = r .further; symbols = r .symbols; matched = none d (r .matched) })
-      (λ t. let p = and-both (takes set c) (repeated false set (meets false a) w) t in
+      (λ t. let p = and-both (takes set c) (repeated false set (matchesOne false a) w) t in
       let r = deeper (p .1) in record { next = r .next; further = r .further; symbols = r .symbols; matched = more d (p .0) (r .matched) })
 
-  once-longer : dotted set ≡ false → (w : List ℕ) → once false set (meets false a) w ≡ true → Lengthens (set ∷ a) w
+  once-longer : dotted set ≡ false → (w : List ℕ) → once false set (matchesOne false a) w ≡ true → Lengthens (set ∷ a) w
   unfolding once
   once-longer d [] e = starts filled
   once-longer d (c ∷ w) e =
-      let p = and-both (takes set c) (meets false a w) e in
+      let p = and-both (takes set c) (matchesOne false a w) e in
       let r = rest w (p .1) in record { next = r .next; further = r .further; symbols = r .symbols; matched = one d (p .0) (r .matched) }
 
-longer-sound : {a : List ℕ} → Filled a → (w : List ℕ) → meets false a w ≡ true → Lengthens a w
-unfolding meets atEnd
+longer-sound : {a : List ℕ} → Filled a → (w : List ℕ) → matchesOne false a w ≡ true → Lengthens a w
+unfolding matchesOne atEnd
 longer-sound empty [] e = absurd (clash (sym e))
 longer-sound empty (c ∷ w) e = absurd (clash (sym e))
 longer-sound (with-one {set} {a} f g) w e =
-    let rest : (v : List ℕ) → meets false a v ≡ true → Lengthens a v = longer-sound g in
+    let rest : (v : List ℕ) → matchesOne false a v ≡ true → Lengthens a v = longer-sound g in
     by-dot false set a w
-    (λ d. repeated-longer set a (with-one f g) rest d w (sym (meets-dot false set a w d) ∙ e))
-    (λ d. once-longer set a (with-one f g) rest d w (sym (meets-plain false set a w d) ∙ e))
+    (λ d. repeated-longer set a (with-one f g) rest d w (sym (match-dot false set a w d) ∙ e))
+    (λ d. once-longer set a (with-one f g) rest d w (sym (match-plain false set a w d) ∙ e))
 
-pub at-start : (set : ℕ) (a : List ℕ) → meets false (set ∷ a) [] ≡ true
+pub at-start : (set : ℕ) (a : List ℕ) → matchesOne false (set ∷ a) [] ≡ true
 unfolding repeated once
-at-start set a = by-dot false set a [] (λ d. meets-dot false set a [] d ∙ or-right (meets false a []) true refl) (λ d. meets-plain false set a [] d)
+at-start set a = by-dot false set a [] (λ d. match-dot false set a [] d ∙ or-right (matchesOne false a []) true refl) (λ d. match-plain false set a [] d)
 
-longer-by : {a u : List ℕ} → Matches a u → (w : List ℕ) (c : ℕ) (v : List ℕ) → u ≡ w ++ c ∷ v → meets false a w ≡ true
+longer-by : {a u : List ℕ} → Matches a u → (w : List ℕ) (c : ℕ) (v : List ℕ) → u ≡ w ++ c ∷ v → matchesOne false a w ≡ true
 unfolding once repeated
 longer-by ends [] c v e = let z : true ≡ false = cc in absurd (clash z)
 longer-by ends (x ∷ w) c v e = let z : true ≡ false = cc in absurd (clash z)
@@ -163,15 +163,15 @@ longer-by (one {set} {c = b} {a} {w = u} d t y) [] c v e = at-start set a
 longer-by (one {set} {c = b} {a} {w = u} d t y) (x ∷ w) c v e =
     let h : b ≡ x = cc in
     let k : u ≡ w ++ c ∷ v = cc in
-    meets-plain false set a (x ∷ w) d ∙ both-and (takes set x) (meets false a w) (rw h at t) (longer-by y w c v k)
-longer-by (none {set} {a} {w = u} d y) w c v e = meets-dot false set a w d ∙ repeated-rest false set (meets false a) w (longer-by y w c v e)
+    match-plain false set a (x ∷ w) d ∙ both-and (takes set x) (matchesOne false a w) (rw h at t) (longer-by y w c v k)
+longer-by (none {set} {a} {w = u} d y) w c v e = match-dot false set a w d ∙ repeated-rest false set (matchesOne false a) w (longer-by y w c v e)
 longer-by (more {set} {c = b} {a} {w = u} d t y) [] c v e = at-start set a
 longer-by (more {set} {c = b} {a} {w = u} d t y) (x ∷ w) c v e =
     let h : b ≡ x = cc in
     let k : u ≡ w ++ c ∷ v = cc in
-    meets-dot false set a (x ∷ w) d
-    ∙ or-right (meets false a (x ∷ w)) _
-    (both-and (takes set x) (repeated false set (meets false a) w) (rw h at t) (sym (meets-dot false set a w d) ∙ longer-by y w c v k))
+    match-dot false set a (x ∷ w) d
+    ∙ or-right (matchesOne false a (x ∷ w)) _
+    (both-and (takes set x) (repeated false set (matchesOne false a) w) (rw h at t) (sym (match-dot false set a w d) ∙ longer-by y w c v k))
 
 -- ---- a map
 
@@ -179,47 +179,47 @@ pub data FilledMap : List (List ℕ) → Type 0 where
   empty-map : FilledMap []
   with-alternative : {a : List ℕ} {m : List (List ℕ)} → Filled a → FilledMap m → FilledMap (a ∷ m)
 
-pub in-language : (m : List (List ℕ)) (w : List ℕ) → meetsAny true m w ≡ true → InLanguage m w
-unfolding meetsAny
+pub in-language : (m : List (List ℕ)) (w : List ℕ) → matchesAny true m w ≡ true → InLanguage m w
+unfolding matchesAny
 in-language [] w e = absurd (clash (sym e))
 in-language (a ∷ m) w e =
-    let rest : meetsAny true m w ≡ true → InLanguage m w = in-language m w in
-    or-case (meets true a w) (meetsAny true m w) e (λ t. first (matched-sound a w t)) (λ t. other (rest t))
+    let rest : matchesAny true m w ≡ true → InLanguage m w = in-language m w in
+    or-case (matchesOne true a w) (matchesAny true m w) e (λ t. first (matched-sound a w t)) (λ t. other (rest t))
 
-pub language-in : {m : List (List ℕ)} {w : List ℕ} → InLanguage m w → meetsAny true m w ≡ true
-unfolding meetsAny
-language-in (first {a} {m} {w} x) = or-left (meets true a w) (meetsAny true m w) (matched-complete x)
-language-in (other {a} {m} {w} x) = or-right (meets true a w) (meetsAny true m w) (language-in x)
+pub language-in : {m : List (List ℕ)} {w : List ℕ} → InLanguage m w → matchesAny true m w ≡ true
+unfolding matchesAny
+language-in (first {a} {m} {w} x) = or-left (matchesOne true a w) (matchesAny true m w) (matched-complete x)
+language-in (other {a} {m} {w} x) = or-right (matchesOne true a w) (matchesAny true m w) (language-in x)
 
-pub extends : {m : List (List ℕ)} → FilledMap m → (w : List ℕ) → meetsAny false m w ≡ true → Extends m w
-unfolding meetsAny
+pub extends : {m : List (List ℕ)} → FilledMap m → (w : List ℕ) → matchesAny false m w ≡ true → Extends m w
+unfolding matchesAny
 extends empty-map w e = absurd (clash (sym e))
 extends (with-alternative {a} {m} f g) w e =
-    let rest : meetsAny false m w ≡ true → Extends m w = extends g w in
-    or-case (meets false a w) (meetsAny false m w) e
+    let rest : matchesAny false m w ≡ true → Extends m w = extends g w in
+    or-case (matchesOne false a w) (matchesAny false m w) e
     (λ t. let r = longer-sound f w t in record { next = r .next; further = r .further; symbols = r .symbols; matched = first (r .matched) })
     (λ t. let r = rest t in record { next = r .next; further = r .further; symbols = r .symbols; matched = other (r .matched) })
 
-extended-in : {m : List (List ℕ)} {u : List ℕ} → InLanguage m u → (w : List ℕ) (c : ℕ) (v : List ℕ) → u ≡ w ++ c ∷ v → meetsAny false m w ≡ true
-unfolding meetsAny
-extended-in (first {a} {m} x) w c v e = or-left (meets false a w) (meetsAny false m w) (longer-by x w c v e)
-extended-in (other {a} {m} x) w c v e = or-right (meets false a w) (meetsAny false m w) (extended-in x w c v e)
+extended-in : {m : List (List ℕ)} {u : List ℕ} → InLanguage m u → (w : List ℕ) (c : ℕ) (v : List ℕ) → u ≡ w ++ c ∷ v → matchesAny false m w ≡ true
+unfolding matchesAny
+extended-in (first {a} {m} x) w c v e = or-left (matchesOne false a w) (matchesAny false m w) (longer-by x w c v e)
+extended-in (other {a} {m} x) w c v e = or-right (matchesOne false a w) (matchesAny false m w) (extended-in x w c v e)
 
-pub extends-in : {m : List (List ℕ)} {w : List ℕ} → Extends m w → meetsAny false m w ≡ true
+pub extends-in : {m : List (List ℕ)} {w : List ℕ} → Extends m w → matchesAny false m w ≡ true
 extends-in {m} {w} x = extended-in (x .matched) w (x .next) (x .further) refl
 
 -- what every answer says, and so what the answer is
 pub progress-says : {m : List (List ℕ)} → FilledMap m → (w : List ℕ) → Says m w (progressOf m w)
 unfolding progressOf progress pick
-progress-says {m} f w = go (meetsAny true m w) refl (meetsAny false m w) refl
+progress-says {m} f w = go (matchesAny true m w) refl (matchesAny false m w) refl
   where
-    no-match : meetsAny true m w ≡ false → InLanguage m w → ⊥
+    no-match : matchesAny true m w ≡ false → InLanguage m w → ⊥
     no-match e x = clash (sym (language-in x) ∙ e)
 
-    no-more : meetsAny false m w ≡ false → Extends m w → ⊥
+    no-more : matchesAny false m w ≡ false → Extends m w → ⊥
     no-more e x = clash (sym (extends-in x) ∙ e)
 
-    go : (p : Bool) → meetsAny true m w ≡ p → (q : Bool) → meetsAny false m w ≡ q → Says m w (progress p q)
+    go : (p : Bool) → matchesAny true m w ≡ p → (q : Bool) → matchesAny false m w ≡ q → Says m w (progress p q)
     go true e true g = (in-language m w e, extends f w g)
     go true e false g = (in-language m w e, no-more g)
     go false e true g = (no-match e, extends f w g)

@@ -34,24 +34,24 @@ unfoldable pub repeated : Bool → ℕ → (List ℕ → Bool) → List ℕ → 
 repeated whole set rest [] = rest [] || not whole
 repeated whole set rest (c ∷ w) = rest (c ∷ w) || (takes set c && repeated whole set rest w)
 
-unfoldable pub meets : Bool → List ℕ → List ℕ → Bool
-meets whole [] w = atEnd whole w
-meets whole (set ∷ a) w =
-    let again = repeated whole set (meets whole a) w in
-    let next = once whole set (meets whole a) w in
+unfoldable pub matchesOne : Bool → List ℕ → List ℕ → Bool
+matchesOne whole [] w = atEnd whole w
+matchesOne whole (set ∷ a) w =
+    let again = repeated whole set (matchesOne whole a) w in
+    let next = once whole set (matchesOne whole a) w in
     pick (dotted set) again next
 
 -- some alternative of a map does
-unfoldable pub meetsAny : Bool → List (List ℕ) → List ℕ → Bool
-meetsAny whole [] w = false
-meetsAny whole (a ∷ m) w = meets whole a w || meetsAny whole m w
+unfoldable pub matchesAny : Bool → List (List ℕ) → List ℕ → Bool
+matchesAny whole [] w = false
+matchesAny whole (a ∷ m) w = matchesOne whole a w || matchesAny whole m w
 
 -- "nothing can match, more needed, matched with more possible, matched and closed"
 unfoldable pub progress : Bool → Bool → Progress
 progress matched longer = pick matched (pick longer MorePossible Closed) (pick longer MoreNeeded NoMatch)
 
 unfoldable pub progressOf : List (List ℕ) → List ℕ → Progress
-progressOf m w = progress (meetsAny true m w) (meetsAny false m w)
+progressOf m w = progress (matchesAny true m w) (matchesAny false m w)
 
 -- ---- timers
 -- "Before any symbol with a start timer of zero, source document 001 waits without end (none); our old cards ran out at once (run out)"

@@ -7,6 +7,11 @@ ghost use Rattle.megaco.specs.Names.{within};
 ghost use Rattle.megaco.specs.Call.{call};
 ghost use Rattle.gateway.specs.Answers.{Answered};
 
+// Document 01's limits: the longest message, the shortest reply buffer.
+pub const LONGEST_MESSAGE: usize = 4096;
+
+pub const REPLY_ROOM: usize = 16640;
+
 // What a call answers: the reply's length, or why it was turned down (`refusalOf` gives the number of each).
 pub enum CallOutcome {
     Taken(usize),
@@ -59,7 +64,7 @@ fn answer_fitted(
     requires { ⌜ within lines mostLines ≡ true ⌝ }
     ensures { λ r. ⌜ Answered (call lines (now (message .entry)) (state (now (table .entry))) (now (own .entry)) (now (reply .entry))) (state (now (table .exit))) (now (reply .exit)) r ⌝ }
 {
-    if reply.len() < 16640 {
+    if reply.len() < REPLY_ROOM {
         return CallOutcome::ReplyTooShort;
     }
     let n = words_of(lines);
@@ -68,7 +73,7 @@ fn answer_fitted(
     }
     if sound::is_sound(table) {
         if tokens::is_mid(own) {
-            if (message.len() == 0) | (4096 < message.len()) {
+            if (message.len() == 0) | (LONGEST_MESSAGE < message.len()) {
                 return CallOutcome::MessageUnfit;
             }
             let p = reply::put_header(reply, 0, own);

@@ -17,9 +17,7 @@ use Rattle.megaco.specs.Keywords.{spells}
 use Rattle.megaco.specs.Tokens.{signAt, terminationAt}
 use Rattle.megaco.specs.Tree.{Command}
 use Rattle.megaco.specs.Reading.{got, reading, spaced, wordR, bracesR, itemsR, prefixAt, prefixEnd, isProperty, orderR, commandR}
-use Rattle.megaco.specs.declared.Token.{Token}
-use Rattle.megaco.specs.declared.Token.the-variants.{PriorityToken, EmergencyToken, TopologyToken}
-use Rattle.megaco.specs.declared.Class.the-variants.{WordByte}
+use Rattle.types.specs.Types.{Token, PriorityToken, EmergencyToken, TopologyToken, WordByte}
 use Rattle.base.proofs.TestLaws.{or-neither}
 use Rattle.grammar.specs.Characters.{Keyword, noMore, andThen}
 use Rattle.grammar.specs.Grammar.{LWSP, around, EQUAL, NAME, name, TerminationID, root, named, chooseOne, allOf, ammParameters, Prefix, noPrefix, withPrefix, commandRequest, ammRequest}

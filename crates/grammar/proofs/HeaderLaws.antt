@@ -16,10 +16,7 @@ use Rattle.megaco.specs.White.{goesOn, whiteAt, sepAt}
 use Rattle.megaco.specs.Keywords.{forms, formsOf}
 use Rattle.megaco.specs.Tokens.{markAt, keywordAt, numberAt, mIdAt}
 use Rattle.megaco.specs.Reading.{startAt, senderAt}
-use Rattle.megaco.specs.declared.Token.the-variants.{MegacopToken}
-use Rattle.megaco.specs.declared.Parsed.{Parsed}
-use Rattle.megaco.specs.declared.Parsed.the-variants.{Next}
-use Rattle.megaco.specs.declared.Number.the-variants.{Got}
+use Rattle.types.specs.Types.{MegacopToken, Parsed, Next, Got}
 use Rattle.grammar.specs.Characters.{Spelling, long, short, Keyword}
 use Rattle.grammar.specs.Grammar.{SEP, sep, NAME, mId, byAddress, byDomain, deviceName, IPv4address, domain, Header, header}
 use Rattle.grammar.proofs.Classes.{and-parts, test-not}

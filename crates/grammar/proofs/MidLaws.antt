@@ -12,11 +12,7 @@ use Rattle.base.specs.Bytes.{text}
 use Rattle.megaco.specs.Bytes.{colon, dot, isLetter, isDigit, isWord, isName, isDomain, inClass}
 use Rattle.megaco.specs.White.{after}
 use Rattle.megaco.specs.Tokens.{markAt, rowAt, pathNameAt, numberAt, afterNumber, portAt, octetAt, addressAt, domainAt, mIdAt}
-use Rattle.megaco.specs.declared.Class.the-variants.{NameByte, DomainByte}
-use Rattle.megaco.specs.declared.Parsed.{Parsed}
-use Rattle.megaco.specs.declared.Parsed.the-variants.{Next}
-use Rattle.megaco.specs.declared.Number.{Number}
-use Rattle.megaco.specs.declared.Number.the-variants.{Got}
+use Rattle.types.specs.Types.{NameByte, DomainByte, Parsed, Next, Number, Got}
 use Rattle.grammar.specs.Characters.{AlphaDigitOr, orAlpha, orDigit, orMark, Many, noMore, andThen}
 use Rattle.grammar.specs.Grammar.{V4hex, domainAddress, IPv4address, domainName, domain, Port, noPort, port, mId, byAddress, byDomain, deviceName}
 use Rattle.grammar.proofs.Classes.{test-not, name-tests, digit-tests, domain-tests, letter-digit-tests}

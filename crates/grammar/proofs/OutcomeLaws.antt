@@ -15,11 +15,7 @@ use Rattle.megaco.specs.White.{after, whiteAt}
 use Rattle.megaco.specs.Tokens.{markAt, numberAt}
 use Rattle.megaco.specs.Tree.{Action, Transaction, transaction, Message, wellFormed, fault400, fault403}
 use Rattle.megaco.specs.Reading.{Read, got, fault, keyAt, actionsR, elsewhere, numbered, inside, followed, endOr, bracesThen, transactionsR}
-use Rattle.megaco.specs.declared.Token.the-variants.{TransToken}
-use Rattle.megaco.specs.declared.Parsed.{Parsed}
-use Rattle.megaco.specs.declared.Parsed.the-variants.{Next, Fault}
-use Rattle.megaco.specs.declared.Number.{Number}
-use Rattle.megaco.specs.declared.Number.the-variants.{Got, Bad}
+use Rattle.types.specs.Types.{TransToken, Parsed, Next, Fault, Number, Got, Bad}
 use Rattle.grammar.specs.Characters.{Keyword}
 use Rattle.grammar.specs.Grammar.{LWSP, around, EQUAL, TransactionID, identifier, transactionRequest, withActions, transactionList, lastRequest, nextRequest}
 use Rattle.grammar.specs.Faults.{Without, ended, begun, Whole, noneWhole, oneMore, Closed, closed, BadTransaction, unclosed, zeroIdentifier}

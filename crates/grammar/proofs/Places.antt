@@ -13,10 +13,7 @@ use Rattle.base.specs.Lists.{isAt, part}
 use Rattle.megaco.specs.White.{after}
 use Rattle.megaco.specs.Tokens.{afterNumber}
 use Rattle.megaco.specs.Reading.{Read, got, fault, bind, skip, reading, readNumber}
-use Rattle.megaco.specs.declared.Parsed.{Parsed}
-use Rattle.megaco.specs.declared.Parsed.the-variants.{Next, Fault}
-use Rattle.megaco.specs.declared.Number.{Number}
-use Rattle.megaco.specs.declared.Number.the-variants.{Got, Bad}
+use Rattle.types.specs.Types.{Parsed, Next, Fault, Number, Got, Bad}
 
 -- ---- parts one after another
 

@@ -6,23 +6,10 @@ use mathlib.Core.List.{List}
 use mathlib.Core.Option.{some}
 use native.Mathlib.Omega.{arith}
 use Rattle.base.specs.Pick.{pick}
-use Rattle.base.specs.Lists.{isAt}
-use Rattle.megaco.specs.Bytes.{comma, rightBrace}
+use Rattle.megaco.specs.Bytes.{rightBrace}
 use Rattle.megaco.specs.Tree.{plain, ItemOf}
 use Rattle.megaco.specs.Items.{modeGiven, stateGiven, propertyToken, valueGiven, setValue, propertyItems, itemsIn, topItems, auditItems, auditGiven, unchanged, mediaGiven, noItems, judgeItems}
-use Rattle.megaco.specs.declared.Parsed.the-variants.{Next, Fault}
-use Rattle.megaco.specs.declared.Token.{Token}
-use Rattle.megaco.specs.declared.Given.{Given}
-use Rattle.megaco.specs.declared.Given.the-variants.{Keep, To}
-use Rattle.megaco.specs.declared.Judged.{Judged}
-use Rattle.megaco.specs.declared.Judged.the-variants.{Wrong, Right}
-use Rattle.megaco.specs.declared.Checked.{Checked}
-use Rattle.megaco.specs.declared.Checked.the-variants.{Passes, Fails}
-use Rattle.megaco.specs.declared.Op.{Op}
-use Rattle.megaco.specs.declared.Op.the-variants.{Add, Modify, Subtract, Move, AuditValue}
-use Rattle.megaco.specs.declared.Kind.{Kind}
-use Rattle.megaco.specs.declared.Kind.the-variants.{InControl, InState}
-use Rattle.megaco.specs.declared.Values.{Values}
+use Rattle.types.specs.Types.{Token, Given, Keep, To, Judged, Wrong, Right, Checked, Passes, Fails, Op, Add, Modify, Subtract, Move, AuditValue, Kind, InControl, InState, Values}
 use Rattle.read_command.specs.Production.{pastSign}
 use Rattle.read_command.specs.Places.{itemsAt}
 use Rattle.command_places.specs.declared.ItemPlaces.{ItemPlaces}
@@ -30,7 +17,7 @@ use Rattle.command_places.specs.declared.CommandPlaces.{CommandPlaces}
 use Rattle.command_places.specs.Found.{itemsFrom, commandEndFrom}
 use Rattle.judge_items.specs.declared.JudgedItems.{JudgedItems}
 use Rattle.judge_items.proofs.ListLaws.{audit-given}
-use Rattle.judge_items.specs.Judging.{calledBy, valueBy, nextAt, itemChecked, judgedBy, kindOf, Known, closedBy}
+use Rattle.judge_items.specs.Judging.{calledBy, valueBy, itemChecked, judgedBy, kindOf, Known, closedBy}
 
 -- ---- values
 
@@ -79,15 +66,6 @@ module _ (s : List ℕ) (p : ItemPlaces) (k : Kind) where
 
 pub inside-kind : {A : Type 0} (c : Bool) (k : Kind) (is : List (ItemOf A)) (seen : Bool) (vs : Values) (r : Judged) → k ≡ kindOf c → r ≡ propertyItems k is seen vs → r ≡ propertyItems (kindOf c) is seen vs
 inside-kind c k is seen vs r e h = rw (← e) h
-
-module _ (s : List ℕ) (e : ℕ) (x : Bool) (g : x ≡ isAt s e comma) where
-  pub next-one : (u : ℕ) → x ≡ true → u ≡ pastSign comma s e → Next u ≡ nextAt s e
-  unfolding nextAt pick
-  next-one u t h = rw (← g, t, h)
-
-  pub next-none : x ≡ false → Fault ≡ nextAt s e
-  unfolding nextAt pick
-  next-none f = rw (← g, f)
 
 -- ---- ends
 

@@ -1,5 +1,4 @@
 pub mod CallLaws
 pub mod OneLaws
 pub mod ListLaws
-pub mod FairLaws
 pub mod ValueLaws

@@ -1,6 +1,6 @@
 -- Items in reading order: the items of a list judged one after another, from the place that was reached.
 use Prim.Native.Nat.{ℕ, suc, _+_, _-_, _<_, _≤_}
-use mathlib.Core.Path.{_≡_, refl, sym, _∙_}
+use mathlib.Core.Path.{_≡_, refl, sym, ap, _∙_}
 use mathlib.Core.Bool.{Bool, true, false, not, _||_}
 use mathlib.Core.List.{List, [], _∷_}
 use native.Mathlib.Omega.{arith}
@@ -11,18 +11,13 @@ use Rattle.megaco.specs.Bytes.{comma}
 use Rattle.megaco.specs.Tree.{ItemOf, item, Item}
 use Rattle.megaco.specs.Reading.{unlimited}
 use Rattle.megaco.specs.Items.{onward, called, descriptorShape, propertyShape, propertyToken, valueGiven, setValue, propertyItems, itemsIn, mediaItems, topItems, auditing, bareShape, auditedItems, auditItems, auditGiven, unchanged}
-use Rattle.megaco.specs.declared.Parsed.{Parsed}
-use Rattle.megaco.specs.declared.Parsed.the-variants.{Next, Fault}
-use Rattle.megaco.specs.declared.Token.the-variants.{AuditToken, MediaToken, LocalControlToken}
-use Rattle.megaco.specs.declared.Judged.{Judged}
-use Rattle.megaco.specs.declared.Judged.the-variants.{Wrong, Right}
-use Rattle.megaco.specs.declared.Kind.{Kind}
-use Rattle.megaco.specs.declared.Values.{Values}
+use Rattle.types.specs.Types.{Parsed, Next, Fault, AuditToken, MediaToken, LocalControlToken, Judged, Wrong, Right, Kind, Values}
 use Rattle.read_command.specs.Production.{pastSign, listOf, listEnd}
 use Rattle.read_command.specs.Places.{itemAt, itemsAt}
-use Rattle.command_places.proofs.EndLaws.{all-end-last, all-end-more}
+use Rattle.command_places.specs.Found.{nextAt}
+use Rattle.command_places.proofs.NextLaws.{part-last, part-more}
 use Rattle.judge_items.specs.declared.Descriptors.{Descriptors}
-use Rattle.judge_items.specs.Judging.{nextAt, kindOf, stoodAfter}
+use Rattle.judge_items.specs.Judging.{kindOf, stoodAfter}
 use Rattle.judge_items.proofs.OneLaws.{by-kind, mediaAll, stoodNext}
 
 -- ---- a list as its items one by one: `f` judges a list, `next` tells what stood before the item after this one
@@ -107,25 +102,11 @@ module _ {A : Type 0} (one : ℕ → A) (end : ℕ → ℕ) (s : List ℕ) (n i 
     left-some = let z : length s + 1 - n ≡ suc (length s + 1 - (n + 1)) = omega arith in rw z
 
     module _ (e : ℕ) (x : Parsed) (o : e ≡ ends) (g : x ≡ nextAt s e) where
-      follows : x ≡ pick (isAt s ends comma) (Next (pastSign comma s ends)) Fault
-      unfolding nextAt
-      follows = g ∙ rw o
-
       left-one : x ≡ Fault → itemsLeft one end s n i ≡ one i ∷ []
-      unfolding pick
-      left-one w = left-some ∙ by (isAt s ends comma) (pastSign comma s ends) follows
-        where
-          by : (t : Bool) (z : ℕ) → x ≡ pick t (Next z) Fault → one i ∷ pick t (itemsLeft one end s (n + 1) z) [] ≡ one i ∷ []
-          by true z e = let c : _≡_ {A = ℕ} 0 1 = cc in absurd (omega arith)
-          by false z e = refl
+      left-one w = left-some ∙ ap (λ (is : List A). one i ∷ is) (part-last s e ends o x g (itemsLeft one end s (n + 1)) [] w)
 
       left-more : (u : ℕ) → x ≡ Next u → itemsLeft one end s n i ≡ one i ∷ itemsLeft one end s (n + 1) u
-      unfolding pick
-      left-more u w = left-some ∙ by (isAt s ends comma) (pastSign comma s ends) follows
-        where
-          by : (t : Bool) (z : ℕ) → x ≡ pick t (Next z) Fault → one i ∷ pick t (itemsLeft one end s (n + 1) z) [] ≡ one i ∷ itemsLeft one end s (n + 1) u
-          by true z e = let c : z ≡ u = cc in rw c
-          by false z e = let c : _≡_ {A = ℕ} 0 1 = cc in absurd (omega arith)
+      left-more u w = left-some ∙ ap (λ (is : List A). one i ∷ is) (part-more s e ends o x g (itemsLeft one end s (n + 1)) [] u w)
 
 -- ---- a list from its start
 
@@ -198,20 +179,3 @@ module _ {A S : Type 0} (f : List A → S → Values → Judged) (next : A → S
 pub items-begin : (k : ℕ) (s : List ℕ) (at : ℕ) → itemsAt (suc k) s at .end ≡ listEnd (λ j. itemAt k (itemsAt k s) s j .end) s (length s + 1 - 0) at
 unfolding itemsAt unlimited
 items-begin k s at = let z : length s + 1 - 0 ≡ length s + 1 = omega arith in rw z
-
-module _ (end : ℕ → ℕ) (s : List ℕ) (n i q : ℕ) (inv : q ≡ listEnd end s (length s + 1 - n) i) (h : n ≤ length s) (e : ℕ) (d : e ≡ end i) (x : Parsed) (g : x ≡ nextAt s e) where
-  pub ends-last : x ≡ Fault → e ≡ q
-  unfolding nextAt pick
-  ends-last w = by (isAt s e comma) refl g
-    where
-      by : (b : Bool) → b ≡ isAt s e comma → x ≡ pick b (Next (pastSign comma s e)) Fault → e ≡ q
-      by true t c = let z : _≡_ {A = ℕ} 0 1 = cc in absurd (omega arith)
-      by false t c = all-end-last end s n i q inv h e d false t refl
-
-  pub ends-more : (u : ℕ) → x ≡ Next u → q ≡ listEnd end s (length s + 1 - (n + 1)) u
-  unfolding nextAt pick
-  ends-more u w = by (isAt s e comma) refl g
-    where
-      by : (b : Bool) → b ≡ isAt s e comma → x ≡ pick b (Next (pastSign comma s e)) Fault → q ≡ listEnd end s (length s + 1 - (n + 1)) u
-      by true t c = let z : u ≡ pastSign comma s e = cc in all-end-more end s n i q inv h e d true t u refl z
-      by false t c = let z : _≡_ {A = ℕ} 0 1 = cc in absurd (omega arith)

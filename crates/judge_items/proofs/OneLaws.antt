@@ -14,14 +14,7 @@ use Rattle.megaco.specs.Keywords.{isToken, spells, meaningOf}
 use Rattle.megaco.proofs.Meanings.{spelt-means, spells-means}
 use Rattle.megaco.specs.Tree.{plain, quoted, ItemOf, item, Item}
 use Rattle.megaco.specs.Items.{onward, called, given?, descriptorShape, propertyShape, valueGiven, setValue, propertyItems, itemsIn, mediaItems, topItems, auditing, bareShape, auditedItems, auditItems}
-use Rattle.megaco.specs.declared.Token.{Token}
-use Rattle.megaco.specs.declared.Token.the-variants.{AuditToken, LocalControlToken, MediaToken}
-use Rattle.megaco.specs.declared.Given.the-variants.{Keep}
-use Rattle.megaco.specs.declared.Judged.{Judged}
-use Rattle.megaco.specs.declared.Judged.the-variants.{Wrong, Right}
-use Rattle.megaco.specs.declared.Kind.{Kind}
-use Rattle.megaco.specs.declared.Kind.the-variants.{InControl, InState}
-use Rattle.megaco.specs.declared.Values.{Values}
+use Rattle.types.specs.Types.{Token, AuditToken, LocalControlToken, MediaToken, Keep, Judged, Wrong, Right, Kind, InControl, InState, Values}
 use Rattle.read_command.specs.Production.{pastSign, wordEnd}
 use Rattle.read_command.specs.Places.{secondAt, auditAt, emptyAt, orNoneAt, itemAt, itemsAt}
 use Rattle.command_places.specs.declared.ValuePlaces.{ValuePlaces}

@@ -6,24 +6,11 @@ use mathlib.Core.List.{List}
 use mathlib.Core.Option.{some}
 use lib.ListN.{length}
 use Rattle.base.specs.Pick.{pick}
-use Rattle.base.specs.Lists.{isAt}
-use Rattle.megaco.specs.Bytes.{comma, rightBrace}
+use Rattle.megaco.specs.Bytes.{rightBrace}
 use Rattle.megaco.specs.Keywords.{isToken, spells}
 use Rattle.megaco.specs.Tree.{plain}
 use Rattle.megaco.specs.Items.{propertyToken, valueGiven, setValue, propertyItems, mediaItems, auditing, auditedItems}
-use Rattle.megaco.specs.declared.Parsed.{Parsed}
-use Rattle.megaco.specs.declared.Parsed.the-variants.{Next, Fault}
-use Rattle.megaco.specs.declared.Token.{Token}
-use Rattle.megaco.specs.declared.Token.the-variants.{AuditToken, MediaToken, LocalControlToken, TerminationStateToken, InactiveToken, SendonlyToken, RecvonlyToken, SendrecvToken, LoopbackToken, InSvcToken, OutOfSvcToken, TestToken}
-use Rattle.megaco.specs.declared.Given.{Given}
-use Rattle.megaco.specs.declared.Given.the-variants.{Keep, To}
-use Rattle.megaco.specs.declared.Judged.{Judged}
-use Rattle.megaco.specs.declared.Judged.the-variants.{Wrong, Right}
-use Rattle.megaco.specs.declared.Checked.{Checked}
-use Rattle.megaco.specs.declared.Checked.the-variants.{Passes, Fails}
-use Rattle.megaco.specs.declared.Kind.{Kind}
-use Rattle.megaco.specs.declared.Kind.the-variants.{InControl, InState}
-use Rattle.megaco.specs.declared.Values.{Values}
+use Rattle.types.specs.Types.{Token, AuditToken, MediaToken, LocalControlToken, TerminationStateToken, InactiveToken, SendonlyToken, RecvonlyToken, SendrecvToken, LoopbackToken, InSvcToken, OutOfSvcToken, TestToken, Given, Keep, To, Judged, Wrong, Right, Checked, Passes, Fails, Kind, InControl, InState, Values}
 use Rattle.read_command.specs.Production.{pastSign}
 use Rattle.read_command.specs.Places.{orNoneAt, itemsAt}
 use Rattle.command_places.specs.declared.ItemPlaces.{ItemPlaces}
@@ -32,7 +19,7 @@ use Rattle.judge_items.specs.declared.Descriptors.{Descriptors}
 use Rattle.judge_items.specs.declared.JudgedItems.{JudgedItems}
 
 -- an item's word and its plain value lie within the message
-pub record Lies (s : List ℕ) (p : ItemPlaces) : Type 0 where
+pub record InMessage (s : List ℕ) (p : ItemPlaces) : Type 0 where
   pub word-ordered : p .word .from ≤ p .word .to
   pub word-inside : p .word .to ≤ length s
   pub value-ordered : p .value .plain .from ≤ p .value .plain .to
@@ -57,10 +44,6 @@ stateBy k = pick (isToken InSvcToken k) (To 0) (pick (isToken OutOfSvcToken k) (
 -- a quoted value gives none
 unfoldable pub valueBy : Kind → List ℕ → ItemPlaces → Given
 valueBy k s p = pick (p .value .quoted) Keep (valueGiven k (some (plain (bytesOf s (p .value .plain)))))
-
--- behind the comma that follows an item, if one does
-unfoldable pub nextAt : List ℕ → ℕ → Parsed
-nextAt s e = pick (isAt s e comma) (Next (pastSign comma s e)) Fault
 
 -- where items end is known if nothing is wrong with them
 pub record Known (e : ℕ) (r : JudgedItems) : Type 0 where

@@ -8,7 +8,7 @@ ghost use Rattle.megaco.specs.Bytes.{rightBrace};
 ghost use Rattle.read_command.specs.Production.{pastSign};
 ghost use Rattle.read_command.specs.Places.{orNoneAt, itemsAt};
 ghost use Rattle.command_places.specs.Found.{itemsFrom, commandEndFrom};
-ghost use Rattle.judge_items.specs.Judging.{Lies, modeBy, stateBy, calledBy, itemChecked, calledIn, kindOf, stoodAfter, valueBy, nextAt, propertyBy, mediaBy, topBy, auditedBy, auditBy, Known, closedBy};
+ghost use Rattle.judge_items.specs.Judging.{InMessage, modeBy, stateBy, calledBy, itemChecked, calledIn, kindOf, stoodAfter, valueBy, propertyBy, mediaBy, topBy, auditedBy, auditBy, Known, closedBy};
 use command_places::CommandPlaces;
 use command_places::ItemPlaces;
 use command_places::ValuePlaces;
@@ -92,7 +92,7 @@ fn plain_given(k: Kind, w: &[u8]) -> Given
 
 // What a value gives: nothing if it stands between quotes.
 fn value_given(s: &[u8], p: ItemPlaces, k: Kind) -> Given
-    requires { ⌜ Lies (now s) p ⌝ }
+    requires { ⌜ InMessage (now s) p ⌝ }
     ensures { λ r. ⌜ r ≡ valueBy k (now (s .entry)) p ⌝ }
 {
     let v = p.value;
@@ -129,7 +129,7 @@ fn set_value(k: Kind, g: Given, values: Values) -> Judged
 
 // Whether an item is called by a keyword: a name with `/` is called by none.
 fn item_called(s: &[u8], p: ItemPlaces, k: Token) -> bool
-    requires { ⌜ Lies (now s) p ⌝ }
+    requires { ⌜ InMessage (now s) p ⌝ }
     ensures { λ r. ⌜ r ≡ calledBy k (now (s .entry)) p ⌝ }
 {
     let word = p.word;
@@ -152,16 +152,6 @@ fn check_item(unknown: u32, known: bool, repeated: bool, shaped: bool) -> Checke
         return Checked::Fails(442);
     }
     Checked::Passes
-}
-
-// Where the next item begins, if one follows the one that ends here.
-fn next_item(s: &[u8], e: usize) -> Parsed
-    ensures { λ r. ⌜ r ≡ nextAt (now (s .entry)) e ⌝ }
-{
-    if text::is_at(s, e, b',') {
-        return Parsed::Next(command_places::past_comma(s, e));
-    }
-    Parsed::Fault
 }
 
 // Items and the brace that closes them.
@@ -188,7 +178,7 @@ fn property_token(k: Kind) -> Token
 }
 
 fn property_item(s: &[u8], p: ItemPlaces, k: Kind, seen: bool, values: Values) -> Judged
-    requires { ⌜ Lies (now s) p ⌝ }
+    requires { ⌜ InMessage (now s) p ⌝ }
     ensures { λ r. ⌜ r ≡ propertyBy k seen values (now (s .entry)) p ⌝ }
 {
     let v = p.value;
@@ -216,7 +206,7 @@ fn property_items(s: &[u8], at: usize, k: Kind, values: Values) -> JudgedItems
         };
         let v = p.value;
         let e = v.end;
-        let x = next_item(s, e);
+        let x = command_places::next_part(s, e);
         let Parsed::Next(u) = x else {
             return JudgedItems { judged: j, end: e };
         };
@@ -234,7 +224,7 @@ fn property_items(s: &[u8], at: usize, k: Kind, values: Values) -> JudgedItems
 
 // Which descriptor an item is called.
 fn media_called(s: &[u8], p: ItemPlaces) -> Descriptors
-    requires { ⌜ Lies (now s) p ⌝ }
+    requires { ⌜ InMessage (now s) p ⌝ }
     ensures { λ r. ⌜ r ≡ calledIn (now (s .entry)) p ⌝ }
 {
     let control = item_called(s, p, Token::LocalControlToken);
@@ -310,7 +300,7 @@ fn media_items(s: &[u8], at: usize, values: Values) -> JudgedItems
             return JudgedItems { judged: j, end: 0 };
         };
         let e = y.end;
-        let x = next_item(s, e);
+        let x = command_places::next_part(s, e);
         let Parsed::Next(u) = x else {
             return y;
         };
@@ -327,7 +317,7 @@ fn media_items(s: &[u8], at: usize, values: Values) -> JudgedItems
 // ---- at the top
 
 fn top_item(s: &[u8], p: ItemPlaces, seen: bool, values: Values) -> JudgedItems
-    requires { ⌜ Lies (now s) p ⌝ }
+    requires { ⌜ InMessage (now s) p ⌝ }
     ensures { λ r. ⌜ (r .judged ≡ topBy seen values (now (s .entry)) p) × Known (pastSign rightBrace (now (s .entry)) (itemsAt 7 (now (s .entry)) (p .inside) .end)) r ⌝ }
 {
     let v = p.value;
@@ -362,7 +352,7 @@ fn top_items(s: &[u8], at: usize, values: Values) -> JudgedItems
             return JudgedItems { judged: j, end: 0 };
         };
         let e = y.end;
-        let x = next_item(s, e);
+        let x = command_places::next_part(s, e);
         let Parsed::Next(u) = x else {
             return y;
         };
@@ -379,7 +369,7 @@ fn top_items(s: &[u8], at: usize, values: Values) -> JudgedItems
 // ---- in Audit
 
 fn audited_item(s: &[u8], p: ItemPlaces, seen: bool) -> Judged
-    requires { ⌜ Lies (now s) p ⌝ }
+    requires { ⌜ InMessage (now s) p ⌝ }
     ensures { λ r. ⌜ r ≡ auditedBy seen (now (s .entry)) p ⌝ }
 {
     let v = p.value;
@@ -411,7 +401,7 @@ fn audited_items(s: &[u8], at: usize, values: Values) -> JudgedItems
         };
         let v = p.value;
         let e = v.end;
-        let x = next_item(s, e);
+        let x = command_places::next_part(s, e);
         let Parsed::Next(u) = x else {
             return JudgedItems { judged: j, end: e };
         };
@@ -441,7 +431,7 @@ fn audit_inside(s: &[u8], at: usize, values: Values) -> JudgedItems
 // ---- at the top of AuditValue
 
 fn audit_item(s: &[u8], p: ItemPlaces, seen: bool, values: Values) -> JudgedItems
-    requires { ⌜ Lies (now s) p ⌝ }
+    requires { ⌜ InMessage (now s) p ⌝ }
     ensures { λ r. ⌜ (r .judged ≡ auditBy seen values (now (s .entry)) p) × Known (pastSign rightBrace (now (s .entry)) (orNoneAt true (itemsAt 7 (now (s .entry))) (now (s .entry)) (p .inside) .end)) r ⌝ }
 {
     let v = p.value;
@@ -476,7 +466,7 @@ fn audit_items(s: &[u8], at: usize, values: Values) -> JudgedItems
             return JudgedItems { judged: j, end: 0 };
         };
         let e = y.end;
-        let x = next_item(s, e);
+        let x = command_places::next_part(s, e);
         let Parsed::Next(u) = x else {
             return y;
         };

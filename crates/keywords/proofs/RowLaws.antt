@@ -14,15 +14,14 @@ use Rattle.base.specs.Lists.{same, every, has}
 use Rattle.base.proofs.TestLaws.{clash, and-both, same-is, not-holds}
 use Rattle.megaco.specs.Bytes.{capitals}
 use Rattle.megaco.specs.Keywords.{Row as Keyword, row, page, Forms, forms, formsOf, spelt, spells, meaningIn, meaningOf}
-use Rattle.megaco.specs.declared.Token.{Token}
-use Rattle.megaco.specs.declared.Token.the-variants.{AddToken}
+use Rattle.types.specs.Types.{Token, AddToken}
 use Rattle.megaco.proofs.Token.{enum}
 use Rattle.megaco.proofs.Variants.{everyChoice, everyCase}
 use Rattle.megaco.proofs.Meanings.{every-token}
 use Rattle.keywords.specs.declared.Row.{Row}
 use Rattle.keywords.specs.declared.Meaning.{Meaning}
 use Rattle.keywords.specs.declared.Meaning.the-variants.{Of, Nothing}
-use Rattle.keywords.specs.Page.{longOf, shortOf, padded, tokenIn, tokenAt, rowOf, rowsOf, isBig, Formed, told, Spelling, spelling, spellingsOf, firstOf, sized, later, meaningLater}
+use Rattle.keywords.specs.Page.{longOf, shortOf, padded, tokenIn, tokenAt, rowOf, rowsOf, isBig, Formed, tokenOf, Spelling, spelling, spellingsOf, firstOf, sized, later, meaningLater}
 
 -- ---- rows
 
@@ -65,8 +64,8 @@ last-row n i r l h e =
     let m : n ≤ i = above n i h in
     e ∙ ap rowOf (last-in page AddToken n (omega arith) ∙ sym (last-in page AddToken i (omega arith)))
 
-pub of-row : (k : Token) (r : Row) → r ≡ rowOf k → told (Of (r .0)) ≡ some k
-unfolding told rowOf
+pub of-row : (k : Token) (r : Row) → r ≡ rowOf k → tokenOf (Of (r .0)) ≡ some k
+unfolding tokenOf rowOf
 of-row k r e = rw e
 
 unfoldable formed : List ℕ → Bool
@@ -202,16 +201,16 @@ has-none n [] h = refl
 has-none n (x ∷ xs) h = rw (not-holds (eqb x n) (λ d. h .0 (sym (eqb-true x n d)))) (has-none n xs (h .1))
 
 -- a word whose length no form has
-pub no-length : (ls : List ℕ) (w : List ℕ) → lengthsIn ls (spellingsOf page) ≡ true → NoneOf (length w) ls → told Nothing ≡ meaningOf w
-unfolding told
+pub no-length : (ls : List ℕ) (w : List ℕ) → lengthsIn ls (spellingsOf page) ≡ true → NoneOf (length w) ls → tokenOf Nothing ≡ meaningOf w
+unfolding tokenOf
 no-length ls w a h = sym (of-length (length w) w refl ∙ none-in (length w) ls (spellingsOf page) (capitals w) a (has-none (length w) ls h))
 
 -- ---- for who looks a word up
 
-pub told-some : (w : List ℕ) (m : Meaning) (k : Token) → told m ≡ meaningOf w → m ≡ Of k → meaningOf w ≡ some k
-unfolding told
-told-some w m k h g = sym h ∙ ap told g
+pub token-some : (w : List ℕ) (m : Meaning) (k : Token) → tokenOf m ≡ meaningOf w → m ≡ Of k → meaningOf w ≡ some k
+unfolding tokenOf
+token-some w m k h g = sym h ∙ ap tokenOf g
 
-pub told-none : (w : List ℕ) (m : Meaning) → told m ≡ meaningOf w → m ≡ Nothing → meaningOf w ≡ none
-unfolding told
-told-none w m h g = sym h ∙ ap told g
+pub token-none : (w : List ℕ) (m : Meaning) → tokenOf m ≡ meaningOf w → m ≡ Nothing → meaningOf w ≡ none
+unfolding tokenOf
+token-none w m h g = sym h ∙ ap tokenOf g

@@ -11,8 +11,7 @@ use Rattle.base.specs.Pick.{pick}
 use Rattle.base.specs.Lists.{same, every}
 use Rattle.megaco.specs.Bytes.{capitals}
 use Rattle.megaco.specs.Keywords.{Row as Keyword, row, page, Forms, forms, formsOf}
-use Rattle.megaco.specs.declared.Token.{Token}
-use Rattle.megaco.specs.declared.Token.the-variants.{AddToken}
+use Rattle.types.specs.Types.{Token, AddToken}
 use Rattle.keywords.specs.declared.Row.{Row}
 use Rattle.keywords.specs.declared.Meaning.{Meaning}
 use Rattle.keywords.specs.declared.Meaning.the-variants.{Of, Nothing}
@@ -85,9 +84,9 @@ pub record Formed (f : List ℕ) : Type 0 where
 
 -- ---- the meaning of any bytes
 
-unfoldable pub told : Meaning → Option Token
-told (Of k) = some k
-told Nothing = none
+unfoldable pub tokenOf : Meaning → Option Token
+tokenOf (Of k) = some k
+tokenOf Nothing = none
 
 -- a form of a row
 pub data Spelling : Type 0 where

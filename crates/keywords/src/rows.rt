@@ -5,7 +5,7 @@ ghost use lib.ListN.{length};
 ghost use Rattle.base.specs.Lists.{same};
 ghost use Rattle.megaco.specs.Bytes.{capitals};
 ghost use Rattle.megaco.specs.Keywords.{page, formsOf, spells, meaningOf};
-ghost use Rattle.keywords.specs.Page.{rowOf, rowsOf, tokenAt, longOf, shortOf, told, meaningLater};
+ghost use Rattle.keywords.specs.Page.{rowOf, rowsOf, tokenAt, longOf, shortOf, tokenOf, meaningLater};
 use crate::KEYWORDS;
 use crate::Meaning;
 use crate::Row;
@@ -125,7 +125,7 @@ pub fn spells(k: Token, w: &[u8]) -> bool
 
 // What a row's keyword means.
 fn of(i: usize) -> Meaning
-    ensures { λ r. ⌜ told r ≡ some (tokenAt i) ⌝ }
+    ensures { λ r. ⌜ tokenOf r ≡ some (tokenAt i) ⌝ }
 {
     let r = row_at(i);
     let m = r.0;
@@ -135,7 +135,7 @@ fn of(i: usize) -> Meaning
 // ---- words by their length
 
 fn letters_16(w: &[u8]) -> Meaning
-    ensures { λ r. ⌜ told r ≡ meaningLater 16 0 (now (w .entry)) ⌝ }
+    ensures { λ r. ⌜ tokenOf r ≡ meaningLater 16 0 (now (w .entry)) ⌝ }
 {
     if is_long(w, 26, 16) {
         return of(26);
@@ -144,7 +144,7 @@ fn letters_16(w: &[u8]) -> Meaning
 }
 
 fn letters_13(w: &[u8]) -> Meaning
-    ensures { λ r. ⌜ told r ≡ meaningLater 13 0 (now (w .entry)) ⌝ }
+    ensures { λ r. ⌜ tokenOf r ≡ meaningLater 13 0 (now (w .entry)) ⌝ }
 {
     if is_long(w, 24, 13) {
         return of(24);
@@ -153,7 +153,7 @@ fn letters_13(w: &[u8]) -> Meaning
 }
 
 fn letters_12(w: &[u8]) -> Meaning
-    ensures { λ r. ⌜ told r ≡ meaningLater 12 0 (now (w .entry)) ⌝ }
+    ensures { λ r. ⌜ tokenOf r ≡ meaningLater 12 0 (now (w .entry)) ⌝ }
 {
     if is_long(w, 10, 12) {
         return of(10);
@@ -165,7 +165,7 @@ fn letters_12(w: &[u8]) -> Meaning
 }
 
 fn letters_11(w: &[u8]) -> Meaning
-    ensures { λ r. ⌜ told r ≡ meaningLater 11 0 (now (w .entry)) ⌝ }
+    ensures { λ r. ⌜ tokenOf r ≡ meaningLater 11 0 (now (w .entry)) ⌝ }
 {
     if is_long(w, 20, 11) {
         return of(20);
@@ -180,7 +180,7 @@ fn letters_11(w: &[u8]) -> Meaning
 }
 
 fn letters_10(w: &[u8]) -> Meaning
-    ensures { λ r. ⌜ told r ≡ meaningLater 10 0 (now (w .entry)) ⌝ }
+    ensures { λ r. ⌜ tokenOf r ≡ meaningLater 10 0 (now (w .entry)) ⌝ }
 {
     if is_long(w, 2, 10) {
         return of(2);
@@ -189,7 +189,7 @@ fn letters_10(w: &[u8]) -> Meaning
 }
 
 fn letters_9(w: &[u8]) -> Meaning
-    ensures { λ r. ⌜ told r ≡ meaningLater 9 0 (now (w .entry)) ⌝ }
+    ensures { λ r. ⌜ tokenOf r ≡ meaningLater 9 0 (now (w .entry)) ⌝ }
 {
     if is_long(w, 5, 9) {
         return of(5);
@@ -201,7 +201,7 @@ fn letters_9(w: &[u8]) -> Meaning
 }
 
 fn letters_8_from_5(w: &[u8]) -> Meaning
-    ensures { λ r. ⌜ told r ≡ meaningLater 8 5 (now (w .entry)) ⌝ }
+    ensures { λ r. ⌜ tokenOf r ≡ meaningLater 8 5 (now (w .entry)) ⌝ }
 {
     if is_long(w, 28, 8) {
         return of(28);
@@ -210,7 +210,7 @@ fn letters_8_from_5(w: &[u8]) -> Meaning
 }
 
 fn letters_8(w: &[u8]) -> Meaning
-    ensures { λ r. ⌜ told r ≡ meaningLater 8 0 (now (w .entry)) ⌝ }
+    ensures { λ r. ⌜ tokenOf r ≡ meaningLater 8 0 (now (w .entry)) ⌝ }
 {
     if is_long(w, 7, 8) {
         return of(7);
@@ -231,7 +231,7 @@ fn letters_8(w: &[u8]) -> Meaning
 }
 
 fn letters_7(w: &[u8]) -> Meaning
-    ensures { λ r. ⌜ told r ≡ meaningLater 7 0 (now (w .entry)) ⌝ }
+    ensures { λ r. ⌜ tokenOf r ≡ meaningLater 7 0 (now (w .entry)) ⌝ }
 {
     if is_long(w, 3, 7) {
         return of(3);
@@ -246,7 +246,7 @@ fn letters_7(w: &[u8]) -> Meaning
 }
 
 fn letters_6(w: &[u8]) -> Meaning
-    ensures { λ r. ⌜ told r ≡ meaningLater 6 0 (now (w .entry)) ⌝ }
+    ensures { λ r. ⌜ tokenOf r ≡ meaningLater 6 0 (now (w .entry)) ⌝ }
 {
     if is_long(w, 13, 6) {
         return of(13);
@@ -261,7 +261,7 @@ fn letters_6(w: &[u8]) -> Meaning
 }
 
 fn letters_5(w: &[u8]) -> Meaning
-    ensures { λ r. ⌜ told r ≡ meaningLater 5 0 (now (w .entry)) ⌝ }
+    ensures { λ r. ⌜ tokenOf r ≡ meaningLater 5 0 (now (w .entry)) ⌝ }
 {
     if is_long(w, 1, 5) {
         return of(1);
@@ -279,7 +279,7 @@ fn letters_5(w: &[u8]) -> Meaning
 }
 
 fn letters_4(w: &[u8]) -> Meaning
-    ensures { λ r. ⌜ told r ≡ meaningLater 4 0 (now (w .entry)) ⌝ }
+    ensures { λ r. ⌜ tokenOf r ≡ meaningLater 4 0 (now (w .entry)) ⌝ }
 {
     if is_long(w, 14, 4) {
         return of(14);
@@ -294,7 +294,7 @@ fn letters_4(w: &[u8]) -> Meaning
 }
 
 fn letters_3(w: &[u8]) -> Meaning
-    ensures { λ r. ⌜ told r ≡ meaningLater 3 0 (now (w .entry)) ⌝ }
+    ensures { λ r. ⌜ tokenOf r ≡ meaningLater 3 0 (now (w .entry)) ⌝ }
 {
     if is_long(w, 0, 3) {
         return of(0);
@@ -303,7 +303,7 @@ fn letters_3(w: &[u8]) -> Meaning
 }
 
 fn letters_2_from_20(w: &[u8]) -> Meaning
-    ensures { λ r. ⌜ told r ≡ meaningLater 2 20 (now (w .entry)) ⌝ }
+    ensures { λ r. ⌜ tokenOf r ≡ meaningLater 2 20 (now (w .entry)) ⌝ }
 {
     if is_short(w, 27, 2) {
         return of(27);
@@ -315,7 +315,7 @@ fn letters_2_from_20(w: &[u8]) -> Meaning
 }
 
 fn letters_2_from_15(w: &[u8]) -> Meaning
-    ensures { λ r. ⌜ told r ≡ meaningLater 2 15 (now (w .entry)) ⌝ }
+    ensures { λ r. ⌜ tokenOf r ≡ meaningLater 2 15 (now (w .entry)) ⌝ }
 {
     if is_short(w, 20, 2) {
         return of(20);
@@ -336,7 +336,7 @@ fn letters_2_from_15(w: &[u8]) -> Meaning
 }
 
 fn letters_2_from_10(w: &[u8]) -> Meaning
-    ensures { λ r. ⌜ told r ≡ meaningLater 2 10 (now (w .entry)) ⌝ }
+    ensures { λ r. ⌜ tokenOf r ≡ meaningLater 2 10 (now (w .entry)) ⌝ }
 {
     if is_short(w, 15, 2) {
         return of(15);
@@ -357,7 +357,7 @@ fn letters_2_from_10(w: &[u8]) -> Meaning
 }
 
 fn letters_2_from_5(w: &[u8]) -> Meaning
-    ensures { λ r. ⌜ told r ≡ meaningLater 2 5 (now (w .entry)) ⌝ }
+    ensures { λ r. ⌜ tokenOf r ≡ meaningLater 2 5 (now (w .entry)) ⌝ }
 {
     if is_short(w, 7, 2) {
         return of(7);
@@ -378,7 +378,7 @@ fn letters_2_from_5(w: &[u8]) -> Meaning
 }
 
 fn letters_2(w: &[u8]) -> Meaning
-    ensures { λ r. ⌜ told r ≡ meaningLater 2 0 (now (w .entry)) ⌝ }
+    ensures { λ r. ⌜ tokenOf r ≡ meaningLater 2 0 (now (w .entry)) ⌝ }
 {
     if is_short(w, 1, 2) {
         return of(1);
@@ -399,7 +399,7 @@ fn letters_2(w: &[u8]) -> Meaning
 }
 
 fn letters_1_from_5(w: &[u8]) -> Meaning
-    ensures { λ r. ⌜ told r ≡ meaningLater 1 5 (now (w .entry)) ⌝ }
+    ensures { λ r. ⌜ tokenOf r ≡ meaningLater 1 5 (now (w .entry)) ⌝ }
 {
     if is_short(w, 21, 1) {
         return of(21);
@@ -414,7 +414,7 @@ fn letters_1_from_5(w: &[u8]) -> Meaning
 }
 
 fn letters_1(w: &[u8]) -> Meaning
-    ensures { λ r. ⌜ told r ≡ meaningLater 1 0 (now (w .entry)) ⌝ }
+    ensures { λ r. ⌜ tokenOf r ≡ meaningLater 1 0 (now (w .entry)) ⌝ }
 {
     if is_short(w, 0, 1) {
         return of(0);
@@ -436,7 +436,7 @@ fn letters_1(w: &[u8]) -> Meaning
 
 // The meaning of the row that spells the word, letter case aside, or none.
 pub fn meaning_of(w: &[u8]) -> Meaning
-    ensures { λ r. ⌜ told r ≡ meaningOf (now (w .entry)) ⌝ }
+    ensures { λ r. ⌜ tokenOf r ≡ meaningOf (now (w .entry)) ⌝ }
 {
     let n = w.len();
     if n == 1 {

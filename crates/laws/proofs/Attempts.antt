@@ -8,13 +8,7 @@ use lib.Dec.{ltb, leb, eqb}
 use borrow.Author.Tests.{eqb-true, eqb-false, eq-eqb, ltb-true, lt-ltb, leb-true, leb-false, le-leb, not-true, not-false}
 use native.Mathlib.Omega.{arith}
 use Rattle.base.specs.Pick.{pick}
-use Rattle.megaco.specs.declared.Context.{Context}
-use Rattle.megaco.specs.declared.Context.the-variants.{Numbered, Choose}
-use Rattle.megaco.specs.declared.Op.{Op}
-use Rattle.megaco.specs.declared.Op.the-variants.{Add, Modify, Subtract, Move, AuditValue}
-use Rattle.megaco.specs.declared.Checked.{Checked}
-use Rattle.megaco.specs.declared.Values.{Values}
-use Rattle.megaco.specs.declared.View.{View}
+use Rattle.types.specs.Types.{Context, Numbered, Choose, Op, Add, Modify, Subtract, Move, AuditValue, Checked, Values, View}
 use Rattle.megaco.specs.Table.{lineTerminations, terminations, contexts, fitted, most, prop, rec, ctx, cell, get, Write, write, apply, recordWords, isEphemeral, exists, known, members, freeContext}
 use Rattle.megaco.specs.Square.{Square, joined as joinedSquare, parted}
 use Rattle.megaco.proofs.Squares.{shape-joined, shape-parted}
@@ -31,7 +25,8 @@ use Rattle.laws.proofs.Counting.{member, place-low, lowest}
 use Rattle.laws.proofs.Flows.{fit-joined, fit-parted}
 use Rattle.laws.proofs.Sound.{alive, record-words, record-at}
 use Rattle.laws.proofs.Moved.{Moves, Streams, Fitting, Goes, low-low, high-high, low-high, high-low, moved-sound, moved-here, modified-place, modified-sound}
-use Rattle.laws.proofs.Values.{Fair, update-sound}
+use Rattle.types.specs.Ranges.{InRange}
+use Rattle.laws.proofs.Values.{update-sound}
 use Rattle.laws.proofs.Meant.{Meant, Each, more, each-on}
 
 -- ---- what an attempt sees
@@ -90,12 +85,12 @@ pub data Joins : Context → List ℕ → Type 0 where
 pub data Stands : Context → Type 0 where
   stands : {c : ℕ} → 0 < c → Stands (Numbered c)
 
-abbrev pub Ready : Op → Context → List ℕ → Type 0
-Ready Add at t = Joins at t
-Ready Modify at t = Unit {0}
-Ready Subtract at t = Stands at
-Ready Move at t = Joins at t
-Ready AuditValue at t = Unit {0}
+abbrev pub MayAttempt : Op → Context → List ℕ → Type 0
+MayAttempt Add at t = Joins at t
+MayAttempt Modify at t = Unit {0}
+MayAttempt Subtract at t = Stands at
+MayAttempt Move at t = Joins at t
+MayAttempt AuditValue at t = Unit {0}
 
 -- a record that a context may have
 pub record Present (g : ℕ) : Type 0 where
@@ -141,7 +136,7 @@ targeted (Numbered c) i t W (there q l h) p =
 -- what an attempt leaves: a sound table, on which the command may go on
 pub record Leaves (op : Op) (at : Context) (t u : List ℕ) : Type 0 where
   pub whole : Whole u
-  pub ready : Ready op at u
+  pub ready : MayAttempt op at u
   pub meant : (j : ℕ) → Meant op t j → Meant op u j
 
 chosen : (at : Context) (v : View) → isChoose at ≡ true → target at v ≡ v .free
@@ -351,7 +346,7 @@ moved-away at i x t W T h p n e = by (isChoose at) refl
 
 -- a termination that joins
 arrives : (op : Op) (at : Context) (given d i y : ℕ) (t : List ℕ) (last mark : Bool) (ws : List Write) → inPlace op ≡ false
-    → ((c : Context) (u : List ℕ) → Joins c u → Ready op c u) → Whole t → Joins at t → Target at t (target at (look at i t))
+    → ((c : Context) (u : List ℕ) → Joins c u → MayAttempt op c u) → Whole t → Joins at t → Target at t (target at (look at i t))
     → Moves (fitted t) (isChoose at) last mark given d i (target at (look at i t)) y ws → Goes t (isChoose at) last mark given d i (target at (look at i t)) y
     → (parts : Bool) → Streams (not (isChoose at)) parts d (target at (look at i t)) (joinedIn (look at i t)) (partedIn (look at i t)) ws
     → Fitting t (not (isChoose at)) parts d (target at (look at i t)) (joinedIn (look at i t)) (partedIn (look at i t))
@@ -410,7 +405,7 @@ departs c given i t W h k e =
       meant = λ j m. record { small = rw (fitted-apply (leaving (look (Numbered c) i t) (marking (fitted t) i 0 (placed i 0 (subtracted (fitted t) i w)))) t) (m .small); there = λ z. absurd (clash (sym z)) };
     }
 
-pub attempt-sound : (op : Op) (at : Context) (given i : ℕ) (vs : Values) (t : List ℕ) → Whole t → Ready op at t → Meant op t i → Present given → Fair vs
+pub attempt-sound : (op : Op) (at : Context) (given i : ℕ) (vs : Values) (t : List ℕ) → Whole t → MayAttempt op at t → Meant op t i → Present given → InRange vs
     → Passed (checks op at (look at i t)) → Leaves op (settled at (look at i t)) t (apply (changes op at given i vs (look at i t)) t)
 unfolding changes look inPlace apply
 attempt-sound Add at given i vs t W j M G F p =
@@ -470,7 +465,7 @@ attempt-sound AuditValue at given i vs t W j M G F p = record { whole = W; ready
 -- ---- the attempts of a command
 
 pub effect-sound : (op : Op) (wild : Bool) (name : List ℕ) (given : ℕ) (vs : Values) (i : ℕ) (at : Context) (t : List ℕ)
-    → Whole t → Ready op at t → Meant op t i → Present given → Fair vs
+    → Whole t → MayAttempt op at t → Meant op t i → Present given → InRange vs
     → Leaves op (effect op wild name given vs i at (look at i t) .at) t (apply (effect op wild name given vs i at (look at i t) .writes) t)
 unfolding effect concluded apply
 effect-sound op wild name given vs i at t W r m G F =
@@ -479,7 +474,7 @@ effect-sound op wild name given vs i at t W r m G F =
     (λ p. attempt-sound op at given i vs t W r m G F p)
 
 pub attempts-sound : (op : Op) (wild : Bool) (name : List ℕ) (given : ℕ) (vs : Values) (is : List ℕ) (at : Context) (st : State)
-    → Whole (st .table) → Ready op at (st .table) → Each (Meant op (st .table)) is → Present given → Fair vs → Whole (attempts op wild name given vs is at st .state .table)
+    → Whole (st .table) → MayAttempt op at (st .table) → Each (Meant op (st .table)) is → Present given → InRange vs → Whole (attempts op wild name given vs is at st .state .table)
 unfolding attempts
 attempts-sound op wild name given vs [] at st W r m G F = W
 attempts-sound op wild name given vs (i ∷ is) at st W r (more m ms) G F =

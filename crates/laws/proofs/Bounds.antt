@@ -12,10 +12,7 @@ use Rattle.base.proofs.PickLaws.{pick-ind}
 use Rattle.base.proofs.TestLaws.{or-neither}
 use Rattle.base.proofs.TextLaws.{length-then, length-decimal}
 use Rattle.base.proofs.OutLaws.{length-put, take-front, take-put, drop-put}
-use Rattle.megaco.specs.declared.Parsed.{Parsed}
-use Rattle.megaco.specs.declared.Parsed.the-variants.{Next, Fault}
-use Rattle.megaco.specs.declared.Number.{Number}
-use Rattle.megaco.specs.declared.Number.the-variants.{Got, Bad}
+use Rattle.types.specs.Types.{Parsed, Next, Fault, Number, Got, Bad}
 use Rattle.megaco.specs.Tokens.{numberAt, numberFrom, numberEnd, isMid}
 use Rattle.megaco.specs.Tree.{Action, Transaction, transaction, Message, wellFormed, fault400, fault403, fault406}
 use Rattle.megaco.specs.Reading.{Read, got, fault, elsewhere, numbered, inside, followed, endOr, bracesThen, transactionsR, messageR}

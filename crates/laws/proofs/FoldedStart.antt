@@ -14,10 +14,7 @@ use Rattle.megaco.specs.Topology.{triplesOf, anyTopology, Link, linksOf, setLin
 use Rattle.megaco.specs.Attempt.{Check, check, judge, seen, flowsOf, flowing, numberOf}
 use Rattle.megaco.specs.Action.{over15, anyGiven, startChecks, newRecord, setProperties, flowWrites, startWrites, startReports, Start, startedBy, started}
 use Rattle.megaco.specs.Transaction.{start, commandSteps, noCommands, steps, Course, begin, proceed, step, run, ran, runTransaction}
-use Rattle.megaco.specs.declared.Context.{Context}
-use Rattle.megaco.specs.declared.Context.the-variants.{Null, Numbered, Choose, All}
-use Rattle.megaco.specs.declared.Checked.the-variants.{Fails}
-use Rattle.megaco.specs.declared.Seen.{Seen}
+use Rattle.types.specs.Types.{Context, Null, Numbered, Choose, All, Fails, Seen}
 use Rattle.megaco.proofs.Squares.{shape-of}
 use Rattle.laws.specs.Passed.{Passed}
 use Rattle.laws.specs.Sound.{Whole}
@@ -155,17 +152,17 @@ pub record SameWrites (x y : Start) : Type 0 where
   pub going : x .going ≡ y .going
 
 -- tests pass, or come to a code
-data Outcome (cs : List Check) : Type 0 where
-  passed : Passed cs → Outcome cs
-  failed : (code : ℕ) → judge cs ≡ Fails code → Outcome cs
+data PassOrFail (cs : List Check) : Type 0 where
+  passed : Passed cs → PassOrFail cs
+  failed : (code : ℕ) → judge cs ≡ Fails code → PassOrFail cs
 
-outcome : (cs : List Check) → Outcome cs
+pass-or-fail : (cs : List Check) → PassOrFail cs
 unfolding judge pick
-outcome [] = passed tt
-outcome (check true code ∷ cs) = failed code refl
-outcome (check false code ∷ cs) = by (outcome cs)
+pass-or-fail [] = passed tt
+pass-or-fail (check true code ∷ cs) = failed code refl
+pass-or-fail (check false code ∷ cs) = by (pass-or-fail cs)
   where
-    by : Outcome cs → Outcome (check false code ∷ cs)
+    by : PassOrFail cs → PassOrFail (check false code ∷ cs)
     by (passed p) = passed (refl, p)
     by (failed k e) = failed k e
 
@@ -173,13 +170,13 @@ outcome (check false code ∷ cs) = by (outcome cs)
 pub merged-writes : (c : ℕ) (ps : List Property) (alone : Bool) (t : List ℕ) → Whole t → anyTopology ps ≡ true
     → SameWrites (started (Numbered c) (merged ps) alone (seen c t) (linksOf c t (triplesOf (merged ps)))) (started (Numbered c) ps alone (seen c t) (linksOf c t (triplesOf ps)))
 unfolding started startedBy
-merged-writes c ps alone t W e = by (outcome _) (outcome _)
+merged-writes c ps alone t W e = by (pass-or-fail _) (pass-or-fail _)
   where
     done : Passed (startChecks (Numbered c) ps alone (seen c t) (linksOf c t (triplesOf ps)))
         → SameWrites (started (Numbered c) (merged ps) alone (seen c t) (linksOf c t (triplesOf (merged ps)))) (started (Numbered c) ps alone (seen c t) (linksOf c t (triplesOf ps)))
     done p = let m = merged-start c ps alone t W e p in record { writes = ap (λ (x : Start). x .writes) m; going = ap (λ (x : Start). x .going) m }
 
-    by : Outcome (startChecks (Numbered c) ps alone (seen c t) (linksOf c t (triplesOf ps))) → Outcome (startChecks (Numbered c) (merged ps) alone (seen c t) (linksOf c t (triplesOf (merged ps))))
+    by : PassOrFail (startChecks (Numbered c) ps alone (seen c t) (linksOf c t (triplesOf ps))) → PassOrFail (startChecks (Numbered c) (merged ps) alone (seen c t) (linksOf c t (triplesOf (merged ps))))
         → SameWrites (started (Numbered c) (merged ps) alone (seen c t) (linksOf c t (triplesOf (merged ps)))) (started (Numbered c) ps alone (seen c t) (linksOf c t (triplesOf ps)))
     by (passed p) o = done p
     by (failed k a) (passed p) = done (merged-refused c ps alone t e p)

@@ -7,11 +7,7 @@ use mathlib.Core.List.{List}
 use lib.Dec.{eqb}
 use borrow.Author.Tests.{eqb-false}
 use native.Mathlib.Omega.{arith}
-use Rattle.megaco.specs.declared.Context.{Context}
-use Rattle.megaco.specs.declared.Context.the-variants.{Null, Numbered, Choose, All}
-use Rattle.megaco.specs.declared.Op.{Op}
-use Rattle.megaco.specs.declared.Op.the-variants.{Add, Modify, Subtract, Move, AuditValue}
-use Rattle.megaco.specs.declared.Values.{Values}
+use Rattle.types.specs.Types.{Context, Null, Numbered, Choose, All, Op, Add, Modify, Subtract, Move, AuditValue, Values}
 use Rattle.megaco.specs.Tree.{Command, Transaction, Message}
 use Rattle.megaco.specs.Table.{contexts, fitted, rec, cell, get, sound}
 use Rattle.megaco.specs.State.{State}
@@ -23,11 +19,11 @@ use Rattle.megaco.specs.Call.{call}
 use Rattle.base.proofs.TestLaws.{clash}
 use Rattle.laws.specs.Sound.{Whole}
 use Rattle.laws.proofs.Sound.{sound-whole, whole-sound}
-use Rattle.laws.proofs.Values.{Fair}
+use Rattle.types.specs.Ranges.{InRange}
 use Rattle.laws.proofs.Meant.{name-low, MeansTerminations, some-targets, targets-meant}
-use Rattle.laws.proofs.Attempts.{seen-there, Joins, anew, there, Stands, stands, Ready, Present, attempts-sound}
+use Rattle.laws.proofs.Attempts.{seen-there, Joins, anew, there, Stands, stands, MayAttempt, Present, attempts-sound}
 use Rattle.laws.proofs.Starts.{start-sound, start-given}
-use Rattle.laws.proofs.Runs.{Keeps, Kept, command-keeps, step-keeps, transaction-keeps, transactions-keep, message-keeps, call-keeps}
+use Rattle.laws.proofs.Runs.{Keeps, CourseKeeps, command-keeps, step-keeps, transaction-keeps, transactions-keep, message-keeps, call-keeps}
 
 -- tests 1 and 2 leave an attempt what it relies on
 ready-there : (c : ℕ) (t : List ℕ) → eqb (seen c t .held) 0 ≡ false → (0 < c) × (c ≤ contexts) × (0 < get t (cell (rec c)))
@@ -47,7 +43,7 @@ ready-leave (Numbered c) t b l = stands (ready-there c t l .0)
 ready-leave Choose t b l = absurd (clash l)
 ready-leave All t b l = absurd (clash l)
 
-pub ready : (op : Op) (at : Context) (t : List ℕ) → forbiddenInNull op at ≡ false → noContext op at (seen (numberOf at) t .held) ≡ false → Ready op at t
+pub ready : (op : Op) (at : Context) (t : List ℕ) → forbiddenInNull op at ≡ false → noContext op at (seen (numberOf at) t .held) ≡ false → MayAttempt op at t
 unfolding inPlace
 ready Add at t b l = ready-join Add at t refl b l
 ready Modify at t b l = tt
@@ -55,8 +51,8 @@ ready Subtract at t b l = ready-leave at t b l
 ready Move at t b l = ready-join Move at t refl b l
 ready AuditValue at t b l = tt
 
-targets-sound : (op : Op) (name : List ℕ) (given : ℕ) (vs : Values) (a : Targets) (at : Context) (st : State) → Whole (st .table) → MeansTerminations op (st .table) a → Present given → Fair vs
-    → Ready op at (st .table) → Whole (runTargets op name given vs a at st .state .table)
+targets-sound : (op : Op) (name : List ℕ) (given : ℕ) (vs : Values) (a : Targets) (at : Context) (st : State) → Whole (st .table) → MeansTerminations op (st .table) a → Present given → InRange vs
+    → MayAttempt op at (st .table) → Whole (runTargets op name given vs a at st .state .table)
 unfolding runTargets commandError
 targets-sound op name given vs (noTarget code) at st W a G F r = W
 targets-sound op name given vs gateway at st W a G F r = W
@@ -74,7 +70,7 @@ whole-kept =
     }
 
 -- a step, from a sound table, where the running action gives a record that a context may have
-pub step-sound : (s : Step) (x : Course) → Kept WholeIn Present x → Kept WholeIn Present (step s x)
+pub step-sound : (s : Step) (x : Course) → CourseKeeps WholeIn Present x → CourseKeeps WholeIn Present (step s x)
 step-sound = step-keeps WholeIn Present whole-kept
 
 sound-by : (st u : State) → (WholeIn st → WholeIn u) → sound (st .table) ≡ true → sound (u .table) ≡ true

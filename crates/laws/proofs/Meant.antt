@@ -9,12 +9,7 @@ use borrow.Author.Tests.{eqb-false, ltb-true, leb-true}
 use native.Mathlib.Nat.{add-zero, zero-add}
 use native.Mathlib.Omega.{arith}
 use Rattle.base.specs.Lists.{lowestAbsent}
-use Rattle.megaco.specs.declared.Context.{Context}
-use Rattle.megaco.specs.declared.Op.{Op}
-use Rattle.megaco.specs.declared.Op.the-variants.{Add, Modify, Subtract, Move, AuditValue}
-use Rattle.megaco.specs.declared.Range.{Range}
-use Rattle.megaco.specs.declared.Name.{Name}
-use Rattle.megaco.specs.declared.Name.the-variants.{Termination, Root, Chosen, Unchosen, Wildcard, Unmatched, Unknown}
+use Rattle.types.specs.Types.{Context, Op, Add, Modify, Subtract, Move, AuditValue, Range, Name, Termination, Root, Chosen, Unchosen, Wildcard, Unmatched, Unknown}
 use Rattle.megaco.specs.Table.{channels, ephemerals, terminations, words, fitted, ctx, get, contextWords, places, exists, freeEphemeral}
 use Rattle.megaco.specs.Names.{within, lineName, ephemeralName, plainName, lineRange, wildcardName, capitalName, nameOf, inRange}
 use Rattle.megaco.specs.Command.{wanted, matchesFrom, matches, Targets, noTarget, gateway, targets, isAdd, inPlace, rootTargets, freeTargets, matchTargets, targetsOf}

@@ -17,9 +17,9 @@ run-one ss b = with-one (run ss (course (b .state) (b .one))) (b .two)
 abbrev pub run-two : List Step → Both → Both
 run-two rs b = with-two (b .one) (run rs (course (b .state) (b .two)))
 
-abbrev pub Each : (Step → Type 0) → List Step → Type 0
-Each P [] = Unit {0}
-Each P (s ∷ ss) = P s × Each P ss
+abbrev pub EachStep : (Step → Type 0) → List Step → Type 0
+EachStep P [] = Unit {0}
+EachStep P (s ∷ ss) = P s × EachStep P ss
 
 -- one step, seen by its own footprint and by another one
 module _ (lines : ℕ) (N K M L : ℕ → Type 0) (D : Disjoint lines M L N K) (s : Step) (st : State) (p : Progress) (c : Closed lines N K (st .table)) (m : Named lines N K s) (h : Seats lines N K (p .acts)) where
@@ -88,18 +88,18 @@ module _ (lines : ℕ) (N K M L : ℕ → Type 0) (D : Disjoint lines N K M L) w
       let c : apply vs (apply ws t) ≡ apply ws (apply vs t) = apply-comm lines N K M L D vs ws t (fitted-is lines t (h .one-closed .long)) (p .all) (q .all) in
       rw (q₀, p₀) (rw (p₁, q₁) (ap (λ (x : List ℕ). record { state = state x; one = p .change .next; two = q .change .next }) c))
 
-  past : (ss : List Step) (r : Step) (b : Both) → Each (Named lines N K) ss → Named lines M L r → Ready lines N K M L b → run-one ss (step-two r b) ≡ step-two r (run-one ss b)
+  past : (ss : List Step) (r : Step) (b : Both) → EachStep (Named lines N K) ss → Named lines M L r → Ready lines N K M L b → run-one ss (step-two r b) ≡ step-two r (run-one ss b)
   unfolding run
   past [] r b m o h = refl
   past (s ∷ ss) r b m o h = ap (run-one ss) (diamond s r b (m .0) o h) ∙ past ss r (step-one s b) (m .1) o (ready-one s b (m .0) h)
 
   -- all of the first and all of the second may change places
-  pub exchange : (ss rs : List Step) (b : Both) → Each (Named lines N K) ss → Each (Named lines M L) rs → Ready lines N K M L b → run-one ss (run-two rs b) ≡ run-two rs (run-one ss b)
+  pub exchange : (ss rs : List Step) (b : Both) → EachStep (Named lines N K) ss → EachStep (Named lines M L) rs → Ready lines N K M L b → run-one ss (run-two rs b) ≡ run-two rs (run-one ss b)
   unfolding run
   exchange ss [] b m o h = refl
   exchange ss (r ∷ rs) b m o h = exchange ss rs (step-two r b) m (o .1) (ready-two r b (o .0) h) ∙ ap (run-two rs) (past ss r b m (o .0) h)
 
-  pub one-after-other : {ss rs : List Step} (z : Mixture ss rs) (b : Both) → Each (Named lines N K) ss → Each (Named lines M L) rs → Ready lines N K M L b
+  pub one-after-other : {ss rs : List Step} (z : Mixture ss rs) (b : Both) → EachStep (Named lines N K) ss → EachStep (Named lines M L) rs → Ready lines N K M L b
       → mixed z b ≡ run-two rs (run-one ss b)
   unfolding mixed run
   one-after-other over b m o h = refl

@@ -13,8 +13,7 @@ use Rattle.base.proofs.TestLaws.{clash, and-both, same-is, pick-of}
 use Rattle.megaco.specs.Bytes.{slash, isDigit, capitals}
 use Rattle.megaco.specs.Table.{channels, lineTerminations, ephemerals}
 use Rattle.megaco.specs.Names.{numeral, within, lineName, ephemeralName, plainName, lineRange, wildcardName, capitalName, nameOf}
-use Rattle.megaco.specs.declared.Name.{Name}
-use Rattle.megaco.specs.declared.Name.the-variants.{Termination, Root, Chosen, Unchosen, Wildcard, Unmatched, Unknown}
+use Rattle.types.specs.Types.{Name, Termination, Root, Chosen, Unchosen, Wildcard, Unmatched, Unknown}
 
 -- ---- a number has one numeral
 
@@ -74,13 +73,13 @@ rejoin b x y h e f =
 
 -- ---- what a name of a termination looks like
 
-data Told (n : ℕ) (x : List ℕ) (i : ℕ) : Type 0 where
+data NameParts (n : ℕ) (x : List ℕ) (i : ℕ) : Type 0 where
   line : (l s : ℕ) → before slash x ≡ text "L" → numeral (before slash (behind slash x)) ≡ l → numeral (behind slash (behind slash x)) ≡ s
-      → (0 < l) × (l ≤ n) → (0 < s) × (s ≤ channels) → i ≡ channels * (l - 1) + (s - 1) → Told n x i
-  ephemeral : (k : ℕ) → before slash x ≡ text "R" → numeral (behind slash x) ≡ k → (0 < k) × (k ≤ ephemerals) → i ≡ lineTerminations n + (k - 1) → Told n x i
+      → (0 < l) × (l ≤ n) → (0 < s) × (s ≤ channels) → i ≡ channels * (l - 1) + (s - 1) → NameParts n x i
+  ephemeral : (k : ℕ) → before slash x ≡ text "R" → numeral (behind slash x) ≡ k → (0 < k) × (k ≤ ephemerals) → i ≡ lineTerminations n + (k - 1) → NameParts n x i
 
 abbrev Tells : ℕ → List ℕ → Name → Type 0
-Tells n x y = (i : ℕ) → y ≡ Termination i → Told n x i
+Tells n x y = (i : ℕ) → y ≡ Termination i → NameParts n x i
 
 within-both : (x m : ℕ) → within x m ≡ true → (0 < x) × (x ≤ m)
 unfolding within
@@ -141,20 +140,20 @@ some-before : (x : List ℕ) (v : ℕ) → numeral (before slash x) ≡ v → 0 
 unfolding before
 some-before x v e h z = some-behind (before slash x) v e h (ap (before slash) z)
 
-told-same : (n : ℕ) (x y : List ℕ) (i : ℕ) → Told n x i → Told n y i → x ≡ y
-told-same n x y i (line l s p a b u v e) (line m r q c d w z f) =
+parts-same : (n : ℕ) (x y : List ℕ) (i : ℕ) → NameParts n x i → NameParts n y i → x ≡ y
+parts-same n x y i (line l s p a b u v e) (line m r q c d w z f) =
     let k : l ≡ m = omega (arith, u .0, v .0, v .1, w .0, z .0, z .1, e, f) in
     let j : s ≡ r = omega (arith, u .0, v .0, v .1, w .0, z .0, z .1, e, f) in
     let first : before slash (behind slash x) ≡ before slash (behind slash y) = numeral-tells _ _ l a (c ∙ sym k) (u .0) in
     let second : behind slash (behind slash x) ≡ behind slash (behind slash y) = numeral-tells _ _ s b (d ∙ sym j) (v .0) in
     rejoin slash x y (some-before (behind slash x) l a (u .0)) (p ∙ sym q)
     (rejoin slash (behind slash x) (behind slash y) (some-behind (behind slash (behind slash x)) s b (v .0)) first second)
-told-same n x y i (line l s p a b u v e) (ephemeral k q c w f) = absurd (omega (arith, u .0, u .1, v .0, v .1, e, f))
-told-same n x y i (ephemeral k q c w f) (line l s p a b u v e) = absurd (omega (arith, u .0, u .1, v .0, v .1, e, f))
-told-same n x y i (ephemeral k p a u e) (ephemeral m q c w f) =
+parts-same n x y i (line l s p a b u v e) (ephemeral k q c w f) = absurd (omega (arith, u .0, u .1, v .0, v .1, e, f))
+parts-same n x y i (ephemeral k q c w f) (line l s p a b u v e) = absurd (omega (arith, u .0, u .1, v .0, v .1, e, f))
+parts-same n x y i (ephemeral k p a u e) (ephemeral m q c w f) =
     let j : k ≡ m = omega (arith, u .0, w .0, e, f) in
     rejoin slash x y (some-behind (behind slash x) k a (u .0)) (p ∙ sym q) (numeral-tells (behind slash x) (behind slash y) k a (c ∙ sym j) (u .0))
 
 pub one-name : (n : ℕ) (x y : List ℕ) (i : ℕ) → nameOf n x ≡ Termination i → nameOf n y ≡ Termination i → capitals x ≡ capitals y
 unfolding nameOf
-one-name n x y i e f = told-same n (capitals x) (capitals y) i (name-tells n (capitals x) i e) (name-tells n (capitals y) i f)
+one-name n x y i e f = parts-same n (capitals x) (capitals y) i (name-tells n (capitals x) i e) (name-tells n (capitals y) i f)

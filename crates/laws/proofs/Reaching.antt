@@ -10,8 +10,7 @@ use Rattle.megaco.specs.Table.{terminations, contexts, fitted, sound}
 use Rattle.megaco.specs.State.{State}
 use Rattle.megaco.specs.Names.{nameOf}
 use Rattle.megaco.specs.Transaction.{Step, commandSteps, steps}
-use Rattle.megaco.specs.declared.Context.{Context}
-use Rattle.megaco.specs.declared.Name.{Name}
+use Rattle.types.specs.Types.{Context, Name}
 use Rattle.laws.specs.Membership.{_∈_}
 use Rattle.laws.specs.Apart.{contextsIn, namesThen, triplesThen, namesIn, namesOf, ByNumberOrNull, by-number, null-one, ContextsPlain, NamesPlain, Names, Reaches, writes, stands, Apart}
 use Rattle.laws.specs.Mix.{Mixture, mixed, stepsOf, bothFresh}
@@ -19,7 +18,7 @@ use Rattle.laws.proofs.Sound.{sound-whole}
 use Rattle.laws.proofs.Frame.{Foot, Closed, Disjoint}
 use Rattle.laws.proofs.Views.{known-above, known-below, Seat}
 use Rattle.laws.proofs.Steps.{Means, EachMeans, Named}
-use Rattle.laws.proofs.Mix.{run-one, run-two, Each, Ready, exchange, one-after-other}
+use Rattle.laws.proofs.Mix.{run-one, run-two, EachStep, Ready, exchange, one-after-other}
 use Rattle.laws.proofs.Membership.{has-not}
 use Rattle.laws.proofs.PlainNames.{Plain, aTermination, root, unknown, plain-below, plain-name}
 
@@ -44,7 +43,7 @@ closed t x e p = let w = sound-whole t e in record { long = w .long; home = λ i
 
 module _ (lines : ℕ) (N K : ℕ → Type 0) where
   named-orders : (cs : List Command) (rest : List (List ℕ)) (ss : List Step) → ((n : List ℕ) → n ∈ namesThen cs rest → Means lines N K (nameOf lines n))
-      → (((n : List ℕ) → n ∈ rest → Means lines N K (nameOf lines n)) → Each (Named lines N K) ss) → Each (Named lines N K) (commandSteps cs ss)
+      → (((n : List ℕ) → n ∈ rest → Means lines N K (nameOf lines n)) → EachStep (Named lines N K) ss) → EachStep (Named lines N K) (commandSteps cs ss)
   unfolding namesThen commandSteps
   named-orders [] rest ss f g = g f
   named-orders (command o w word name items ∷ cs) rest ss f g =
@@ -59,14 +58,14 @@ module _ (lines : ℕ) (N K : ℕ → Type 0) where
       (((f a (List·Memᴰ·head refl), f b (List·Memᴰ·tail (List·Memᴰ·head refl))), r .0), r .1)
 
   named-steps : (acts : List Action) → ((c : Context) → c ∈ contextsIn acts → Seat lines N K c) → ((n : List ℕ) → n ∈ namesIn acts → Means lines N K (nameOf lines n))
-      → Each (Named lines N K) (steps acts)
+      → EachStep (Named lines N K) (steps acts)
   unfolding contextsIn namesIn steps
   named-steps [] f g = tt
   named-steps (action c ps cs ∷ acts) f g =
       let r = named-triples (triplesOf ps) (namesThen cs (namesIn acts)) g in
       ((f c (List·Memᴰ·head refl), r .0), named-orders cs (namesIn acts) (steps acts) (r .1) (named-steps acts (λ d m. f d (List·Memᴰ·tail m))))
 
-named : (t : List ℕ) (x : Transaction) → ContextsPlain x → NamesPlain x → Each (Named (fitted t) (Names (fitted t) x) (Reach t x)) (stepsOf x)
+named : (t : List ℕ) (x : Transaction) → ContextsPlain x → NamesPlain x → EachStep (Named (fitted t) (Names (fitted t) x) (Reach t x)) (stepsOf x)
 named t (transaction id acts) p q = named-steps (fitted t) (Names (fitted t) x) (Reach t x) acts (λ c m. seat c m (p c m)) (λ n m. means n m (nameOf (fitted t) n) refl (names-plain (fitted t) x q n m))
   where
     x : Transaction

@@ -5,12 +5,7 @@ use mathlib.Core.Bool.{Bool, false}
 use mathlib.Core.List.{List, [], _∷_}
 use mathlib.Core.Option.{Option, none, some}
 use lib.ListN.{length}
-use Rattle.megaco.specs.declared.Context.{Context}
-use Rattle.megaco.specs.declared.Op.{Op}
-use Rattle.megaco.specs.declared.Judged.{Judged}
-use Rattle.megaco.specs.declared.Judged.the-variants.{Wrong, Right}
-use Rattle.megaco.specs.declared.Seen.{Seen}
-use Rattle.megaco.specs.declared.Values.{Values}
+use Rattle.types.specs.Types.{Context, Op, Judged, Wrong, Right, Seen, Values}
 use Rattle.megaco.specs.Topology.{triplesOf, Link, linksOf}
 use Rattle.megaco.specs.Tree.{Items, Command, command, Property, Transaction, transaction, Message, wellFormed, fault400, fault403, fault406}
 use Rattle.megaco.specs.Table.{fitted}
@@ -19,18 +14,19 @@ use Rattle.megaco.specs.Names.{nameOf}
 use Rattle.megaco.specs.Items.{given?}
 use Rattle.megaco.specs.Reply.{Acted}
 use Rattle.megaco.specs.Attempt.{seen, numberOf, look, Effect, effect}
-use Rattle.megaco.specs.Command.{Outcome, attempts, commandError, actionError, Targets, noTarget, gateway, targets, targetsOf, runTargets, opOf, forbiddenInNull, noContext, notForRoot, named, tested, unlessOptional, ordered, runCommand}
+use Rattle.megaco.specs.Command.{Outcome, attempts, commandError, actionError, Targets, noTarget, gateway, targets, targetsOf, runTargets, opOf, forbiddenInNull, noContext, notForRoot, fromTest4, fromTest2, unlessOptional, fromTest1, runCommand}
 use Rattle.megaco.specs.Action.{started}
 use Rattle.megaco.specs.Transaction.{Step, start, commandStep, steps, Course, course, begin, advance, proceed, step, run, fresh, runTransaction, runTransactions, runMessage}
 use Rattle.megaco.specs.Reading.{messageR}
 use Rattle.megaco.specs.Call.{Called, written, replied, taken, call}
 use Rattle.base.proofs.TestLaws.{pick-of}
 use Rattle.laws.proofs.Slots.{length-apply}
-use Rattle.laws.proofs.Values.{Fair, FairItems, right, items-fair}
+use Rattle.types.specs.Ranges.{InRange, JudgedInRange, right}
+use Rattle.laws.proofs.Values.{items-in-range}
 
 -- P is kept of the state, and G holds of the record that the running action gives to `$`
 pub record Keeps (P : State → Type 0) (G : ℕ → Type 0) : Type 0 where
-  pub orders : (op : Op) (name : List ℕ) (given : ℕ) (vs : Values) (items : Bool) (at : Context) (st : State) → P st → G given → Fair vs → forbiddenInNull op at ≡ false
+  pub orders : (op : Op) (name : List ℕ) (given : ℕ) (vs : Values) (items : Bool) (at : Context) (st : State) → P st → G given → InRange vs → forbiddenInNull op at ≡ false
       → noContext op at (seen (numberOf at) (st .table) .held) ≡ false → P (runTargets op name given vs (targetsOf op at items (nameOf (fitted (st .table)) name) (st .table)) at st .state)
   pub starts : (c : Context) (ps : List Property) (alone : Bool) (st : State) → P st → P (wrote (started c ps alone (seen (numberOf c) (st .table)) (linksOf (numberOf c) (st .table) (triplesOf ps)) .writes) st)
   pub gives : (c : Context) (ps : List Property) (alone : Bool) (there : Seen) (links : List Link) → G (started c ps alone there links .acted .given)
@@ -40,45 +36,45 @@ abbrev pub Running : (ℕ → Type 0) → List Acted → Type 0
 Running G [] = Unit {0}
 Running G (a ∷ acts) = G (a .given)
 
-pub record Kept (P : State → Type 0) (G : ℕ → Type 0) (x : Course) : Type 0 where
+pub record CourseKeeps (P : State → Type 0) (G : ℕ → Type 0) (x : Course) : Type 0 where
   pub state : P (x .state)
   pub running : Running G (x .progress .acts)
 
 module _ (P : State → Type 0) (G : ℕ → Type 0) (K : Keeps P G) where
-  named-keeps : (op : Op) (name : List ℕ) (given : ℕ) (items : Bool) (j : Judged) (at : Context) (st : State) → P st → G given → FairItems j → forbiddenInNull op at ≡ false
-      → noContext op at (seen (numberOf at) (st .table) .held) ≡ false → P (named op name given items j at st .state)
-  unfolding named commandError
-  named-keeps op name given items (Wrong code) at st p g f b l = p
-  named-keeps op name given items (Right vs) at st p g (right f) b l = K .orders op name given vs (notForRoot op items vs) at st p g f b l
+  test4-keeps : (op : Op) (name : List ℕ) (given : ℕ) (items : Bool) (j : Judged) (at : Context) (st : State) → P st → G given → JudgedInRange j → forbiddenInNull op at ≡ false
+      → noContext op at (seen (numberOf at) (st .table) .held) ≡ false → P (fromTest4 op name given items j at st .state)
+  unfolding fromTest4 commandError
+  test4-keeps op name given items (Wrong code) at st p g f b l = p
+  test4-keeps op name given items (Right vs) at st p g (right f) b l = K .orders op name given vs (notForRoot op items vs) at st p g f b l
 
-  tested-keeps : (op : Op) (name : List ℕ) (items : Items) (given : ℕ) (at : Context) (st : State) → P st → G given → forbiddenInNull op at ≡ false
-      → P (tested op name items given at st .state)
-  unfolding tested commandError
-  tested-keeps op name items given at st p g b =
-      pick-of (λ (x : Outcome). P (x .state)) _ (λ _. p) (λ l. named-keeps op name given (given? items) _ at st p g (items-fair op items) b l)
+  test2-keeps : (op : Op) (name : List ℕ) (items : Items) (given : ℕ) (at : Context) (st : State) → P st → G given → forbiddenInNull op at ≡ false
+      → P (fromTest2 op name items given at st .state)
+  unfolding fromTest2 commandError
+  test2-keeps op name items given at st p g b =
+      pick-of (λ (x : Outcome). P (x .state)) _ (λ _. p) (λ l. test4-keeps op name given (given? items) _ at st p g (items-in-range op items) b l)
 
-  ordered-keeps : (o : Bool) (op : Option Op) (name : List ℕ) (items : Items) (given : ℕ) (at : Context) (st : State) → P st → G given
-      → P (ordered o op name items given at st .state)
-  unfolding ordered actionError unlessOptional
-  ordered-keeps o none name items given at st p g = p
-  ordered-keeps o (some op) name items given at st p g =
-      pick-of (λ (x : Outcome). P (x .state)) (forbiddenInNull op at) (λ _. p) (λ b. tested-keeps op name items given at st p g b)
+  test1-keeps : (o : Bool) (op : Option Op) (name : List ℕ) (items : Items) (given : ℕ) (at : Context) (st : State) → P st → G given
+      → P (fromTest1 o op name items given at st .state)
+  unfolding fromTest1 actionError unlessOptional
+  test1-keeps o none name items given at st p g = p
+  test1-keeps o (some op) name items given at st p g =
+      pick-of (λ (x : Outcome). P (x .state)) (forbiddenInNull op at) (λ _. p) (λ b. test2-keeps op name items given at st p g b)
 
   pub command-keeps : (c : Command) (given : ℕ) (at : Context) (st : State) → P st → G given → P (runCommand c given at st .state)
   unfolding runCommand
-  command-keeps (command o w word name items) given at st p g = ordered-keeps o (opOf w word) name items given at st p g
+  command-keeps (command o w word name items) given at st p g = test1-keeps o (opOf w word) name items given at st p g
 
-  proceed-keeps : (s : Step) (st : State) (acts : List Acted) → P st → Running G acts → Kept P G (proceed s st acts)
+  proceed-keeps : (s : Step) (st : State) (acts : List Acted) → P st → Running G acts → CourseKeeps P G (proceed s st acts)
   unfolding proceed begin advance
   proceed-keeps (start c ps alone) st acts p g = record { state = K .starts c ps alone st p; running = K .gives c ps alone _ _ }
   proceed-keeps (commandStep c) st [] p g = record { state = p; running = tt }
   proceed-keeps (commandStep c) st (a ∷ acts) p g = record { state = command-keeps c (a .given) (a .at) st p g; running = g }
 
-  pub step-keeps : (s : Step) (x : Course) → Kept P G x → Kept P G (step s x)
+  pub step-keeps : (s : Step) (x : Course) → CourseKeeps P G x → CourseKeeps P G (step s x)
   unfolding step
-  step-keeps s x k = pick-of (Kept P G) (x .progress .going) (λ _. proceed-keeps s (x .state) (x .progress .acts) (k .state) (k .running)) (λ _. k)
+  step-keeps s x k = pick-of (CourseKeeps P G) (x .progress .going) (λ _. proceed-keeps s (x .state) (x .progress .acts) (k .state) (k .running)) (λ _. k)
 
-  pub run-keeps : (ss : List Step) (x : Course) → Kept P G x → Kept P G (run ss x)
+  pub run-keeps : (ss : List Step) (x : Course) → CourseKeeps P G x → CourseKeeps P G (run ss x)
   unfolding run
   run-keeps [] x k = k
   run-keeps (s ∷ ss) x k = run-keeps ss (step s x) (step-keeps s x k)

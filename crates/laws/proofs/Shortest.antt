@@ -13,8 +13,7 @@ use Rattle.megaco.specs.Table.{contexts, words, fitted, known, members}
 use Rattle.megaco.specs.Square.{Square, flowAt}
 use Rattle.megaco.specs.Topology.{party, linkOf, linksOf, placeOf, setLink, setLinks}
 use Rattle.megaco.specs.Attempt.{seen, flowsOf}
-use Rattle.megaco.specs.declared.Direction.{Direction}
-use Rattle.megaco.specs.declared.Direction.the-variants.{Isolate, Bothway}
+use Rattle.types.specs.Types.{Direction, Isolate, Bothway}
 use Rattle.megaco.proofs.Squares.{Shape, shape-of}
 use Rattle.laws.specs.Membership.{_∈_}
 use Rattle.laws.specs.Sound.{Fit, Whole}
@@ -149,8 +148,8 @@ module _ (c : ℕ) (t : List ℕ) (l : length t ≡ words (fitted t)) (k : known
     unfolding forth
     pair-kept a b d n e = by (anyOn (triple a b d) us) refl
       where
-        meets : (o : Direction) → anyOn (triple a b d) us ≡ false → put c t (triple a b o) (setLinks (linksOf c t us) some) ≡ setLinks (linksOf c t ts) some
-        meets o z =
+        same-links : (o : Direction) → anyOn (triple a b d) us ≡ false → put c t (triple a b o) (setLinks (linksOf c t us) some) ≡ setLinks (linksOf c t ts) some
+        same-links o z =
             sym (moved-behind (triple a b o) us some s n g (any-direction a b o d us ∙ z))
             ∙ alike (put c t (triple a b o) some) (shape-put c t l k m (triple a b o) some s) (fit-put a b o some s h n)
             ∙ absorbed c t l k m (triple a b o) ts some s n f (any-direction a b o d ts ∙ e)
@@ -160,7 +159,7 @@ module _ (c : ℕ) (t : List ℕ) (l : length t ≡ words (fitted t)) (k : known
 
         by : (u : Bool) → anyOn (triple a b d) us ≡ u → u ≡ true
         by true z = refl
-        by false z = absurd (clash (sym (tells Bothway) ∙ ap (λ (p : Square). flowAt p (placeOf (party c t a)) (placeOf (party c t b))) (meets Bothway z ∙ sym (meets Isolate z)) ∙ tells Isolate))
+        by false z = absurd (clash (sym (tells Bothway) ∙ ap (λ (p : Square). flowAt p (placeOf (party c t a)) (placeOf (party c t b))) (same-links Bothway z ∙ sym (same-links Isolate z)) ∙ tells Isolate))
 
 fine-in : (c : ℕ) (t : List ℕ) (ts : List Triple) → AllFine c t ts → (x : Triple) → x ∈ ts → Fine c t x
 fine-in c t _ f x (List·Memᴰ·head p) = rw p (f .0)

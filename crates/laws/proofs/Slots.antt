@@ -73,16 +73,16 @@ shared n s r h k d e =
     let q : slotOf (regionOf s) (index r) ≡ r = ap (λ (x : ℕ). slotOf x (index r)) (p .0) ∙ slot-of r in
     subst (Shared n s) q (word-tells n s (index r) h (subst (Valid n) (sym q) k) (λ z. d (z ∙ q)) (p .1 ∙ ap (wordOf n) (sym q)))
 
-told-kept : (n : ℕ) (s : Slot) (v word : ℕ) → slotValue n s (kept n s v word) ≡ held s v
-told-kept n (ctx i) v word = refl
-told-kept n (cell (prop i)) v word = refl
-told-kept n (cell (rec c)) v word = refl
-told-kept n (cell (flow k)) v word = refl
-told-kept n (cell (used i)) v word = digit-same ((i - lineTerminations n) % 32) (v % 2) word (omega arith) (omega arith)
+value-kept : (n : ℕ) (s : Slot) (v word : ℕ) → slotValue n s (kept n s v word) ≡ held s v
+value-kept n (ctx i) v word = refl
+value-kept n (cell (prop i)) v word = refl
+value-kept n (cell (rec c)) v word = refl
+value-kept n (cell (flow k)) v word = refl
+value-kept n (cell (used i)) v word = digit-same ((i - lineTerminations n) % 32) (v % 2) word (omega arith) (omega arith)
 
 -- slots that share a word: the one tells nothing of the other, and they may be put in either order
-shared-told : (n : ℕ) (s r : Slot) → Shared n s r → (v word : ℕ) → slotValue n s (kept n r v word) ≡ slotValue n s word
-shared-told n _ _ (both {i = i} {j = j} d) v word = digit-other ((j - lineTerminations n) % 32) ((i - lineTerminations n) % 32) (v % 2) word (omega arith) d
+value-shared : (n : ℕ) (s r : Slot) → Shared n s r → (v word : ℕ) → slotValue n s (kept n r v word) ≡ slotValue n s word
+value-shared n _ _ (both {i = i} {j = j} d) v word = digit-other ((j - lineTerminations n) % 32) ((i - lineTerminations n) % 32) (v % 2) word (omega arith) d
 
 shared-comm : (n : ℕ) (s r : Slot) → Shared n s r → (u v word : ℕ) → kept n r v (kept n s u word) ≡ kept n s u (kept n r v word)
 shared-comm n _ _ (both {i = i} {j = j} d) u v word =
@@ -150,7 +150,7 @@ get-stored n r s v t f = get-is n s (store (write r v) t) (fitted-store (write r
 
 pub get-same : (n : ℕ) (s : Slot) (v : ℕ) (t : List ℕ) → fitted t ≡ n → address n s < length t → get (store (write s v) t) s ≡ held s v
 get-same n s v t f h =
-    get-stored n s s v t f ∙ ap (slotValue n s) (getD-set-same t (address n s) (kept n s v (getD t (address n s) 0)) 0 h) ∙ told-kept n s v (getD t (address n s) 0)
+    get-stored n s s v t f ∙ ap (slotValue n s) (getD-set-same t (address n s) (kept n s v (getD t (address n s) 0)) 0 h) ∙ value-kept n s v (getD t (address n s) 0)
 
 pub get-other : (n : ℕ) (s r : Slot) (v : ℕ) (t : List ℕ) → fitted t ≡ n → Valid n s → Valid n r → s ≢ r → get (store (write r v) t) s ≡ get t s
 get-other n s r v t f hs hr d = get-stored n r s v t f ∙ by (ℕ-discrete (address n s) (address n r)) ∙ sym (get-is n s t f)
@@ -158,7 +158,7 @@ get-other n s r v t f hs hr d = get-stored n r s v t f ∙ by (ℕ-discrete (add
     by : Dec (address n s ≡ address n r) → slotValue n s (getD (change t (address n r) (kept n r v)) (address n s) 0) ≡ slotValue n s (getD t (address n s) 0)
     by (yes e) =
         subst (λ (a : ℕ). slotValue n s (getD (change t a (kept n r v)) (address n s) 0) ≡ slotValue n s (getD t (address n s) 0)) e
-        (change-tells (slotValue n s) (kept n r v) t (address n s) (shared-told n s r (shared n s r hs hr d e) v))
+        (change-tells (slotValue n s) (kept n r v) t (address n s) (value-shared n s r (shared n s r hs hr d e) v))
     by (no o) = ap (slotValue n s) (getD-set-other t (address n r) (address n s) (kept n r v (getD t (address n r) 0)) 0 o)
 
 pub store-comm : (n : ℕ) (s r : Slot) (u v : ℕ) (t : List ℕ) → fitted t ≡ n → Valid n s → Valid n r → s ≢ r

@@ -6,10 +6,7 @@ use mathlib.Core.List.{List, [], _∷_}
 use lib.Dec.{ltb, eqb}
 use borrow.Author.Tests.{eqb-false, ltb-false}
 use native.Mathlib.Omega.{arith}
-use Rattle.megaco.specs.declared.Context.{Context}
-use Rattle.megaco.specs.declared.Context.the-variants.{Null, Numbered, Choose, All}
-use Rattle.megaco.specs.declared.Checked.{Checked}
-use Rattle.megaco.specs.declared.Seen.{Seen}
+use Rattle.types.specs.Types.{Context, Null, Numbered, Choose, All, Checked, Seen}
 use Rattle.megaco.specs.Tree.{Property, priority, emergency, topology}
 use Rattle.megaco.specs.Table.{contexts, rec, cell, members, Write, write, apply, priorityOf, emergencyOf}
 use Rattle.megaco.specs.Topology.{triplesOf, anyTopology, Link, linksOf, setLinks}

@@ -16,22 +16,14 @@ use Rattle.megaco.specs.Names.{nameOf}
 use Rattle.megaco.specs.Items.{judgeItems, given?}
 use Rattle.megaco.specs.Reply.{Report, Acted}
 use Rattle.megaco.specs.Attempt.{seen, numberOf, look, Effect, effect}
-use Rattle.megaco.specs.Command.{Outcome, outcome, attempts, commandError, actionError, Targets, noTarget, gateway, targets, rootTargets, targetsOf, runTargets, opOf, forbiddenInNull, noContext, notForRoot, named, tested, unlessOptional, ordered, runCommand}
+use Rattle.megaco.specs.Command.{Outcome, outcome, attempts, commandError, actionError, Targets, noTarget, gateway, targets, rootTargets, targetsOf, runTargets, opOf, forbiddenInNull, noContext, notForRoot, fromTest4, fromTest2, unlessOptional, fromTest1, runCommand}
 use Rattle.megaco.specs.Action.{started}
 use Rattle.megaco.specs.Transaction.{Step, start, commandStep, Progress, progress, Course, course, begin, advance, proceed, step}
-use Rattle.megaco.specs.declared.Context.{Context}
-use Rattle.megaco.specs.declared.Op.{Op}
-use Rattle.megaco.specs.declared.Name.{Name}
-use Rattle.megaco.specs.declared.Name.the-variants.{Termination, Root, Chosen, Unchosen, Wildcard, Unmatched, Unknown}
-use Rattle.megaco.specs.declared.Judged.{Judged}
-use Rattle.megaco.specs.declared.Judged.the-variants.{Wrong, Right}
-use Rattle.megaco.specs.declared.Values.{Values}
-use Rattle.megaco.specs.declared.Seen.{Seen}
-use Rattle.megaco.specs.declared.Party.the-variants.{Absent, Outside, Member}
+use Rattle.types.specs.Types.{Context, Op, Name, Termination, Root, Chosen, Unchosen, Wildcard, Unmatched, Unknown, Judged, Wrong, Right, Values, Seen, Absent, Outside, Member}
 use Rattle.megaco.proofs.Sizes.{fitted-is, fitted-same}
 use Rattle.laws.proofs.Frame.{AllOurs, nothing, Foot, Closed, Agree}
 use Rattle.laws.proofs.Views.{Seat, seat-known, seat-same, place-same, look-same}
-use Rattle.laws.proofs.Written.{seat-home, seat-above, Lies, effect-lies, started-lies}
+use Rattle.laws.proofs.Written.{seat-home, seat-above, OursAlone, effect-lies, started-lies}
 
 -- what a step writes, and how its transaction then stands
 pub record Change : Type 0 where
@@ -148,7 +140,7 @@ module _ (lines : ℕ) (N K : ℕ → Type 0) where
         e : Effect
         e = effect op false name given vs i w (look w i (st .table))
 
-        lies : Lies lines N K F e
+        lies : OursAlone lines N K F e
         lies = effect-lies lines N K F op false name given vs i w (look w i (st .table)) (unfold look in fit) s m (unfold look in c .home i m) (seat-home lines N K op w (st .table) s l) (λ x. seat-above lines N K op w (st .table) s x b l)
 
     module _ (op : Op) (name : List ℕ) (given : ℕ) (w : Context) (s : Seat lines N K w) (b : forbiddenInNull op w ≡ false) (l : noContext op w (seen (numberOf w) (st .table) .held) ≡ false) where
@@ -176,18 +168,18 @@ module _ (lines : ℕ) (N K : ℕ → Type 0) where
       local-targets items vs Unmatched m = absurd m
       local-targets items vs Unknown m = local-no-target vs (noTarget 430) no-target
 
-      local-named : (items : Bool) (j : Judged) → Means (nameOf lines name) → Local (λ u. named op name given items j w u) st
-      unfolding named
+      local-named : (items : Bool) (j : Judged) → Means (nameOf lines name) → Local (λ u. fromTest4 op name given items j w u) st
+      unfolding fromTest4
       local-named items (Wrong code) m = local-command-error st op name code w s
       local-named items (Right vs) m =
           local-reads st (λ u. nameOf (fitted (u .table)) name) (λ n u. runTargets op name given vs (targetsOf op w (notForRoot op items vs) n (u .table)) w u) (λ u a. ap (λ (k : ℕ). nameOf k name) (fitted-same (st .table) (u .table) (a .long)))
           (local-targets (notForRoot op items vs) vs (nameOf (fitted (st .table)) name) (subst (λ (k : ℕ). Means (nameOf k name)) (sym fit) m))
 
     local-tested : (op : Op) (name : List ℕ) (items : Items) (given : ℕ) (w : Context) → Seat lines N K w → forbiddenInNull op w ≡ false → Means (nameOf lines name)
-        → Local (λ u. tested op name items given w u) st
-    unfolding tested
+        → Local (λ u. fromTest2 op name items given w u) st
+    unfolding fromTest2
     local-tested op name items given w s b m =
-        local-reads st (λ u. seen (numberOf w) (u .table) .held) (λ h u. pick (noContext op w h) (commandError op name 411 w u) (named op name given (given? items) (judgeItems op items) w u))
+        local-reads st (λ u. seen (numberOf w) (u .table) .held) (λ h u. pick (noContext op w h) (commandError op name 411 w u) (fromTest4 op name given (given? items) (judgeItems op items) w u))
         (λ u a. ap (λ (x : Seen). x .held) (seat-same lines N K F (st .table) (u .table) a fit w s))
         (local-pick st (noContext op w (seen (numberOf w) (st .table) .held)) _ _ (local-command-error st op name 411 w s)
         (λ l. local-named op name given w s b l (given? items) (judgeItems op items) m))
@@ -206,8 +198,8 @@ module _ (lines : ℕ) (N K : ℕ → Type 0) where
         }
 
     local-ordered : (o : Bool) (op : Option Op) (name : List ℕ) (items : Items) (given : ℕ) (w : Context) → Seat lines N K w → Means (nameOf lines name)
-        → Local (λ u. ordered o op name items given w u) st
-    unfolding ordered
+        → Local (λ u. fromTest1 o op name items given w u) st
+    unfolding fromTest1
     local-ordered o none name items given w s m = local-error st 443 w s
     local-ordered o (some op) name items given w s m =
         local-pick st (forbiddenInNull op w) _ _ (local-error st 421 w s) (λ b. local-optional o _ (local-tested op name items given w s b m))

@@ -4,32 +4,15 @@ use mathlib.Core.Bool.{Bool, true, false}
 use mathlib.Core.List.{List, [], _∷_}
 use mathlib.Core.Option.{Option, none, some}
 use native.Mathlib.Omega.{arith}
-use Rattle.megaco.specs.declared.Given.{Given}
-use Rattle.megaco.specs.declared.Given.the-variants.{Keep, To}
-use Rattle.megaco.specs.declared.Judged.{Judged}
-use Rattle.megaco.specs.declared.Judged.the-variants.{Wrong, Right}
-use Rattle.megaco.specs.declared.Kind.{Kind}
-use Rattle.megaco.specs.declared.Kind.the-variants.{InControl, InState}
-use Rattle.megaco.specs.declared.Op.{Op}
-use Rattle.megaco.specs.declared.Op.the-variants.{Add, Modify, Subtract, Move, AuditValue}
-use Rattle.megaco.specs.declared.Values.{Values}
+use Rattle.types.specs.Types.{Given, Keep, To, Judged, Wrong, Right, Kind, InControl, InState, Op, Add, Modify, Subtract, Move, AuditValue, Values}
 use Rattle.megaco.specs.Tree.{Value, plain, quoted, ItemOf, item, Items}
 use Rattle.megaco.specs.Table.{modeOf, stateOf}
 use Rattle.megaco.specs.Items.{change, update, onward, modeGiven, stateGiven, valueGiven, setValue, propertyItems, itemsIn, mediaItems, topItems, auditing, auditedItems, auditItems, auditGiven, unchanged, mediaGiven, noItems, judgeItems}
+use Rattle.types.specs.Ranges.{InRange, JudgedInRange, wrong, right}
 use Rattle.base.proofs.TestLaws.{pick-of}
 use Rattle.laws.specs.Sound.{SoundWord}
 
--- modes 0..4, states 0..2
-pub record Fair (vs : Values) : Type 0 where
-  pub mode : change (vs .mode) 0 ≤ 4
-  pub state : change (vs .state) 0 ≤ 2
-
--- the values of items that are right
-pub data FairItems : Judged → Type 0 where
-  wrong : {code : ℕ} → FairItems (Wrong code)
-  right : {vs : Values} → Fair vs → FairItems (Right vs)
-
-pub update-sound : (vs : Values) (w : ℕ) → Fair vs → SoundWord w → SoundWord (update vs w)
+pub update-sound : (vs : Values) (w : ℕ) → InRange vs → SoundWord w → SoundWord (update vs w)
 unfolding update
 update-sound vs w f s = by (vs .mode) (vs .state) (f .mode) (f .state)
   where
@@ -65,80 +48,80 @@ value-low k (some (quoted w)) = omega arith
 value-low InControl (some (plain w)) = mode-low w
 value-low InState (some (plain w)) = state-low w
 
-set-fair : (k : Kind) (g : Given) (vs : Values) → UpTo (limit k) g → Fair vs → FairItems (setValue k g vs)
+set-in-range : (k : Kind) (g : Given) (vs : Values) → UpTo (limit k) g → InRange vs → JudgedInRange (setValue k g vs)
 unfolding setValue
-set-fair k Keep vs l f = wrong
-set-fair InControl (To x) vs l f = right (record { mode = l; state = f .state })
-set-fair InState (To x) vs l f = right (record { mode = f .mode; state = l })
+set-in-range k Keep vs l f = wrong
+set-in-range InControl (To x) vs l f = right (record { mode = l; state = f .state })
+set-in-range InState (To x) vs l f = right (record { mode = f .mode; state = l })
 
-onward-fair : (j : Judged) (f : Values → Judged) → FairItems j → ((vs : Values) → Fair vs → FairItems (f vs)) → FairItems (onward j f)
+onward-in-range : (j : Judged) (f : Values → Judged) → JudgedInRange j → ((vs : Values) → InRange vs → JudgedInRange (f vs)) → JudgedInRange (onward j f)
 unfolding onward
-onward-fair (Wrong code) f h g = wrong
-onward-fair (Right vs) f (right h) g = g vs h
+onward-in-range (Wrong code) f h g = wrong
+onward-in-range (Right vs) f (right h) g = g vs h
 
 module _ {A : Type 0} where
-  property-fair : (k : Kind) (is : List (ItemOf A)) (seen : Bool) (vs : Values) → Fair vs → FairItems (propertyItems k is seen vs)
+  property-in-range : (k : Kind) (is : List (ItemOf A)) (seen : Bool) (vs : Values) → InRange vs → JudgedInRange (propertyItems k is seen vs)
   unfolding propertyItems
-  property-fair k [] seen vs f = right f
-  property-fair k (item w x v is ∷ rest) seen vs f =
-      pick-of FairItems _ (λ _. wrong) (λ _. pick-of FairItems _ (λ _. wrong) (λ _. pick-of FairItems _
-      (λ _. onward-fair _ _ (set-fair k (valueGiven k v) vs (value-low k v) f) (λ us g. property-fair k rest true us g)) (λ _. wrong)))
+  property-in-range k [] seen vs f = right f
+  property-in-range k (item w x v is ∷ rest) seen vs f =
+      pick-of JudgedInRange _ (λ _. wrong) (λ _. pick-of JudgedInRange _ (λ _. wrong) (λ _. pick-of JudgedInRange _
+      (λ _. onward-in-range _ _ (set-in-range k (valueGiven k v) vs (value-low k v) f) (λ us g. property-in-range k rest true us g)) (λ _. wrong)))
 
-  media-fair : (is : List (ItemOf (ItemOf A))) (o t : Bool) (vs : Values) → Fair vs → FairItems (mediaItems is o t vs)
+  media-in-range : (is : List (ItemOf (ItemOf A))) (o t : Bool) (vs : Values) → InRange vs → JudgedInRange (mediaItems is o t vs)
   unfolding mediaItems
-  media-fair [] o t vs f = right f
-  media-fair (item w x v is ∷ rest) o t vs f =
-      pick-of FairItems _ (λ _. wrong) (λ _. pick-of FairItems _ (λ _. wrong) (λ _. pick-of FairItems _
-      (λ _. pick-of FairItems _ (λ _. onward-fair _ _ (property-fair InControl (itemsIn is) false vs f) (λ us g. media-fair rest true t us g))
-      (λ _. onward-fair _ _ (property-fair InState (itemsIn is) false vs f) (λ us g. media-fair rest o true us g))) (λ _. wrong)))
+  media-in-range [] o t vs f = right f
+  media-in-range (item w x v is ∷ rest) o t vs f =
+      pick-of JudgedInRange _ (λ _. wrong) (λ _. pick-of JudgedInRange _ (λ _. wrong) (λ _. pick-of JudgedInRange _
+      (λ _. pick-of JudgedInRange _ (λ _. onward-in-range _ _ (property-in-range InControl (itemsIn is) false vs f) (λ us g. media-in-range rest true t us g))
+      (λ _. onward-in-range _ _ (property-in-range InState (itemsIn is) false vs f) (λ us g. media-in-range rest o true us g))) (λ _. wrong)))
 
-  top-fair : (is : List (ItemOf (ItemOf (ItemOf A)))) (seen : Bool) (vs : Values) → Fair vs → FairItems (topItems is seen vs)
+  top-in-range : (is : List (ItemOf (ItemOf (ItemOf A)))) (seen : Bool) (vs : Values) → InRange vs → JudgedInRange (topItems is seen vs)
   unfolding topItems
-  top-fair [] seen vs f = right f
-  top-fair (item w x v is ∷ rest) seen vs f =
-      pick-of FairItems _ (λ _. wrong) (λ _. pick-of FairItems _ (λ _. wrong) (λ _. pick-of FairItems _
-      (λ _. onward-fair _ _ (media-fair (itemsIn is) false false vs f) (λ us g. top-fair rest true us g)) (λ _. wrong)))
+  top-in-range [] seen vs f = right f
+  top-in-range (item w x v is ∷ rest) seen vs f =
+      pick-of JudgedInRange _ (λ _. wrong) (λ _. pick-of JudgedInRange _ (λ _. wrong) (λ _. pick-of JudgedInRange _
+      (λ _. onward-in-range _ _ (media-in-range (itemsIn is) false false vs f) (λ us g. top-in-range rest true us g)) (λ _. wrong)))
 
-unchanged-fair : Fair unchanged
-unchanged-fair = omega arith
+unchanged-in-range : InRange unchanged
+unchanged-in-range = omega arith
 
-auditing-fair : Fair auditing
-auditing-fair = omega arith
+auditing-in-range : InRange auditing
+auditing-in-range = omega arith
 
 module _ {A : Type 0} where
-  audited-fair : (is : List (ItemOf A)) (seen : Bool) (vs : Values) → Fair vs → FairItems (auditedItems is seen vs)
+  audited-in-range : (is : List (ItemOf A)) (seen : Bool) (vs : Values) → InRange vs → JudgedInRange (auditedItems is seen vs)
   unfolding auditedItems
-  audited-fair [] seen vs f = right f
-  audited-fair (item w x v is ∷ rest) seen vs f =
-      pick-of FairItems _ (λ _. wrong) (λ _. pick-of FairItems _ (λ _. wrong) (λ _. pick-of FairItems _
-      (λ _. audited-fair rest true auditing auditing-fair) (λ _. wrong)))
+  audited-in-range [] seen vs f = right f
+  audited-in-range (item w x v is ∷ rest) seen vs f =
+      pick-of JudgedInRange _ (λ _. wrong) (λ _. pick-of JudgedInRange _ (λ _. wrong) (λ _. pick-of JudgedInRange _
+      (λ _. audited-in-range rest true auditing auditing-in-range) (λ _. wrong)))
 
-  audit-fair : (is : List (ItemOf (ItemOf A))) (seen : Bool) (vs : Values) → Fair vs → FairItems (auditItems is seen vs)
+  audit-in-range : (is : List (ItemOf (ItemOf A))) (seen : Bool) (vs : Values) → InRange vs → JudgedInRange (auditItems is seen vs)
   unfolding auditItems
-  audit-fair [] seen vs f = right f
-  audit-fair (item w x v is ∷ rest) seen vs f =
-      pick-of FairItems _ (λ _. wrong) (λ _. pick-of FairItems _ (λ _. wrong) (λ _. pick-of FairItems _
-      (λ _. onward-fair _ _ (audited-fair (itemsIn is) false vs f) (λ us g. audit-fair rest true us g)) (λ _. wrong)))
+  audit-in-range [] seen vs f = right f
+  audit-in-range (item w x v is ∷ rest) seen vs f =
+      pick-of JudgedInRange _ (λ _. wrong) (λ _. pick-of JudgedInRange _ (λ _. wrong) (λ _. pick-of JudgedInRange _
+      (λ _. onward-in-range _ _ (audited-in-range (itemsIn is) false vs f) (λ us g. audit-in-range rest true us g)) (λ _. wrong)))
 
-  given-fair : (is : List (ItemOf (ItemOf A))) → FairItems (auditGiven is)
+  given-in-range : (is : List (ItemOf (ItemOf A))) → JudgedInRange (auditGiven is)
   unfolding auditGiven
-  given-fair [] = wrong
-  given-fair (i ∷ is) = audit-fair (i ∷ is) false unchanged unchanged-fair
+  given-in-range [] = wrong
+  given-in-range (i ∷ is) = audit-in-range (i ∷ is) false unchanged unchanged-in-range
 
-media-given-fair : (items : Items) → FairItems (mediaGiven items)
+media-given-in-range : (items : Items) → JudgedInRange (mediaGiven items)
 unfolding mediaGiven
-media-given-fair none = right unchanged-fair
-media-given-fair (some is) = top-fair is false unchanged unchanged-fair
+media-given-in-range none = right unchanged-in-range
+media-given-in-range (some is) = top-in-range is false unchanged unchanged-in-range
 
-none-fair : (items : Items) → FairItems (noItems items)
+none-in-range : (items : Items) → JudgedInRange (noItems items)
 unfolding noItems
-none-fair none = right unchanged-fair
-none-fair (some is) = wrong
+none-in-range none = right unchanged-in-range
+none-in-range (some is) = wrong
 
-pub items-fair : (op : Op) (items : Items) → FairItems (judgeItems op items)
+pub items-in-range : (op : Op) (items : Items) → JudgedInRange (judgeItems op items)
 unfolding judgeItems
-items-fair Add items = media-given-fair items
-items-fair Modify items = media-given-fair items
-items-fair Subtract items = none-fair items
-items-fair Move items = media-given-fair items
-items-fair AuditValue items = given-fair (itemsIn items)
+items-in-range Add items = media-given-in-range items
+items-in-range Modify items = media-given-in-range items
+items-in-range Subtract items = none-in-range items
+items-in-range Move items = media-given-in-range items
+items-in-range AuditValue items = given-in-range (itemsIn items)

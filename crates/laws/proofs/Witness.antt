@@ -38,9 +38,9 @@ pub start-sound : sound start ≡ true
 unfolding tests
 start-sound = refl
 
-meets : apart? start (read one) (read two) ≡ true
+apart-tested : apart? start (read one) (read two) ≡ true
 unfolding tests
-meets = refl
+apart-tested = refl
 
 -- both change the table
 pub both-change : (same (runTransaction (read one) (state start) .state .table) start ≡ false) × (same (runTransaction (read two) (state start) .state .table) start ≡ false)
@@ -58,7 +58,7 @@ unfolding tests
 replies = (refl, refl)
 
 pub apart : Apart start (read one) (read two)
-apart = apart-is start (read one) (read two) .0 meets
+apart = apart-is start (read one) (read two) .0 apart-tested
 
 -- ---- and turn by turn
 

@@ -14,14 +14,7 @@ use Rattle.megaco.specs.Topology.{anyTopology, Link}
 use Rattle.megaco.specs.Attempt.{seen, numberOf, isChoose, target, checks, flowing, joining, leaving, placed, marking, changes, settled, Effect, concluded, effect}
 use Rattle.megaco.specs.Command.{isNull, inPlace, forbiddenInNull, noContext}
 use Rattle.megaco.specs.Action.{anyGiven, startChecks, flowWrites, startWrites, Start, startedBy, started}
-use Rattle.megaco.specs.declared.Context.{Context}
-use Rattle.megaco.specs.declared.Context.the-variants.{Null, Numbered, Choose, All}
-use Rattle.megaco.specs.declared.Op.{Op}
-use Rattle.megaco.specs.declared.Op.the-variants.{Add, Modify, Subtract, Move, AuditValue}
-use Rattle.megaco.specs.declared.Checked.{Checked}
-use Rattle.megaco.specs.declared.Values.{Values}
-use Rattle.megaco.specs.declared.Seen.{Seen}
-use Rattle.megaco.specs.declared.View.{View}
+use Rattle.types.specs.Types.{Context, Null, Numbered, Choose, All, Op, Add, Modify, Subtract, Move, AuditValue, Checked, Values, Seen, View}
 use Rattle.base.proofs.TestLaws.{clash, and-false}
 use Rattle.laws.specs.Passed.{Passed}
 use Rattle.laws.proofs.Passed.{judged}
@@ -118,7 +111,7 @@ module _ (lines : ℕ) (N K : ℕ → Type 0) where
         leaving-all v _ (h (nonzero (v .here) (eqb-false (v .here) 0 (search)))) (joining-all w given v _ s (k (z refl)) (placed-all i _ _ m (target-home w v s k)))
 
     -- what an attempt writes, and where its action stands after it
-    pub record Lies (e : Effect) : Type 0 where
+    pub record OursAlone (e : Effect) : Type 0 where
       pub all : AllOurs lines N K (e .writes)
       pub seat : Seat lines N K (e .at)
 
@@ -131,10 +124,10 @@ module _ (lines : ℕ) (N K : ℕ → Type 0) where
 
     pub effect-lies : (op : Op) (wild : Bool) (name : List ℕ) (given : ℕ) (vs : Values) (i : ℕ) (w : Context) (v : View) → v .lines ≡ lines → Seat lines N K w → N i
         → (0 < v .here → K (v .here)) → (0 < numberOf w → K (numberOf w)) → (inPlace op ≡ false → 0 < numberOf w)
-        → Lies (effect op wild name given vs i w v)
+        → OursAlone (effect op wild name given vs i w v)
     unfolding effect concluded
     effect-lies op wild name given vs i w v f s m h k z =
-        judged (λ (x : Checked). Lies (concluded op wild name given vs i w v x)) (checks op w v) (λ code. record { all = nothing; seat = s })
+        judged (λ (x : Checked). OursAlone (concluded op wild name given vs i w v x)) (checks op w v) (λ code. record { all = nothing; seat = s })
         (λ p. record { all = changes-all op w given i vs v f s m h k z p; seat = seat-settled w v s })
 
     -- ---- an action's start

@@ -10,9 +10,7 @@ use Rattle.megaco.specs.Table.{apply}
 use Rattle.megaco.specs.Topology.{triplesOf, anyTopology, party, linksOf, placeOf, setLinks}
 use Rattle.megaco.specs.Attempt.{seen, flowsOf}
 use Rattle.megaco.specs.Action.{startChecks, started}
-use Rattle.megaco.specs.declared.Direction.{Direction}
-use Rattle.megaco.specs.declared.Direction.the-variants.{Isolate, Oneway, Bothway}
-use Rattle.megaco.specs.declared.Context.the-variants.{Numbered}
+use Rattle.types.specs.Types.{Direction, Isolate, Oneway, Bothway, Numbered}
 use Rattle.laws.specs.Passed.{Passed}
 use Rattle.laws.specs.Sound.{Whole}
 

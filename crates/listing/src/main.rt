@@ -5,6 +5,20 @@ ghost use mathlib.Core.Path.{_≡_};
 ghost use lib.ListN.{length, take};
 ghost use Rattle.sessions.specs.Session.{between, takenIn, Answers, HoldsLine, Turned, Took, Input, Finished, answerRoom};
 use gateway::CallOutcome;
+use gateway::LONGEST_MESSAGE;
+use gateway::REPLY_ROOM;
+use table::LINE;
+use table::NO_LINES;
+
+// The lines fitted, and the words of their table.
+const LINES: u32 = 8;
+
+const WORDS: usize = NO_LINES + LINES as usize * LINE;
+
+// A line that is longer than a message shows by one byte more; a reply has its line end behind it.
+const LINE_ROOM: usize = LONGEST_MESSAGE + 1;
+
+const REPLY_LINE_ROOM: usize = REPLY_ROOM + 1;
 
 // After a turn: the place in the chunk where the next one starts, how many bytes of a line are held, how many are to be printed.
 struct ChunkTurn {
@@ -24,7 +38,7 @@ fn answer_line(message: &[u8], table: &mut [u32], out: &mut [u8]) -> usize
     requires { ⌜ answerRoom ≤ length (now out) ⌝ }
     ensures { λ r. ⌜ Answers (now (message .entry)) (now (table .entry)) (now (out .entry)) (now (table .exit)) (now (out .exit)) r ⌝ }
 {
-    let a = gateway::answer(8, message, table, b"[10.0.0.9]", out);
+    let a = gateway::answer(LINES, message, table, b"[10.0.0.9]", out);
     match a {
         CallOutcome::Taken(n) => sessions::put_line_end(out, n),
         CallOutcome::MessageUnfit => sessions::put_refused(out, 0, 1),
@@ -143,12 +157,12 @@ fn finish_line(line: &[u8], held: usize, table: &mut [u32], out: &mut [u8]) -> u
 
 // Moves bytes: what it prints was put into `out` by the functions above and by crate sessions. Output that can't be written is lost.
 fn main() {
-    let mut table = [0u32; 1010];
-    let mut line = [0u8; 4097];
-    let mut out = [0u8; 16641];
+    let mut table = [0u32; WORDS];
+    let mut line = [0u8; LINE_ROOM];
+    let mut out = [0u8; REPLY_LINE_ROOM];
     let held = take_input(&mut line, &mut table, &mut out);
     let n = finish_line(&line, held, &mut table, &mut out);
     io::write_all(1, &out[0..n]);
-    let k = sessions::put_contexts(&mut out, 0, 8, &table);
+    let k = sessions::put_contexts(&mut out, 0, LINES, &table);
     io::write_all(1, &out[0..k]);
 }

@@ -143,14 +143,14 @@ runTargets op name given vs (targets wild is) at st = attempts op wild name give
 
 -- ---- the tests in order
 -- test 4 after test 3
-unfoldable pub named : Op → List ℕ → ℕ → Bool → Judged → Context → State → Outcome
-named op name given items (Wrong code) at st = commandError op name code at st
-named op name given items (Right vs) at st = runTargets op name given vs (targetsOf op at (notForRoot op items vs) (nameOf (fitted (st .table)) name) (st .table)) at st
+unfoldable pub fromTest4 : Op → List ℕ → ℕ → Bool → Judged → Context → State → Outcome
+fromTest4 op name given items (Wrong code) at st = commandError op name code at st
+fromTest4 op name given items (Right vs) at st = runTargets op name given vs (targetsOf op at (notForRoot op items vs) (nameOf (fitted (st .table)) name) (st .table)) at st
 
 -- tests 2 to 6
-unfoldable pub tested : Op → List ℕ → Items → ℕ → Context → State → Outcome
-tested op name items given at st =
-    let r = named op name given (given? items) (judgeItems op items) at st in
+unfoldable pub fromTest2 : Op → List ℕ → Items → ℕ → Context → State → Outcome
+fromTest2 op name items given at st =
+    let r = fromTest4 op name given (given? items) (judgeItems op items) at st in
     pick (noContext op at (seen (numberOf at) (st .table) .held)) (commandError op name 411 at st) r
 
 -- "After a failed command without `O-` the rest of its transaction does not run; after an optional one it does"
@@ -158,10 +158,10 @@ unfoldable pub unlessOptional : Bool → Outcome → Outcome
 unlessOptional o x = outcome (x .state) (x .reports) (x .at) (x .going || o)
 
 -- test 1, then the others
-unfoldable pub ordered : Bool → Option Op → List ℕ → Items → ℕ → Context → State → Outcome
-ordered o none name items given at st = actionError 443 at st
-ordered o (some op) name items given at st =
-    let r = unlessOptional o (tested op name items given at st) in pick (forbiddenInNull op at) (actionError 421 at st) r
+unfoldable pub fromTest1 : Bool → Option Op → List ℕ → Items → ℕ → Context → State → Outcome
+fromTest1 o none name items given at st = actionError 443 at st
+fromTest1 o (some op) name items given at st =
+    let r = unlessOptional o (fromTest2 op name items given at st) in pick (forbiddenInNull op at) (actionError 421 at st) r
 
 unfoldable pub runCommand : Command → ℕ → Context → State → Outcome
-runCommand (command o w word name items) given at st = ordered o (opOf w word) name items given at st
+runCommand (command o w word name items) given at st = fromTest1 o (opOf w word) name items given at st

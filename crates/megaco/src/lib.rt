@@ -1,4 +1,7 @@
 // The plain types that definitions and contracts share. What they mean is said in specs/.
+ghost use mathlib.Core.Path.{_≡_};
+ghost use Rattle.megaco.specs.Attempt.{numberOf, isChoose};
+ghost use Rattle.megaco.specs.Command.{isAdd, isSubtract, inPlace, isNull};
 
 // What a reader of one part finds: the place after it, or that the part does not stand there.
 pub enum Parsed {
@@ -63,6 +66,36 @@ pub enum Context {
     All,
 }
 
+impl Context {
+    pub fn is_null(self) -> bool
+        ensures { λ r. ⌜ r ≡ isNull self ⌝ }
+    {
+        match self {
+            Context::Null => true,
+            _ => false,
+        }
+    }
+
+    pub fn is_choose(self) -> bool
+        ensures { λ r. ⌜ r ≡ isChoose self ⌝ }
+    {
+        match self {
+            Context::Choose => true,
+            _ => false,
+        }
+    }
+
+    // A context's number; null, `$` and `*` are 0.
+    pub fn number(self) -> u32
+        ensures { λ r. ⌜ r ≡ numberOf self ⌝ }
+    {
+        match self {
+            Context::Numbered(c) => c,
+            _ => 0,
+        }
+    }
+}
+
 // A context's property, as an action gives it: `PR=n`, `EG`, `TP{..}`.
 pub enum Property {
     Priority(u32),
@@ -93,6 +126,37 @@ pub enum Op {
     Subtract,
     Move,
     AuditValue,
+}
+
+impl Op {
+    pub fn is_add(self) -> bool
+        ensures { λ r. ⌜ r ≡ isAdd self ⌝ }
+    {
+        match self {
+            Op::Add => true,
+            _ => false,
+        }
+    }
+
+    pub fn is_subtract(self) -> bool
+        ensures { λ r. ⌜ r ≡ isSubtract self ⌝ }
+    {
+        match self {
+            Op::Subtract => true,
+            _ => false,
+        }
+    }
+
+    // Whether a termination stays where it stands.
+    pub fn in_place(self) -> bool
+        ensures { λ r. ⌜ r ≡ inPlace self ⌝ }
+    {
+        match self {
+            Op::Modify => true,
+            Op::AuditValue => true,
+            _ => false,
+        }
+    }
 }
 
 // What a wildcard ranges over: `*`, `L/*`, `R/*`, `L/l/*`.

@@ -17,9 +17,7 @@ use Rattle.base.proofs.PickLaws.{pick-ind}
 use Rattle.megaco.specs.Bytes.{slash, star, dollar, isDigit, capital, capitals}
 use Rattle.megaco.specs.Table.{channels, lineTerminations, ephemerals}
 use Rattle.megaco.specs.Names.{numeral, within, lineName, ephemeralName, plainName, lineRange, wildcardName, capitalName, nameOf}
-use Rattle.megaco.specs.declared.Range.the-variants.{ChannelsOf}
-use Rattle.megaco.specs.declared.Name.{Name}
-use Rattle.megaco.specs.declared.Name.the-variants.{Termination, Root, Chosen, Unchosen, Wildcard, Unmatched, Unknown}
+use Rattle.types.specs.Types.{ChannelsOf, Name, Termination, Root, Chosen, Unchosen, Wildcard, Unmatched, Unknown}
 use Rattle.names.specs.Digits.{oneDigit, twoDigits}
 
 -- ---- loops over bytes

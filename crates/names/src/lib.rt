@@ -128,11 +128,14 @@ fn numeral(n: &[u8]) -> u32
     0
 }
 
+// The digit 0, as a number is reckoned with.
+const ZERO: u32 = b'0' as u32;
+
 fn one_digit(a: u8) -> u32
     ensures { λ r. ⌜ r ≡ oneDigit a ⌝ }
 {
     if text::is_digit(a) {
-        return less(a as u32, 48);
+        return less(a as u32, ZERO);
     }
     0
 }
@@ -140,8 +143,8 @@ fn one_digit(a: u8) -> u32
 fn two_digits(a: u8, b: u8) -> u32
     ensures { λ r. ⌜ r ≡ twoDigits a b ⌝ }
 {
-    if text::is_digit(a) & text::is_digit(b) & (a != 48) {
-        return 10 * less(a as u32, 48) + less(b as u32, 48);
+    if text::is_digit(a) & text::is_digit(b) & (a != b'0') {
+        return 10 * less(a as u32, ZERO) + less(b as u32, ZERO);
     }
     0
 }

@@ -15,12 +15,11 @@ use Rattle.base.specs.Lists.{isAt}
 use Rattle.base.proofs.TestLaws.{clash, and-left, and-right}
 use Rattle.megaco.specs.White.{whiteAt}
 use Rattle.megaco.specs.Reading.{Read, got, fault}
-use Rattle.megaco.specs.declared.Parsed.{Parsed}
-use Rattle.megaco.specs.declared.Parsed.the-variants.{Next, Fault}
+use Rattle.types.specs.Types.{Parsed, Next, Fault}
 use Rattle.text.proofs.TextLaws.{within}
 use Rattle.digits.specs.Symbols.{symbolsOf}
 use Rattle.digits.specs.DigitMap.{stringR, alternativeR, read, gone, onto, endsAt, listF, bareR, mapR, bar, leftParen}
-use Rattle.digits.specs.Dialling.{meets, meetsAny, plan, noPlan, planOf, load, dial, answered, progress, progressOf, isDialled, firstTimer}
+use Rattle.digits.specs.Dialling.{matchesOne, matchesAny, plan, noPlan, planOf, load, dial, answered, progress, progressOf, isDialled, firstTimer}
 use Rattle.digits.specs.declared.Reach.{Reach}
 use Rattle.digits.specs.declared.ZeroStart.{ZeroStart}
 use Rattle.digits.specs.declared.Dialled.{Dialled}
@@ -69,8 +68,8 @@ onto-some a (some n) m e = (n, refl, cc)
 pub record TriesRest (s w : List ℕ) (i left : ℕ) (matched longer : Bool) (m : List (List ℕ)) : Type 0 where
   pub more : List (List ℕ)
   pub reads : listF left (drop i s) ≡ some more
-  pub sames : meetsAny true m w ≡ matched || meetsAny true more w
-  pub goes : meetsAny false m w ≡ longer || meetsAny false more w
+  pub sames : matchesAny true m w ≡ matched || matchesAny true more w
+  pub goes : matchesAny false m w ≡ longer || matchesAny false more w
 
 pub record TriesHere (s w : List ℕ) (i left : ℕ) (matched longer : Bool) : Type 0 where
   pub inside : i ≤ length s
@@ -153,17 +152,17 @@ module _ (s w : List ℕ) (i left : ℕ) (matched longer : Bool) (inv : TriesHer
       bar-fits-2 h l = let k = bar-within h in record { fits = omega (arith, k) }
 
       pub tries-on : x ≡ true → TriesHere s w (i + (to + 1)) (left - 1) (matched || q .matched) (longer || q .longer)
-      unfolding pick meetsAny
+      unfolding pick matchesAny
       tries-on h = record { inside = bar-within h; to = λ m j. next (inv .to m j) }
         where
-          build : (m k n : List (List ℕ)) → meetsAny true m w ≡ matched || meetsAny true k w → meetsAny false m w ≡ longer || meetsAny false k w
+          build : (m k n : List (List ℕ)) → matchesAny true m w ≡ matched || matchesAny true k w → matchesAny false m w ≡ longer || matchesAny false k w
               → listF (left - 1) (drop (to + 1) u) ≡ some n → k ≡ here .what ∷ n → TriesRest s w (i + (to + 1)) (left - 1) (matched || q .matched) (longer || q .longer) m
           build m k n a c o v =
               record {
                 more = n;
                 reads = rw (← drop-drop (to + 1) i s, ← r) o;
-                sames = a ∙ rw (v, ← here .reaches .matched) (or-two matched (q .matched) (meetsAny true n w));
-                goes = c ∙ rw (v, ← here .reaches .longer) (or-two longer (q .longer) (meetsAny false n w));
+                sames = a ∙ rw (v, ← here .reaches .matched) (or-two matched (q .matched) (matchesAny true n w));
+                goes = c ∙ rw (v, ← here .reaches .longer) (or-two longer (q .longer) (matchesAny false n w));
               }
 
           next : {m : List (List ℕ)} → TriesRest s w i left matched longer m → TriesRest s w (i + (to + 1)) (left - 1) (matched || q .matched) (longer || q .longer) m
@@ -172,7 +171,7 @@ module _ (s w : List ℕ) (i left : ℕ) (matched longer : Bool) (inv : TriesHer
               build m (z .more) (o .0) (z .sames) (z .goes) (o .1) (o .2)
 
       pub tries-last : x ≡ false → TriesAny (listF 16 s) w (record { matched = matched || q .matched; longer = longer || q .longer })
-      unfolding pick meetsAny
+      unfolding pick matchesAny
       tries-last h = record { to = λ m j. last (inv .to m j) }
         where
           one : (t : Bool) (m : List (List ℕ)) → pick t (some (here .what ∷ [])) none ≡ some m → m ≡ here .what ∷ []
@@ -209,7 +208,7 @@ module _ (s w : List ℕ) (x : Parsed) (e : x ≡ whiteAt s 0) where
         one a false m k = let c : true ≡ false = cc in absurd (clash c)
 
         alone : (a : List ℕ) → Reaches a w r → ReachesAny (a ∷ []) w r
-        alone a z = unfold meetsAny in record { matched = z .matched ∙ sym (or-false (meets true a w)); longer = z .longer ∙ sym (or-false (meets false a w)) }
+        alone a z = unfold matchesAny in record { matched = z .matched ∙ sym (or-false (matchesOne true a w)); longer = z .longer ∙ sym (or-false (matchesOne false a w)) }
 
         by : (z : Read (List ℕ)) → stringR s ≡ z → (m : List (List ℕ)) → read z (λ a n. pick (eqb n (length s)) (some (a ∷ [])) none) ≡ some m → ReachesAny m w r
         by (got a n) z m j = let o : m ≡ a ∷ [] = one a (eqb n (length s)) m j in rw o (alone a (l .to 65 64 a n (string-from s a n z)))

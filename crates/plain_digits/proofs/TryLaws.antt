@@ -12,14 +12,14 @@ use Rattle.base.proofs.TestLaws.{clash, and-left, and-right}
 use Rattle.megaco.specs.Reading.{Read, got}
 use Rattle.digits.specs.Symbols.{symbolOf, symbolsOf, takes, dotted}
 use Rattle.digits.specs.DigitMap.{elementAt, elementThen, stringF}
-use Rattle.digits.specs.Dialling.{atEnd, meets}
+use Rattle.digits.specs.Dialling.{atEnd, matchesOne}
 use Rattle.digits.specs.declared.Selector.{Selector}
 use Rattle.digits.specs.declared.Selector.the-variants.{Takes, Absent, Malformed}
 use Rattle.digits.specs.declared.Reach.{Reach}
 use Rattle.digits.proofs.LanguageLaws.{at-start}
 use Rattle.digits.proofs.ReadLaws.{Proper, element-of}
 use Rattle.dialling.specs.Live.{Reaches}
-use Rattle.dialling.proofs.LiveLaws.{meets-next, meets-end}
+use Rattle.dialling.proofs.LiveLaws.{match-next, match-end}
 use Rattle.dialling.proofs.StoreLaws.{begun}
 use Rattle.plain_digits.specs.Tries.{Tries}
 
@@ -53,7 +53,7 @@ module _ (s : List ℕ) (x : Selector) (e : x ≡ elementAt s) where
       record { to = λ k left a n g. let y = opened s Malformed (sym e ∙ f) k left a n g in let q = y .1 in let z : true ≡ false = cc in absurd (clash z) }
 
   pub tries-end : (v : List ℕ) → x ≡ Absent → Tries s (symbolsOf v) (record { matched = eqb (length v) 0; longer = false })
-  unfolding elementThen meets
+  unfolding elementThen matchesOne
   tries-end v f =
       record {
         to = λ k left a n g.
@@ -63,13 +63,13 @@ module _ (s : List ℕ) (x : Selector) (e : x ≡ elementAt s) where
             rw z (record { matched = by v; longer = no v });
       }
     where
-      by : (v : List ℕ) → eqb (length v) 0 ≡ meets true [] (symbolsOf v)
-      by [] = unfold symbolsOf atEnd meets in refl
-      by (b ∷ v) = unfold symbolsOf atEnd meets in ne-eqb (suc (length v)) 0 (λ z. omega arith)
+      by : (v : List ℕ) → eqb (length v) 0 ≡ matchesOne true [] (symbolsOf v)
+      by [] = unfold symbolsOf atEnd matchesOne in refl
+      by (b ∷ v) = unfold symbolsOf atEnd matchesOne in ne-eqb (suc (length v)) 0 (λ z. omega arith)
 
-      no : (v : List ℕ) → false ≡ meets false [] (symbolsOf v)
-      no [] = unfold symbolsOf atEnd meets in refl
-      no (b ∷ v) = unfold symbolsOf atEnd meets in refl
+      no : (v : List ℕ) → false ≡ matchesOne false [] (symbolsOf v)
+      no [] = unfold symbolsOf atEnd matchesOne in refl
+      no (b ∷ v) = unfold symbolsOf atEnd matchesOne in refl
 
   module _ (set size p : ℕ) (f : x ≡ Takes set size p) (t : List ℕ) (r : t ≡ drop p s) where
     proper : Proper s 0 set size p
@@ -116,14 +116,14 @@ module _ (s : List ℕ) (x : Selector) (e : x ≡ elementAt s) where
           let c : symbolsOf v ≡ [] = no-symbols v z in
           by-front (symbolsOf v) (symbolsOf v) a (record { matched = a .matched; longer = true }) g
           (λ b y. record {
-            matched = y .matched ∙ rw c (sym (meets-end set b ∙ unfold pick in rw (← i, h) (or-false (meets true b []))));
+            matched = y .matched ∙ rw c (sym (match-end set b ∙ unfold pick in rw (← i, h) (or-false (matchesOne true b []))));
             longer = rw c (sym (at-start set b));
           })
 
       module _ (n : length v ≡ 0 → ⊥) (x′ : Bool) (k : x′ ≡ takes set (symbolOf (getD v 0 0))) where
-        next : (whole : Bool) (b : List ℕ) → meets whole (set ∷ b) (symbolsOf v)
-            ≡ pick d (meets whole b (symbolsOf v) || (x′ && meets whole (set ∷ b) (symbolsOf (drop 1 v)))) (x′ && meets whole b (symbolsOf (drop 1 v)))
-        next whole b = rw (some-symbols v n, i, k) (meets-next whole set (symbolOf (getD v 0 0)) b (symbolsOf (drop 1 v)))
+        next : (whole : Bool) (b : List ℕ) → matchesOne whole (set ∷ b) (symbolsOf v)
+            ≡ pick d (matchesOne whole b (symbolsOf v) || (x′ && matchesOne whole (set ∷ b) (symbolsOf (drop 1 v)))) (x′ && matchesOne whole b (symbolsOf (drop 1 v)))
+        next whole b = rw (some-symbols v n, i, k) (match-next whole set (symbolOf (getD v 0 0)) b (symbolsOf (drop 1 v)))
 
         pub dotted-with : (a c : Reach) (u : List ℕ) → d ≡ true → x′ ≡ true → u ≡ drop 1 v → Tries t (symbolsOf v) a → Tries s (symbolsOf u) c
             → Tries s (symbolsOf v) (record { matched = a .matched || c .matched; longer = a .longer || c .longer })
@@ -145,8 +145,8 @@ module _ (s : List ℕ) (x : Selector) (e : x ≡ elementAt s) where
         dotted-without a h l g =
             by-front (symbolsOf v) (symbolsOf v) a a g
             (λ b y. record {
-              matched = y .matched ∙ sym (next true b ∙ rw (h, l) (or-false (meets true b (symbolsOf v))));
-              longer = y .longer ∙ sym (next false b ∙ rw (h, l) (or-false (meets false b (symbolsOf v))));
+              matched = y .matched ∙ sym (next true b ∙ rw (h, l) (or-false (matchesOne true b (symbolsOf v))));
+              longer = y .longer ∙ sym (next false b ∙ rw (h, l) (or-false (matchesOne false b (symbolsOf v))));
             })
 
         -- without one
@@ -187,7 +187,7 @@ module _ (s : List ℕ) (x : Selector) (e : x ≡ elementAt s) where
           record {
             to = λ fuel left b y j.
                 let q = front fuel left b y j in
-                rw (q .is, c) (record { matched = sym (meets-end set (q .rest) ∙ unfold pick in rw (← i, h)); longer = sym (at-start set (q .rest)) });
+                rw (q .is, c) (record { matched = sym (match-end set (q .rest) ∙ unfold pick in rw (← i, h)); longer = sym (at-start set (q .rest)) });
           }
 
 pub by-symbol : (set b c : ℕ) (x : Bool) → c ≡ symbolOf b → x ≡ takes set c → x ≡ takes set (symbolOf b)

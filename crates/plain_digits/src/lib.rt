@@ -11,6 +11,7 @@ ghost use Rattle.digits.specs.Symbols.{symbolOf, symbolsOf, takes};
 ghost use Rattle.digits.specs.DigitMap.{listF, mapR};
 ghost use Rattle.digits.specs.Dialling.{load, dial};
 ghost use Rattle.plain_digits.specs.Tries.{Tries, TriesAny};
+use dialling::CELLS;
 use digits::Dialled;
 use digits::Reach;
 use digits::Selector;
@@ -141,7 +142,7 @@ fn tries_map(s: &[u8], string: &[u8]) -> Reach
 pub fn dial_plain(map: &[u8], start: u32, zero: ZeroStart, string: &[u8]) -> Dialled
     ensures { λ r. ⌜ r ≡ dial (load (now (map .entry)) start zero) (now (string .entry)) ⌝ }
 {
-    let mut cells = [0u32; 1040];
+    let mut cells = [0u32; CELLS];
     let l = dialling::load(map, start, zero, &mut cells);
     let good = l.good;
     if good {

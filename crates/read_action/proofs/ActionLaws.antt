@@ -6,26 +6,20 @@ use mathlib.Core.Bool.{Bool, true, false, _||_}
 use native.Mathlib.Omega.{arith}
 use lib.ListN.{length}
 use Rattle.base.specs.Pick.{pick}
-use Rattle.base.specs.Lists.{isAt, part}
-use Rattle.megaco.specs.Bytes.{comma}
-use Rattle.megaco.specs.White.{whiteAt}
+use Rattle.base.specs.Lists.{part}
 use Rattle.megaco.specs.Tokens.{rowAt, afterNumber}
 use Rattle.megaco.specs.Keywords.{spells}
 use Rattle.megaco.specs.Reading.{unlimited, isProperty, wordHere}
-use Rattle.megaco.specs.declared.Parsed.{Parsed}
-use Rattle.megaco.specs.declared.Parsed.the-variants.{Next, Fault}
-use Rattle.megaco.specs.declared.Number.{Number}
-use Rattle.megaco.specs.declared.Number.the-variants.{Bad}
-use Rattle.megaco.specs.declared.Class.the-variants.{WordByte}
-use Rattle.megaco.specs.declared.Token.{Token}
-use Rattle.megaco.specs.declared.Token.the-variants.{IsolateToken, OnewayToken, BothwayToken}
+use Rattle.types.specs.Types.{Parsed, Next, Fault, Number, Bad, WordByte, Token, IsolateToken, OnewayToken, BothwayToken}
 use Rattle.read_command.specs.declared.Piece.{Piece}
+use Rattle.read_command.specs.declared.Following.{Following}
+use Rattle.read_command.specs.declared.Following.the-variants.{Another, Ends}
 use Rattle.read_command.specs.Pieces.{Holds}
-use Rattle.read_command.specs.Production.{numberAfter, joinedAt}
+use Rattle.read_command.specs.Production.{numberAfter, joinedAt, followingOf}
 use Rattle.read_command.specs.Places.{commandsAt, isDirection, tripleAt, triplesAt, propertyAt, bodyPlace}
 use Rattle.read_command.proofs.Onward.{triple-on, property-on}
 use Rattle.read_command.proofs.ListLaws as lists
-use Rattle.read_command.proofs.ListLaws.{steps, joined-fault, joined-last, joined-cut, joined-more, goes-more, comma-falls}
+use Rattle.read_command.proofs.ListLaws.{steps, joined-ends, joined-more, goes-more, comma-falls}
 
 -- the place after a number that a call read
 pub place-by : (r : Parsed) (x y : Number) → r ≡ afterNumber y Next → y ≡ x → r ≡ afterNumber x Next
@@ -63,12 +57,12 @@ pub triples-start : (s : List ℕ) (at : ℕ) → lists.Goes (triplesAt s at .pl
 unfolding triplesAt unlimited
 triples-start s at = record { left = length s + 1; enough = omega arith; same = refl }
 
-module _ (s : List ℕ) (i p u : ℕ) (x : Bool) (y w : Parsed) (e : y ≡ tripleAt s i .place) (n : y ≡ Next p) (g : x ≡ isAt s p comma) (t : x ≡ true) (l : w ≡ whiteAt s (p + 1)) (f : w ≡ Next u) where
+module _ (s : List ℕ) (i u : ℕ) (y : Parsed) (f : Following) (e : y ≡ tripleAt s i .place) (g : f ≡ followingOf s y) (n : f ≡ Another u) where
   pub triples-less : length s - u < length s - i
-  triples-less = comma-falls (λ j. tripleAt s j .place) s i p u x y w (triple-on s) e n g t l f .1
+  triples-less = comma-falls s i u y (rw e (triple-on s i)) (sym g ∙ n) .1
 
   pub triples-more : (q : Parsed) → lists.Goes q (λ j. tripleAt s j .place) s i → lists.Goes q (λ j. tripleAt s j .place) s u
-  triples-more q inv = goes-more q (λ j. tripleAt s j .place) s i inv y e p n x g t w l u (triple-on s) f
+  triples-more q inv = goes-more q (λ j. tripleAt s j .place) s i inv y e f g u (triple-on s i) n
 
 -- ---- an action's body, from the place that was reached: enough of the counter is left for the bytes that are left
 
@@ -93,28 +87,20 @@ module _ (q : Parsed) (s : List ℕ) (i : ℕ) (inv : Goes q s i) (z : Bool) (d 
   unfolding pick
   body-commands r f h = h ∙ sym (turn ∙ rw f)
 
-  module _ (b : z ≡ true) (y : Parsed) (e : y ≡ propertyAt s i .place) where
+  module _ (b : z ≡ true) (y : Parsed) (e : y ≡ propertyAt s i .place) (f : Following) (g : f ≡ followingOf s y) where
     properties : q ≡ joinedAt (bodyPlace (inv .left - 1) s) s (propertyAt s i .place)
     unfolding pick
     properties = turn ∙ rw b
 
-    pub body-fault : y ≡ Fault → Fault ≡ q
-    body-fault n = joined-fault _ s (propertyAt s i .place) y q properties e n
+    pub body-ends : (r : Parsed) → f ≡ Ends r → r ≡ q
+    body-ends r n = joined-ends _ s (propertyAt s i .place) y q properties e f g r n
 
-    module _ (p : ℕ) (n : y ≡ Next p) (c : Bool) (g : c ≡ isAt s p comma) where
-      pub body-last : c ≡ false → Next p ≡ q
-      body-last f = joined-last _ s (propertyAt s i .place) y q properties e p n c g f
+    module _ (u : ℕ) (n : f ≡ Another u) where
+      pub body-less : length s - u < length s - i
+      body-less = comma-falls s i u y (rw e (property-on s i)) (sym g ∙ n) .1
 
-      module _ (t : c ≡ true) (w : Parsed) (l : w ≡ whiteAt s (p + 1)) where
-        pub body-cut : w ≡ Fault → Fault ≡ q
-        body-cut f = joined-cut _ s (propertyAt s i .place) y q properties e p n c g t w l f
-
-        module _ (u : ℕ) (f : w ≡ Next u) where
-          pub body-less : length s - u < length s - i
-          body-less = comma-falls (λ j. propertyAt s j .place) s i p u c y w (property-on s) e n g t l f .1
-
-          pub body-more : Goes q s u
-          body-more =
-              let h : length s - i < inv .left = inv .enough in
-              let k : length s - u < length s - i = body-less in
-              record { left = inv .left - 1; enough = omega arith; same = joined-more _ s (propertyAt s i .place) y q properties e p n c g t w l u f }
+      pub body-more : Goes q s u
+      body-more =
+          let h : length s - i < inv .left = inv .enough in
+          let k : length s - u < length s - i = body-less in
+          record { left = inv .left - 1; enough = omega arith; same = joined-more _ s (propertyAt s i .place) y q properties e f g u n }

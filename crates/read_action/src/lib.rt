@@ -3,13 +3,14 @@ ghost use mathlib.Core.Path.{_≡_};
 ghost use Rattle.megaco.specs.Keywords.{spells};
 ghost use Rattle.megaco.specs.Tokens.{afterNumber};
 ghost use Rattle.megaco.specs.Reading.{keyAt, wordHere, isProperty, unlimited};
-ghost use Rattle.megaco.specs.declared.Parsed.the-variants.{Next};
+ghost use Rattle.types.specs.Types.{Next};
 ghost use Rattle.read_command.specs.Places.{contextAt, isDirection, directionOf, directionAt, partyAt, tripleAt, triplesAt, topologyAt, priorityAt, propertyAt, bodyAt, openingAt, actionAt, actionsAt};
 use megaco::Class;
 use megaco::Direction;
 use megaco::Number;
 use megaco::Parsed;
 use megaco::Token;
+use read_command::Following;
 
 // A keyword and `=`.
 pub fn key(s: &[u8], at: usize, k: Token) -> Parsed
@@ -124,18 +125,10 @@ fn triples(s: &[u8], at: usize) -> Parsed
 {
     let mut i = at;
     loop {
-        let a = triple(s, i);
-        let Parsed::Next(p) = a else {
-            return Parsed::Fault;
-        };
-        if text::is_at(s, p, b',') {
-            let c = text::white(s, p + 1);
-            let Parsed::Next(q) = c else {
-                return Parsed::Fault;
-            };
-            i = q;
-        } else {
-            return Parsed::Next(p);
+        let f = read_command::after_part(s, triple(s, i));
+        match f {
+            Following::Another(q) => i = q,
+            Following::Ends(r) => return r,
         }
     }
 }
@@ -212,18 +205,10 @@ fn body(s: &[u8], at: usize) -> Parsed
 {
     let mut i = at;
     while property_here(s, i) {
-        let a = property(s, i);
-        let Parsed::Next(p) = a else {
-            return Parsed::Fault;
-        };
-        if text::is_at(s, p, b',') {
-            let c = text::white(s, p + 1);
-            let Parsed::Next(q) = c else {
-                return Parsed::Fault;
-            };
-            i = q;
-        } else {
-            return Parsed::Next(p);
+        let f = read_command::after_part(s, property(s, i));
+        match f {
+            Following::Another(q) => i = q,
+            Following::Ends(r) => return r,
         }
     }
     read_command::commands(s, i)
@@ -265,19 +250,13 @@ pub fn actions(s: &[u8], at: usize) -> Parsed
     let mut i = at;
     let mut left: usize = 16;
     while 0 < left {
-        let a = action(s, i);
-        let Parsed::Next(p) = a else {
-            return Parsed::Fault;
-        };
-        if text::is_at(s, p, b',') {
-            let c = text::white(s, p + 1);
-            let Parsed::Next(q) = c else {
-                return Parsed::Fault;
-            };
-            i = q;
-            left -= 1;
-        } else {
-            return Parsed::Next(p);
+        let f = read_command::after_part(s, action(s, i));
+        match f {
+            Following::Another(q) => {
+                i = q;
+                left -= 1;
+            }
+            Following::Ends(r) => return r,
         }
     }
     Parsed::Fault

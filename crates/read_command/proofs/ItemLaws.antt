@@ -9,19 +9,18 @@ use lib.ListN.{length}
 use borrow.Author.Tests.{ne-eqb}
 use Rattle.base.specs.Pick.{pick}
 use Rattle.base.specs.Lists.{isAt, part}
-use Rattle.megaco.specs.Bytes.{comma, leftBrace, rightBrace, slash}
+use Rattle.megaco.specs.Bytes.{leftBrace, rightBrace, slash}
 use Rattle.megaco.specs.White.{after, whiteAt}
 use Rattle.megaco.specs.Keywords.{spells}
 use Rattle.megaco.specs.Items.{called}
 use Rattle.megaco.specs.Tokens.{signAt, rowAt}
 use Rattle.megaco.specs.Reading.{unlimited}
-use Rattle.megaco.specs.declared.Class.the-variants.{WordByte}
-use Rattle.megaco.specs.declared.Token.the-variants.{AuditToken}
-use Rattle.megaco.specs.declared.Parsed.{Parsed}
-use Rattle.megaco.specs.declared.Parsed.the-variants.{Next, Fault}
+use Rattle.types.specs.Types.{WordByte, AuditToken, Parsed, Next, Fault}
 use Rattle.read_command.specs.declared.Piece.{Piece}
+use Rattle.read_command.specs.declared.Following.{Following}
+use Rattle.read_command.specs.declared.Following.the-variants.{Another}
 use Rattle.read_command.specs.Pieces.{Holds}
-use Rattle.read_command.specs.Production.{wordEnd}
+use Rattle.read_command.specs.Production.{wordEnd, followingOf}
 use Rattle.read_command.specs.Places.{secondAt, bracesAt, headAt, auditAt, emptyAt, orNoneAt, itemAt, itemsAt}
 use Rattle.read_command.proofs.Onward.{white-on, head-on, item-on}
 use Rattle.read_command.proofs.ListLaws.{sign-by, Goes, goes-more, comma-falls}
@@ -103,12 +102,12 @@ module _ (s : List ℕ) (left at : ℕ) where
   pub items-falls : (i m : ℕ) → at ≤ i → 3 * (left + (length s - at)) + 2 ≡ m → 3 * (left + (length s - i)) + 1 < m
   items-falls i m h k = omega arith
 
-  module _ (i p u : ℕ) (x : Bool) (y w : Parsed) (e : y ≡ itemAt left (itemsAt left s) s i .place) (n : y ≡ Next p) (g : x ≡ isAt s p comma) (t : x ≡ true) (l : w ≡ whiteAt s (p + 1)) (f : w ≡ Next u) where
+  module _ (i u : ℕ) (y : Parsed) (f : Following) (e : y ≡ itemAt left (itemsAt left s) s i .place) (g : f ≡ followingOf s y) (n : f ≡ Another u) where
     pub items-less : length s - u < length s - i
-    items-less = comma-falls (λ j. itemAt left (itemsAt left s) s j .place) s i p u x y w (item-on left s) e n g t l f .1
+    items-less = comma-falls s i u y (rw e (item-on left s i)) (sym g ∙ n) .1
 
     pub items-past : at ≤ i → at ≤ u
-    items-past h = let d : (i < u) × (length s - u < length s - i) = comma-falls (λ j. itemAt left (itemsAt left s) s j .place) s i p u x y w (item-on left s) e n g t l f in omega (arith, d .0)
+    items-past h = let d : (i < u) × (length s - u < length s - i) = comma-falls s i u y (rw e (item-on left s i)) (sym g ∙ n) in omega (arith, d .0)
 
     pub items-more : (q : Parsed) → GoesOn q left s i → GoesOn q left s u
-    items-more q inv = record { goes = goes-more q (λ j. itemAt left (itemsAt left s) s j .place) s i (inv .goes) y e p n x g t w l u (item-on left s) f }
+    items-more q inv = record { goes = goes-more q (λ j. itemAt left (itemsAt left s) s j .place) s i (inv .goes) y e f g u (item-on left s i) n }

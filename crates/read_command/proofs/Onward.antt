@@ -14,14 +14,7 @@ use Rattle.megaco.specs.White.{after, goesOn, insideAfter, stopAt, whiteFrom, w
 use Rattle.megaco.specs.Keywords.{spells}
 use Rattle.megaco.specs.Tokens.{markAt, signAt, rowAt, upTo64, letterAt, wordAt, keywordAt, pathStart, pathNameAt, terminationAt, numberEnd, numberFrom, numberAt, afterNumber, quotedAt, plainAt, valueAt}
 use Rattle.megaco.specs.Reading.{Read, unlimited, keyAt, wordHere}
-use Rattle.megaco.specs.declared.Parsed.{Parsed}
-use Rattle.megaco.specs.declared.Parsed.the-variants.{Next, Fault}
-use Rattle.megaco.specs.declared.Number.{Number}
-use Rattle.megaco.specs.declared.Number.the-variants.{Got, Bad}
-use Rattle.megaco.specs.declared.Class.{Class}
-use Rattle.megaco.specs.declared.Class.the-variants.{WordByte, NameByte, SafeByte, QuotedByte}
-use Rattle.megaco.specs.declared.Token.{Token}
-use Rattle.megaco.specs.declared.Token.the-variants.{PriorityToken, EmergencyToken, TopologyToken}
+use Rattle.types.specs.Types.{Parsed, Next, Fault, Number, Got, Bad, Class, WordByte, NameByte, SafeByte, QuotedByte, Token, PriorityToken, EmergencyToken, TopologyToken}
 use Rattle.tokens.proofs.TokenLaws.{pick-ind, row-ahead}
 use Rattle.read_command.specs.Production.{Production, numberAfter, spacedAt, joinedAt, listAt}
 use Rattle.read_command.specs.Places.{secondAt, valueItemAt, bracesAt, headAt, emptyAt, orNoneAt, itemAt, itemsAt, priorityAt, propertyAt, isDirection, directionAt, partyAt, tripleAt, triplesAt, topologyAt}

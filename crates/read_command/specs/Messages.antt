@@ -1,4 +1,4 @@
--- Transactions and the message by position. `Told m` stands beside a message that Reading (crate `megaco`) reads: the verdict, where a fault is
+-- Transactions and the message by position. `MessageProduction m` stands beside a message that Reading (crate `megaco`) reads: the verdict, where a fault is
 -- told (first pass), the transactions, told without failing (second pass), and the law that both together are m.
 use Prim.Native.Nat.{ℕ, zero, suc, _+_}
 use mathlib.Core.Path.{_≡_, refl, sym, ap, _∙_}
@@ -14,11 +14,7 @@ use Rattle.megaco.specs.White.{after, whiteAt}
 use Rattle.megaco.specs.Tokens.{markAt, keywordAt, numberAt}
 use Rattle.megaco.specs.Tree.{Action, Transaction, transaction, Message, wellFormed, fault400, fault403, fault406}
 use Rattle.megaco.specs.Reading.{Read, reading, keyAt, actionsR, elsewhere, numbered, inside, followed, endOr, bracesThen, transactionsR, startAt, senderAt, messageR}
-use Rattle.megaco.specs.declared.Parsed.{Parsed}
-use Rattle.megaco.specs.declared.Parsed.the-variants.{Next, Fault}
-use Rattle.megaco.specs.declared.Number.{Number}
-use Rattle.megaco.specs.declared.Number.the-variants.{Got, Bad}
-use Rattle.megaco.specs.declared.Token.the-variants.{MegacopToken, TransToken}
+use Rattle.types.specs.Types.{Parsed, Next, Fault, Number, Got, Bad, MegacopToken, TransToken}
 use Rattle.read_command.specs.Production.{endOf, valueIn, nextIn, numberAfter, pastWhite, found, Production}
 use Rattle.read_command.specs.Places.{actionsAt, bracedAt}
 use Rattle.read_command.specs.declared.Braces.{Braces}
@@ -101,92 +97,92 @@ messageBy Fault400 xs = fault400
 messageBy (Fault403 id) xs = fault403 id
 messageBy WrongVersion406 xs = fault406
 
-pub record Told (m : Message) : Type 0 where
+pub record MessageProduction (m : Message) : Type 0 where
   pub verdict : Verdict
   pub tree : List Transaction
   pub law : m ≡ messageBy verdict tree
 
 module _ (xs : List Transaction) where
-  pub elsewhere-told : (x : Parsed) (f : ℕ → Message) (g : ℕ → Verdict) → f (endOf x) ≡ messageBy (g (endOf x)) xs → elsewhere x f ≡ messageBy (orFault400 x g) xs
+  pub elsewhere-law : (x : Parsed) (f : ℕ → Message) (g : ℕ → Verdict) → f (endOf x) ≡ messageBy (g (endOf x)) xs → elsewhere x f ≡ messageBy (orFault400 x g) xs
   unfolding elsewhere orFault400 endOf messageBy
-  elsewhere-told (Next p) f g h = h
-  elsewhere-told Fault f g h = refl
+  elsewhere-law (Next p) f g h = h
+  elsewhere-law Fault f g h = refl
 
-  numbered-told : (n : Number) (f : ℕ → ℕ → Message) (g : ℕ → ℕ → Verdict) → f (valueIn n) (nextIn n) ≡ messageBy (g (valueIn n) (nextIn n)) xs → numbered n f ≡ messageBy (ifNumber n g) xs
+  numbered-law : (n : Number) (f : ℕ → ℕ → Message) (g : ℕ → ℕ → Verdict) → f (valueIn n) (nextIn n) ≡ messageBy (g (valueIn n) (nextIn n)) xs → numbered n f ≡ messageBy (ifNumber n g) xs
   unfolding numbered ifNumber valueIn nextIn messageBy
-  numbered-told (Got v p) f g h = h
-  numbered-told Bad f g h = refl
+  numbered-law (Got v p) f g h = h
+  numbered-law Bad f g h = refl
 
   -- the same behind another part
-  behind-told : (x : Parsed) (n : ℕ → Number) (f : ℕ → ℕ → Message) (g : ℕ → ℕ → Verdict)
+  behind-law : (x : Parsed) (n : ℕ → Number) (f : ℕ → ℕ → Message) (g : ℕ → ℕ → Verdict)
       → let m = numberAfter x n in f (valueIn m) (nextIn m) ≡ messageBy (g (valueIn m) (nextIn m)) xs → elsewhere x (λ p. numbered (n p) f) ≡ messageBy (ifNumber m g) xs
   unfolding elsewhere numberAfter
-  behind-told (Next p) n f g h = numbered-told (n p) f g h
-  behind-told Fault n f g h = unfold ifNumber messageBy in refl
+  behind-law (Next p) n f g h = numbered-law (n p) f g h
+  behind-law Fault n f g h = unfold ifNumber messageBy in refl
 
   -- in a transaction's braces and around them
   module _ (id : ℕ) (g : ℕ → Verdict) where
-    outside-told : (x : Parsed) (f : ℕ → Message) (h : ℕ → Braces) → f (endOf x) ≡ messageBy (afterBraces id (h (endOf x)) g) xs → elsewhere x f ≡ messageBy (afterBraces id (orOutside x h) g) xs
+    outside-law : (x : Parsed) (f : ℕ → Message) (h : ℕ → Braces) → f (endOf x) ≡ messageBy (afterBraces id (h (endOf x)) g) xs → elsewhere x f ≡ messageBy (afterBraces id (orOutside x h) g) xs
     unfolding elsewhere orOutside endOf
-    outside-told (Next p) f h k = k
-    outside-told Fault f h k = unfold afterBraces messageBy in refl
+    outside-law (Next p) f h k = k
+    outside-law Fault f h k = unfold afterBraces messageBy in refl
 
-    within-told : {r : Read (List Action)} (x : Production r) (f : List Action → ℕ → Message) (h : ℕ → Braces)
+    within-law : {r : Read (List Action)} (x : Production r) (f : List Action → ℕ → Message) (h : ℕ → Braces)
         → f (x .tree) (x .end) ≡ messageBy (afterBraces id (h (x .end)) g) xs → inside id r f ≡ messageBy (afterBraces id (orWithin (x .place) h) g) xs
     unfolding inside orWithin reading
-    within-told {r} x f h l = rw (x .law .tree) (by (x .place) (x .law .ends))
+    within-law {r} x f h l = rw (x .law .tree) (by (x .place) (x .law .ends))
       where
         by : (y : Parsed) → ((p : ℕ) → y ≡ Next p → x .end ≡ p) → inside id (found y (x .tree)) f ≡ messageBy (afterBraces id (orWithin y h) g) xs
         by (Next p) n = rw (n p refl) at l
         by Fault n = unfold afterBraces messageBy in refl
 
-  pick-told : (t : Bool) {m n : Message} (v w : Verdict) → m ≡ messageBy v xs → n ≡ messageBy w xs → pick t m n ≡ messageBy (pick t v w) xs
+  pick-law : (t : Bool) {m n : Message} (v w : Verdict) → m ≡ messageBy v xs → n ≡ messageBy w xs → pick t m n ≡ messageBy (pick t v w) xs
   unfolding pick
-  pick-told true v w h k = h
-  pick-told false v w h k = k
+  pick-law true v w h k = h
+  pick-law false v w h k = k
 
-  followed-told : (x : Transaction) (v : Verdict) → followed x (messageBy v xs) ≡ messageBy v (x ∷ xs)
+  followed-law : (x : Transaction) (v : Verdict) → followed x (messageBy v xs) ≡ messageBy v (x ∷ xs)
   unfolding followed messageBy
-  followed-told x WellFormed = refl
-  followed-told x Fault400 = refl
-  followed-told x (Fault403 id) = refl
-  followed-told x WrongVersion406 = refl
+  followed-law x WellFormed = refl
+  followed-law x Fault400 = refl
+  followed-law x (Fault403 id) = refl
+  followed-law x WrongVersion406 = refl
 
-  last-told : (t : Bool) (x : Transaction) {m : Message} (v : Verdict) → m ≡ messageBy v xs → pick t (followed x m) (wellFormed (x ∷ [])) ≡ messageBy (pick t v WellFormed) (x ∷ pick t xs [])
+  last-law : (t : Bool) (x : Transaction) {m : Message} (v : Verdict) → m ≡ messageBy v xs → pick t (followed x m) (wellFormed (x ∷ [])) ≡ messageBy (pick t v WellFormed) (x ∷ pick t xs [])
   unfolding pick messageBy
-  last-told true x {m} v h = rw h (followed-told x v)
-  last-told false x v h = refl
+  last-law true x {m} v h = rw h (followed-law x v)
+  last-law false x v h = refl
 
 -- ---- the combinators
 
 -- a part outside a transaction's braces
-abbrev pub elsewhereT : (x : Parsed) {f : ℕ → Message} → ((p : ℕ) → Told (f p)) → Told (elsewhere x f)
+abbrev pub elsewhereT : (x : Parsed) {f : ℕ → Message} → ((p : ℕ) → MessageProduction (f p)) → MessageProduction (elsewhere x f)
 elsewhereT x {f} k =
-    record { verdict = orFault400 x (λ p. k p .verdict); tree = k (endOf x) .tree; law = elsewhere-told (k (endOf x) .tree) x f (λ p. k p .verdict) (k (endOf x) .law) }
+    record { verdict = orFault400 x (λ p. k p .verdict); tree = k (endOf x) .tree; law = elsewhere-law (k (endOf x) .tree) x f (λ p. k p .verdict) (k (endOf x) .law) }
 
 -- a number m behind a part
-pub number-told : (m : Number) (x : Parsed) (n : ℕ → Number) {f : ℕ → ℕ → Message} (k : (v p : ℕ) → Told (f v p)) → m ≡ numberAfter x n
+pub number-law : (m : Number) (x : Parsed) (n : ℕ → Number) {f : ℕ → ℕ → Message} (k : (v p : ℕ) → MessageProduction (f v p)) → m ≡ numberAfter x n
     → elsewhere x (λ p. numbered (n p) f) ≡ messageBy (ifNumber m (λ v p. k v p .verdict)) (k (valueIn m) (nextIn m) .tree)
-number-told m x n {f} k e = rw e (behind-told _ x n f (λ v p. k v p .verdict) (k (valueIn (numberAfter x n)) (nextIn (numberAfter x n)) .law))
+number-law m x n {f} k e = rw e (behind-law _ x n f (λ v p. k v p .verdict) (k (valueIn (numberAfter x n)) (nextIn (numberAfter x n)) .law))
 
-abbrev pub numberT : (m : Number) (x : Parsed) (n : ℕ → Number) {f : ℕ → ℕ → Message} → m ≡ numberAfter x n → ((v p : ℕ) → Told (f v p)) → Told (elsewhere x (λ p. numbered (n p) f))
-numberT m x n e k = record { verdict = ifNumber m (λ v p. k v p .verdict); tree = k (valueIn m) (nextIn m) .tree; law = number-told m x n k e }
+abbrev pub numberT : (m : Number) (x : Parsed) (n : ℕ → Number) {f : ℕ → ℕ → Message} → m ≡ numberAfter x n → ((v p : ℕ) → MessageProduction (f v p)) → MessageProduction (elsewhere x (λ p. numbered (n p) f))
+numberT m x n e k = record { verdict = ifNumber m (λ v p. k v p .verdict); tree = k (valueIn m) (nextIn m) .tree; law = number-law m x n k e }
 
-pub zero-told : (t : Bool) {m : Message} (x : Told m) → pick t (fault403 0) m ≡ messageBy (pick t (Fault403 0) (x .verdict)) (x .tree)
+pub zero-law : (t : Bool) {m : Message} (x : MessageProduction m) → pick t (fault403 0) m ≡ messageBy (pick t (Fault403 0) (x .verdict)) (x .tree)
 unfolding messageBy
-zero-told t x = pick-told (x .tree) t (Fault403 0) (x .verdict) refl (x .law)
+zero-law t x = pick-law (x .tree) t (Fault403 0) (x .verdict) refl (x .law)
 
-abbrev pub unlessT : (t : Bool) {m : Message} → Told m → Told (pick t (fault403 0) m)
-unlessT t x = record { verdict = pick t (Fault403 0) (x .verdict); tree = x .tree; law = zero-told t x }
+abbrev pub unlessT : (t : Bool) {m : Message} → MessageProduction m → MessageProduction (pick t (fault403 0) m)
+unlessT t x = record { verdict = pick t (Fault403 0) (x .verdict); tree = x .tree; law = zero-law t x }
 
-pub version-told : (t : Bool) {m : Message} (x : Told m) → pick t m fault406 ≡ messageBy (pick t (x .verdict) WrongVersion406) (x .tree)
+pub version-law : (t : Bool) {m : Message} (x : MessageProduction m) → pick t m fault406 ≡ messageBy (pick t (x .verdict) WrongVersion406) (x .tree)
 unfolding messageBy
-version-told t x = pick-told (x .tree) t (x .verdict) WrongVersion406 (x .law) refl
+version-law t x = pick-law (x .tree) t (x .verdict) WrongVersion406 (x .law) refl
 
-abbrev pub onlyT : (t : Bool) {m : Message} → Told m → Told (pick t m fault406)
-onlyT t x = record { verdict = pick t (x .verdict) WrongVersion406; tree = x .tree; law = version-told t x }
+abbrev pub onlyT : (t : Bool) {m : Message} → MessageProduction m → MessageProduction (pick t m fault406)
+onlyT t x = record { verdict = pick t (x .verdict) WrongVersion406; tree = x .tree; law = version-law t x }
 
-module _ (id : ℕ) (s : List ℕ) (at : ℕ) {f : List Action → ℕ → Message} (k : (acts : List Action) (e : ℕ) → Told (f acts e)) where
+module _ (id : ℕ) (s : List ℕ) (at : ℕ) {f : List Action → ℕ → Message} (k : (acts : List Action) (e : ℕ) → MessageProduction (f acts e)) where
   abbrev start : ℕ
   start = pastWhite s (endOf (braceAt s at))
 
@@ -196,31 +192,31 @@ module _ (id : ℕ) (s : List ℕ) (at : ℕ) {f : List Action → ℕ → Messa
   abbrev end : ℕ
   end = closingEnd s (actionsAt s start .end)
 
-  pub braces-told : elsewhere (after (whiteAt s at) (markAt leftBrace s)) (λ p. inside id (actionsR s p) (λ l q. elsewhere (whiteAt s q) (f l)))
+  pub braces-law : elsewhere (after (whiteAt s at) (markAt leftBrace s)) (λ p. inside id (actionsR s p) (λ l q. elsewhere (whiteAt s q) (f l)))
       ≡ messageBy (afterBraces id (transactionAt s at) (λ e. k acts e .verdict)) (k acts end .tree)
   unfolding braceAt bracedAt transactionAt closingEnd pastWhite afterBraces
-  braces-told =
+  braces-law =
       let g : ℕ → Verdict = λ e. k acts e .verdict in
       let b : ℕ = endOf (braceAt s at) in
-      outside-told _ id g (braceAt s at) _ _ (within-told _ id g (bracedAt s b) _ _ (outside-told _ id g (whiteAt s (bracedAt s b .end)) _ _ (k acts end .law)))
+      outside-law _ id g (braceAt s at) _ _ (within-law _ id g (bracedAt s b) _ _ (outside-law _ id g (whiteAt s (bracedAt s b .end)) _ _ (k acts end .law)))
 
   -- a transaction's braces, from behind its identifier
-  abbrev pub bracesT : Told (elsewhere (after (whiteAt s at) (markAt leftBrace s)) (λ p. inside id (actionsR s p) (λ l q. elsewhere (whiteAt s q) (f l))))
-  bracesT = record { verdict = afterBraces id (transactionAt s at) (λ e. k acts e .verdict); tree = k acts end .tree; law = braces-told }
+  abbrev pub bracesT : MessageProduction (elsewhere (after (whiteAt s at) (markAt leftBrace s)) (λ p. inside id (actionsR s p) (λ l q. elsewhere (whiteAt s q) (f l))))
+  bracesT = record { verdict = afterBraces id (transactionAt s at) (λ e. k acts e .verdict); tree = k acts end .tree; law = braces-law }
 
-pub end-told : {r : ℕ → Message} (rest : (e : ℕ) → Told (r e)) (x : Transaction) (s : List ℕ) (at : ℕ)
+pub end-law : {r : ℕ → Message} (rest : (e : ℕ) → MessageProduction (r e)) (x : Transaction) (s : List ℕ) (at : ℕ)
     → endOr r x s at ≡ messageBy (pick (ltb at (length s)) (rest at .verdict) WellFormed) (x ∷ pick (ltb at (length s)) (rest at .tree) [])
 unfolding endOr
-end-told rest x s at = last-told (rest at .tree) (ltb at (length s)) x (rest at .verdict) (rest at .law)
+end-law rest x s at = last-law (rest at .tree) (ltb at (length s)) x (rest at .verdict) (rest at .law)
 
 -- the end of the message, or what follows a transaction
-abbrev pub endT : {r : ℕ → Message} (rest : (e : ℕ) → Told (r e)) (x : Transaction) (s : List ℕ) (at : ℕ) → Told (endOr r x s at)
+abbrev pub endT : {r : ℕ → Message} (rest : (e : ℕ) → MessageProduction (r e)) (x : Transaction) (s : List ℕ) (at : ℕ) → MessageProduction (endOr r x s at)
 endT rest x s at =
-    record { verdict = pick (ltb at (length s)) (rest at .verdict) WellFormed; tree = x ∷ pick (ltb at (length s)) (rest at .tree) []; law = end-told rest x s at }
+    record { verdict = pick (ltb at (length s)) (rest at .verdict) WellFormed; tree = x ∷ pick (ltb at (length s)) (rest at .tree) []; law = end-law rest x s at }
 
-pub none-told : fault400 ≡ messageBy Fault400 []
+pub none-law : fault400 ≡ messageBy Fault400 []
 unfolding messageBy
-none-told = refl
+none-law = refl
 
 -- ---- transactions and the message
 
@@ -233,14 +229,14 @@ unfolding versionAt
 version-is s = refl
 
 -- at most k transactions, to the end of the message
-unfoldable pub transactionsAt : (k : ℕ) (s : List ℕ) (at : ℕ) → Told (transactionsR k s at)
+unfoldable pub transactionsAt : (k : ℕ) (s : List ℕ) (at : ℕ) → MessageProduction (transactionsR k s at)
 unfolding transactionsR bracesThen actionsStart transactionOf transactionEnd
-transactionsAt zero s at = record { verdict = Fault400; tree = []; law = none-told }
+transactionsAt zero s at = record { verdict = Fault400; tree = []; law = none-law }
 transactionsAt (suc k) s at =
     numberT (identifierAt s at) (keyAt TransToken s at) (λ p. numberAt s p 10 4294967295) (identifier-is s at) (λ id q.
     unlessT (eqb id 0) (bracesT id s q (λ acts e. endT (transactionsAt k s) (transaction id acts) s e)))
 
-unfoldable pub messageAt : (s : List ℕ) → Told (messageR s)
+unfoldable pub messageAt : (s : List ℕ) → MessageProduction (messageR s)
 unfolding messageR headerEnd
 messageAt s =
     numberT (versionAt s) (startAt s) (λ p. numberAt s p 2 99) (version-is s) (λ v q.
@@ -254,8 +250,8 @@ abbrev pub messageOf : List ℕ → List Transaction
 messageOf s = messageAt s .tree
 
 -- "The whole message is read before anything runs": a message means what its verdict tells and, where it is well-formed, its tree told by position
-pub message-told : (s : List ℕ) → messageR s ≡ messageBy (verdict s) (messageOf s)
-message-told s = messageAt s .law
+pub message-law : (s : List ℕ) → messageR s ≡ messageBy (verdict s) (messageOf s)
+message-law s = messageAt s .law
 
 coded : (v : Verdict) (xs : List Transaction) → codeOf v ≡ 0 → messageBy v xs ≡ wellFormed xs
 unfolding codeOf messageBy
@@ -271,17 +267,17 @@ verdictOf fault400 = Fault400
 verdictOf (fault403 id) = Fault403 id
 verdictOf fault406 = WrongVersion406
 
-told-verdict : (v : Verdict) (xs : List Transaction) → v ≡ verdictOf (messageBy v xs)
+verdict-back : (v : Verdict) (xs : List Transaction) → v ≡ verdictOf (messageBy v xs)
 unfolding verdictOf messageBy
-told-verdict WellFormed xs = refl
-told-verdict Fault400 xs = refl
-told-verdict (Fault403 id) xs = refl
-told-verdict WrongVersion406 xs = refl
+verdict-back WellFormed xs = refl
+verdict-back Fault400 xs = refl
+verdict-back (Fault403 id) xs = refl
+verdict-back WrongVersion406 xs = refl
 
 -- the verdict told by position is that on the message that Reading reads
 pub verdict-is : (s : List ℕ) → verdict s ≡ verdictOf (messageR s)
-verdict-is s = told-verdict (verdict s) (messageOf s) ∙ ap verdictOf (sym (message-told s))
+verdict-is s = verdict-back (verdict s) (messageOf s) ∙ ap verdictOf (sym (message-law s))
 
 -- where the code is 0, the message is the tree that is run
 pub run-at-0 : (s : List ℕ) → codeOf (verdict s) ≡ 0 → messageR s ≡ wellFormed (messageOf s)
-run-at-0 s e = message-told s ∙ coded (verdict s) (messageOf s) e
+run-at-0 s e = message-law s ∙ coded (verdict s) (messageOf s) e

@@ -11,11 +11,9 @@ use Rattle.megaco.specs.Bytes.{comma}
 use Rattle.megaco.specs.White.{after, whiteAt}
 use Rattle.megaco.specs.Tokens.{signAt, upTo64, rowAt, wordAt, letterAt, afterNumber}
 use Rattle.megaco.specs.Reading.{Read, got, fault, bind, skip, reading, readNumber, spaced, listR, wordR}
-use Rattle.megaco.specs.declared.Parsed.{Parsed}
-use Rattle.megaco.specs.declared.Parsed.the-variants.{Next, Fault}
-use Rattle.megaco.specs.declared.Number.{Number}
-use Rattle.megaco.specs.declared.Number.the-variants.{Got, Bad}
-use Rattle.megaco.specs.declared.Class.the-variants.{WordByte}
+use Rattle.types.specs.Types.{Parsed, Next, Fault, Number, Got, Bad, WordByte}
+use Rattle.read_command.specs.declared.Following.{Following}
+use Rattle.read_command.specs.declared.Following.the-variants.{Another, Ends}
 
 -- ---- places
 
@@ -58,6 +56,15 @@ joinedAt rest s x =
     after x (λ p.
     let more = after (signAt comma s p) rest in
     pick (isAt s p comma) more (Next p))
+
+-- what follows it: another part, or the end of the list
+unfoldable pub behindComma : Parsed → Following
+behindComma (Next q) = Another q
+behindComma Fault = Ends Fault
+
+unfoldable pub followingOf : List ℕ → Parsed → Following
+followingOf s (Next p) = pick (isAt s p comma) (behindComma (signAt comma s p)) (Ends (Next p))
+followingOf s Fault = Ends Fault
 
 unfoldable pub listAt : (ℕ → Parsed) → List ℕ → ℕ → ℕ → Parsed
 listAt one s zero at = Fault

@@ -2,10 +2,10 @@
 ghost use mathlib.Core.Path.{_≡_};
 ghost use mathlib.Core.Bool.{_&&_, _||_};
 ghost use Prim.Native.Nat.{suc};
-ghost use Rattle.megaco.specs.declared.Token.the-variants.{TopologyToken};
+ghost use Rattle.types.specs.Types.{TopologyToken};
 ghost use Rattle.megaco.specs.Reading.{prefixEnd, isProperty};
 ghost use Rattle.read_command.specs.Pieces.{Holds};
-ghost use Rattle.read_command.specs.Production.{spacedAt};
+ghost use Rattle.read_command.specs.Production.{spacedAt, followingOf};
 ghost use Rattle.base.specs.Lists.{isAt};
 ghost use Rattle.megaco.specs.Bytes.{rightBrace};
 ghost use Rattle.read_command.specs.Places.{secondAt, valueItemAt, bracesAt, headAt, auditAt, emptyAt, orNoneAt, itemAt, itemsAt, orderAt, orderStart, commandHeadAt, commandAt, commandsAt};
@@ -40,6 +40,12 @@ pub struct Piece {
     pub to: usize,
 }
 
+// What follows a part of a list: another part, which begins here, or the list ends, and this is what it reads as.
+pub enum Following {
+    Another(usize),
+    Ends(Parsed),
+}
+
 // The bytes from a place up to another, brought within the message.
 pub fn piece_of(s: &[u8], a: usize, e: usize) -> Piece
     ensures { λ r. ⌜ Holds (now (s .entry)) a e r ⌝ }
@@ -57,6 +63,23 @@ pub fn spaced(s: &[u8], x: Parsed) -> Parsed
         Parsed::Next(p) => text::white(s, p),
         Parsed::Fault => Parsed::Fault,
     }
+}
+
+// What follows a part that was read: another one behind a comma, or nothing.
+pub fn after_part(s: &[u8], x: Parsed) -> Following
+    ensures { λ r. ⌜ r ≡ followingOf (now (s .entry)) x ⌝ }
+{
+    let Parsed::Next(p) = x else {
+        return Following::Ends(Parsed::Fault);
+    };
+    if text::is_at(s, p, b',') {
+        let c = text::white(s, p + 1);
+        let Parsed::Next(q) = c else {
+            return Following::Ends(Parsed::Fault);
+        };
+        return Following::Another(q);
+    }
+    Following::Ends(Parsed::Next(p))
 }
 
 // ---- items
@@ -141,18 +164,10 @@ fn items(s: &[u8], left: usize, at: usize) -> Parsed
 {
     let mut i = at;
     loop {
-        let a = item(s, left, i);
-        let Parsed::Next(p) = a else {
-            return Parsed::Fault;
-        };
-        if text::is_at(s, p, b',') {
-            let c = text::white(s, p + 1);
-            let Parsed::Next(q) = c else {
-                return Parsed::Fault;
-            };
-            i = q;
-        } else {
-            return Parsed::Next(p);
+        let f = after_part(s, item(s, left, i));
+        match f {
+            Following::Another(q) => i = q,
+            Following::Ends(r) => return r,
         }
     }
 }
@@ -266,19 +281,13 @@ pub fn commands(s: &[u8], at: usize) -> Parsed
     let mut i = at;
     let mut left: usize = 64;
     while 0 < left {
-        let a = command(s, i);
-        let Parsed::Next(p) = a else {
-            return Parsed::Fault;
-        };
-        if text::is_at(s, p, b',') {
-            let c = text::white(s, p + 1);
-            let Parsed::Next(q) = c else {
-                return Parsed::Fault;
-            };
-            i = q;
-            left -= 1;
-        } else {
-            return Parsed::Next(p);
+        let f = after_part(s, command(s, i));
+        match f {
+            Following::Another(q) => {
+                i = q;
+                left -= 1;
+            }
+            Following::Ends(r) => return r,
         }
     }
     Parsed::Fault

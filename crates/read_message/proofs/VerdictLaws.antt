@@ -7,10 +7,7 @@ use lib.Dec.{ltb, eqb}
 use lib.ListN.{length}
 use borrow.Author.Tests.{lt-ltb, le-ltb, eq-eqb, ne-eqb}
 use Rattle.base.specs.Pick.{pick}
-use Rattle.megaco.specs.declared.Parsed.{Parsed}
-use Rattle.megaco.specs.declared.Parsed.the-variants.{Next, Fault}
-use Rattle.megaco.specs.declared.Number.{Number}
-use Rattle.megaco.specs.declared.Number.the-variants.{Got, Bad}
+use Rattle.types.specs.Types.{Parsed, Next, Fault, Number, Got, Bad}
 use Rattle.read_command.specs.declared.Braces.{Braces}
 use Rattle.read_command.specs.declared.Braces.the-variants.{Past, Outside, Within}
 use Rattle.read_command.specs.declared.Verdict.{Verdict}

@@ -5,6 +5,9 @@ ghost use Rattle.megaco.specs.Reply.{errorText, contextText, replyText, headerT
 ghost use Rattle.reply.specs.Texts.{replyOpen, actionOpen, limitedFrom};
 use megaco::Context;
 
+// The room for the reply to a transaction: one byte more than document 01's 2,048, so that a longer one shows.
+pub const TRANSACTION_ROOM: usize = 2049;
+
 // An action's context.
 fn put_context(out: &mut [u8], at: usize, c: Context) -> usize
     ensures { λ r. ⌜ Appended (now (out .entry)) at (contextText c) (now (out .exit)) r ⌝ }
@@ -64,7 +67,7 @@ pub fn put_fault403(out: &mut [u8], at: usize, id: u32) -> usize
 pub fn put_limited(out: &mut [u8], at: usize, id: u32, scratch: &[u8], n: usize) -> usize
     ensures { λ r. ⌜ Appended (now (out .entry)) at (limitedFrom id (now (scratch .entry)) n) (now (out .exit)) r ⌝ }
 {
-    if n < 2049 {
+    if n < TRANSACTION_ROOM {
         let e = numbers::low(n, scratch.len());
         return writer::put_bytes(out, at, &scratch[0..e]);
     }

@@ -14,7 +14,7 @@ use Rattle.base.specs.Pick.{pick}
 use Rattle.base.proofs.OutLaws.{none}
 use Rattle.megaco.specs.Table.{modeOf, stateOf, priorityOf, emergencyOf}
 use Rattle.megaco.specs.Attempt.{detailOf}
-use Rattle.megaco.specs.declared.Op.{Op}
+use Rattle.types.specs.Types.{Op}
 use Rattle.megaco.specs.Reply.{Detail, nothing, media, Report, done, refused, standing, triedText, detailText, codeText, reportText, separator, reportsText}
 use Rattle.report.specs.Rows.{emergencyText, firstAfter}
 
@@ -33,13 +33,13 @@ standing-is o at held x o₁ o₂ o₃ p q r e f g h = f ▸ (rw e at g) ▸ h
 -- ---- what an audit tells
 
 module _ (o : List ℕ) (at word : ℕ) where
-  pub told-media : (audited : Bool) (o′ : List ℕ) (r : ℕ) → audited ≡ true → Appended o at (detailText (media (stateOf word) (modeOf word))) o′ r → Appended o at (detailText (detailOf audited word)) o′ r
+  pub detail-media : (audited : Bool) (o′ : List ℕ) (r : ℕ) → audited ≡ true → Appended o at (detailText (media (stateOf word) (modeOf word))) o′ r → Appended o at (detailText (detailOf audited word)) o′ r
   unfolding detailOf pick
-  told-media audited o′ r e f = rw e f
+  detail-media audited o′ r e f = rw e f
 
-  pub told-nothing : (audited : Bool) → audited ≡ false → Appended o at (detailText (detailOf audited word)) o at
+  pub detail-nothing : (audited : Bool) → audited ≡ false → Appended o at (detailText (detailOf audited word)) o at
   unfolding detailOf pick detailText
-  told-nothing audited e = rw e (none o at)
+  detail-nothing audited e = rw e (none o at)
 
 -- reports after others
 first-false : (xs : List Report) → firstAfter false xs ≡ false
@@ -69,10 +69,10 @@ module _ (o : List ℕ) (at : ℕ) (o₁ o₂ : List ℕ) (p r : ℕ) where
         subst (λ (b : List ℕ). Appended o at b o₂ r)
         (then-assoc (separator first) (triedText op name) (codeText code) ∙ sym (reports-one first (refused op name code))) (f ▸ g)
 
-    pub told-is : (x : Detail) → Appended o at (separator first then triedText op name) o₁ p → Appended o₁ p (detailText x) o₂ r
+    pub detail-is : (x : Detail) → Appended o at (separator first then triedText op name) o₁ p → Appended o₁ p (detailText x) o₂ r
         → Appended o at (reportsText first (done op name x ∷ [])) o₂ r
     unfolding reportText
-    told-is x f g =
+    detail-is x f g =
         subst (λ (b : List ℕ). Appended o at b o₂ r) (then-assoc (separator first) (triedText op name) (detailText x) ∙ sym (reports-one first (done op name x))) (f ▸ g)
 
     pub done-is : Appended o at (separator first then triedText op name) o₂ r → Appended o at (reportsText first (done op name nothing ∷ [])) o₂ r

@@ -20,23 +20,25 @@ use Rattle.megaco.specs.Reply.{reportsText, separator, actionText, replyText}
 use Rattle.megaco.specs.State.{State, state}
 use Rattle.megaco.specs.Command.{Outcome}
 use Rattle.megaco.specs.Transaction.{Ran, ran, runTransaction, runTransactions}
-use Rattle.megaco.specs.declared.Context.{Context}
+use Rattle.types.specs.Types.{Context, Parsed, Next, Fault}
 use Rattle.read_command.specs.Production.{pastSign, listOf, listP}
 use Rattle.read_command.specs.Places.{commandsIn, restOf, restIn, actionAt}
 use Rattle.read_command.specs.Messages.{transactionOf, transactionEnd, transactionsAt}
 use Rattle.read_command.specs.declared.Rest.{Rest}
+use Rattle.command_places.specs.Found.{nextAt}
+use Rattle.command_places.proofs.NextLaws.{part-last, part-more}
 use Rattle.action_places.specs.ActionPlaces.{actionPlaces}
 use Rattle.action_places.specs.declared.ActionPlaces.{ActionPlaces}
 use Rattle.start_action.specs.Starting.{propertiesIn}
 use Rattle.reply.specs.Texts.{replyOpen, actionOpen, limitedFrom}
 use Rattle.reply.proofs.ReplyLaws.{action-is, reply-is, limited-is}
 use Rattle.laws.proofs.Kept.{transaction-sound}
-use Rattle.run_attempts.specs.Contract.{Did}
-use Rattle.run_attempts.specs.declared.Went.{Went}
-use Rattle.run_attempts.proofs.DidLaws.{lent-first}
+use Rattle.run_attempts.specs.Contract.{RunsTo}
+use Rattle.run_attempts.specs.declared.CommandOutcome.{CommandOutcome}
+use Rattle.run_attempts.proofs.RunsToLaws.{lent-first}
 use Rattle.run_action.specs.Fold.{runAction, runActions, outcomeText}
-use Rattle.run_action.specs.Promises.{around, Acts, Wrote}
-use Rattle.run_action.specs.declared.Moved.{Moved}
+use Rattle.run_action.specs.Promises.{around, ActionRunsTo, Wrote}
+use Rattle.run_action.specs.declared.RanAction.{RanAction}
 use Rattle.run_action.proofs.Lists.{list-open, picked, left-out}
 use Rattle.run_action.proofs.FoldLaws.{transaction-is}
 
@@ -83,9 +85,9 @@ unfolding actionAt actionPlaces propertiesIn restIn
 action-at s i a rest e f = rw (f, e)
 
 -- an action whose reports were put into a buffer of their own
-pub acts-by : (x : Outcome) (first : Bool) (t′ : State) (inner : List ℕ) (w : Went) (o : List ℕ) (at : ℕ) (o′ : List ℕ) (r : ℕ)
-    → Did x true (replicate 2049 0) 0 t′ inner w → Appended o at (around first (w .at) (take (w .next) inner)) o′ r → length o ≤ 2049
-    → (y : ℕ) → Acts x first o at t′ o′ (record { next = r; going = w .going; end = y })
+pub acts-by : (x : Outcome) (first : Bool) (t′ : State) (inner : List ℕ) (w : CommandOutcome) (o : List ℕ) (at : ℕ) (o′ : List ℕ) (r : ℕ)
+    → RunsTo x true (replicate 2049 0) 0 t′ inner w → Appended o at (around first (w .at) (take (w .next) inner)) o′ r → length o ≤ 2049
+    → (y : ℕ) → ActionRunsTo x first o at t′ o′ (record { next = r; going = w .going; end = y })
 unfolding outcomeText around
 acts-by x first t′ inner w o at o′ r d k h y =
     record {
@@ -98,15 +100,15 @@ acts-by x first t′ inner w o at o′ r d k h y =
     }
 
 -- the action at a place, its parts found
-pub action-acts : (s : List ℕ) (i : ℕ) (a : ActionPlaces) (rest : Rest) (first : Bool) (t t′ : State) (z inner : List ℕ) (w : Went) (o : List ℕ) (at : ℕ) (o′ : List ℕ) (r y : ℕ)
+pub action-acts : (s : List ℕ) (i : ℕ) (a : ActionPlaces) (rest : Rest) (first : Bool) (t t′ : State) (z inner : List ℕ) (w : CommandOutcome) (o : List ℕ) (at : ℕ) (o′ : List ℕ) (r y : ℕ)
     → a ≡ actionPlaces s i → rest ≡ restOf (unlimited s) s (a .body) → z ≡ replicate 2049 0
-    → Did (runAction (action (a .context) (propertiesIn s (a .body)) (commandsIn s rest)) t) true z 0 t′ inner w → Appended o at (around first (w .at) (take (w .next) inner)) o′ r → length o ≤ 2049
-    → Acts (runAction (actionAt s i .tree) t) first o at t′ o′ (record { next = r; going = w .going; end = y })
+    → RunsTo (runAction (action (a .context) (propertiesIn s (a .body)) (commandsIn s rest)) t) true z 0 t′ inner w → Appended o at (around first (w .at) (take (w .next) inner)) o′ r → length o ≤ 2049
+    → ActionRunsTo (runAction (actionAt s i .tree) t) first o at t′ o′ (record { next = r; going = w .going; end = y })
 action-acts s i a rest first t t′ z inner w o at o′ r y e f g d k h =
     let b : Action = action (a .context) (propertiesIn s (a .body)) (commandsIn s rest) in
     let q : b ≡ actionAt s i .tree = action-at s i a rest e f in
-    let v : Did (runAction b t) true (replicate 2049 0) 0 t′ inner w = subst (λ (y : List ℕ). Did (runAction b t) true y 0 t′ inner w) g d in
-    subst (λ (b : Action). Acts (runAction b t) first o at t′ o′ (record { next = r; going = w .going; end = y })) q
+    let v : RunsTo (runAction b t) true (replicate 2049 0) 0 t′ inner w = subst (λ (y : List ℕ). RunsTo (runAction b t) true y 0 t′ inner w) g d in
+    subst (λ (b : Action). ActionRunsTo (runAction b t) first o at t′ o′ (record { next = r; going = w .going; end = y })) q
     (acts-by (runAction b t) first t′ inner w o at o′ r v k h y)
 
 -- ---- actions in order
@@ -147,7 +149,7 @@ action-sound a t h =
     one true g = ap (λ (r : Ran). r .state) (acts-on a [] true t g) ∙ ap (λ (r : Ran). r .state) (no-actions false (runAction a t .state))
     one false g = ap (λ (r : Ran). r .state) (acts-end a [] true t g)
 
-pub acts-sound : (a : Action) (f : Bool) (t o₁ : List ℕ) (p : ℕ) (t₂ o₂ : List ℕ) (m : Moved) → Acts (runAction a (state t)) f o₁ p (state t₂) o₂ m → sound t ≡ true → sound t₂ ≡ true
+pub acts-sound : (a : Action) (f : Bool) (t o₁ : List ℕ) (p : ℕ) (t₂ o₂ : List ℕ) (m : RanAction) → ActionRunsTo (runAction a (state t)) f o₁ p (state t₂) o₂ m → sound t ≡ true → sound t₂ ≡ true
 acts-sound a f t o₁ p t₂ o₂ m d h = subst (λ (u : State). sound (u .table) ≡ true) (sym (d .state)) (action-sound a (state t) h)
 
 module _ (x : Ran) (o : List ℕ) (p₀ : ℕ) (s : List ℕ) (k i : ℕ) (f : Bool) (t : State) (o₁ : List ℕ) (p : ℕ)
@@ -160,7 +162,7 @@ module _ (x : Ran) (o : List ℕ) (p₀ : ℕ) (s : List ℕ) (k i : ℕ) (f : B
       subst (λ (z : Ran). Leads x o p₀ z o₁ p) (ap (λ (j : ℕ). runActions (listP (actionAt s) s j i .tree) f t) e ∙ no-list s i f t) l in
       m .to t o₁ p (record { state = refl; text = none o₁ p })
 
-  module _ (t₂ : State) (o₂ : List ℕ) (m : Moved) (h : 0 < k) (d : Acts (runAction (actionAt s i .tree) t) f o₁ p t₂ o₂ m) where
+  module _ (t₂ : State) (o₂ : List ℕ) (m : RanAction) (h : 0 < k) (d : ActionRunsTo (runAction (actionAt s i .tree) t) f o₁ p t₂ o₂ m) where
     abbrev rest : List Action
     rest = pick (isAt s (actionAt s i .end) comma) (listP (actionAt s) s (k - 1) (pastSign comma s (actionAt s i .end)) .tree) []
 
@@ -184,21 +186,18 @@ module _ (x : Ran) (o : List ℕ) (p₀ : ℕ) (s : List ℕ) (k i : ℕ) (f : B
         record { to = λ t′ o′ r w. v .to t′ o′ r (record { state = w .state; text = d .text ▸ w .text }) }
 
     -- it is the last
-    pub actions-last : (e : ℕ) (b : Bool) → m .going ≡ true → e ≡ actionAt s i .end → b ≡ isAt s e comma → b ≡ false → Wrote x o p₀ t₂ o₂ (m .next)
+    pub actions-last : (e : ℕ) (b : Parsed) → m .going ≡ true → e ≡ actionAt s i .end → b ≡ nextAt s e → b ≡ Fault → Wrote x o p₀ t₂ o₂ (m .next)
     actions-last e b g q u v =
-        let z : isAt s (actionAt s i .end) comma ≡ false = ap (λ (j : ℕ). isAt s j comma) (sym q) ∙ sym u ∙ v in
+        let z : rest ≡ [] = part-last s e (actionAt s i .end) q b u (λ j. listP (actionAt s) s (k - 1) j .tree) [] v in
         let w : Leads x o p₀ (ran t₂ []) o₂ (m .next) =
-        subst (λ (y : Ran). Leads x o p₀ y o₂ (m .next))
-        (ap (λ (y : List Action). runActions y false t₂) (left-out (isAt s (actionAt s i .end) comma) (listP (actionAt s) s (k - 1) (pastSign comma s (actionAt s i .end)) .tree) [] z) ∙ no-actions false t₂) (going-on g) in
+        subst (λ (y : Ran). Leads x o p₀ y o₂ (m .next)) (ap (λ (y : List Action). runActions y false t₂) z ∙ no-actions false t₂) (going-on g) in
         w .to t₂ o₂ (m .next) (record { state = refl; text = none o₂ (m .next) })
 
     -- another follows
-    pub actions-more : (e n : ℕ) (b : Bool) → m .going ≡ true → e ≡ actionAt s i .end → b ≡ isAt s e comma → b ≡ true → n ≡ pastSign comma s e
+    pub actions-more : (e n : ℕ) (b : Parsed) → m .going ≡ true → e ≡ actionAt s i .end → b ≡ nextAt s e → b ≡ Next n
         → Leads x o p₀ (runActions (listP (actionAt s) s (k - 1) n .tree) false t₂) o₂ (m .next)
-    actions-more e n b g q u v r =
-        let z : isAt s (actionAt s i .end) comma ≡ true = ap (λ (j : ℕ). isAt s j comma) (sym q) ∙ sym u ∙ v in
-        let y : rest ≡ listP (actionAt s) s (k - 1) n .tree =
-        picked (isAt s (actionAt s i .end) comma) _ _ z ∙ ap (λ (j : ℕ). listP (actionAt s) s (k - 1) j .tree) (sym (r ∙ ap (pastSign comma s) q)) in
+    actions-more e n b g q u v =
+        let y : rest ≡ listP (actionAt s) s (k - 1) n .tree = part-more s e (actionAt s i .end) q b u (λ j. listP (actionAt s) s (k - 1) j .tree) [] n v in
         subst (λ (a : List Action). Leads x o p₀ (runActions a false t₂) o₂ (m .next)) y (going-on g)
 
 -- ---- a transaction

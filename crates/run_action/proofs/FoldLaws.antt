@@ -14,7 +14,7 @@ use Rattle.megaco.specs.Attempt.{seen, numberOf}
 use Rattle.megaco.specs.Command.{Outcome, outcome, runCommand}
 use Rattle.megaco.specs.Action.{Start, started}
 use Rattle.megaco.specs.Transaction.{noCommands, Step, commandSteps, steps, progress, Course, course, begin, advance, proceed, step, run, fresh, Ran, ran, runTransaction}
-use Rattle.megaco.specs.declared.Context.{Context}
+use Rattle.types.specs.Types.{Context}
 use Rattle.run_action.specs.Fold.{runCommands, afterStart, runAction, outcomeText, runActions}
 
 -- a transaction that has stopped stays as it is
@@ -24,30 +24,30 @@ stopped [] t acts = refl
 stopped (s ∷ ss) t acts = stopped ss t acts
 
 -- the action as an outcome leaves it
-abbrev told : Acted → Outcome → Acted
-told a x = record { at = x .at; given = a .given; said = a .said ++ x .reports }
+abbrev reported : Acted → Outcome → Acted
+reported a x = record { at = x .at; given = a .given; said = a .said ++ x .reports }
 
 -- what follows an outcome
 abbrev onward : List Step → Acted → List Acted → Outcome → Course
-onward ss a acts x = pick (x .going) (run ss (course (x .state) (progress true (told a x ∷ acts)))) (course (x .state) (progress false (told a x ∷ acts)))
+onward ss a acts x = pick (x .going) (run ss (course (x .state) (progress true (reported a x ∷ acts)))) (course (x .state) (progress false (reported a x ∷ acts)))
 
 run-orders : (cs : List Command) (ss : List Step) (t : State) (a : Acted) (acts : List Acted)
     → run (commandSteps cs ss) (course t (progress true (a ∷ acts))) ≡ onward ss a acts (runCommands cs (a .given) (a .at) t)
 unfolding commandSteps run step proceed advance runCommands pick
 run-orders [] ss t a acts = ap (λ (l : List Report). run ss (course t (progress true (record { at = a .at; given = a .given; said = l } ∷ acts)))) (sym (append-nil (a .said)))
 run-orders (c ∷ cs) ss t a acts =
-    let x = runCommand c (a .given) (a .at) t in by (x .state) (x .reports) (x .at) (x .going) (run-orders cs ss (x .state) (told a x) acts)
+    let x = runCommand c (a .given) (a .at) t in by (x .state) (x .reports) (x .at) (x .going) (run-orders cs ss (x .state) (reported a x) acts)
   where
     by : (u : State) (rs : List Report) (at : Context) (g : Bool)
-        → run (commandSteps cs ss) (course u (progress true (told a (outcome u rs at g) ∷ acts))) ≡ onward ss (told a (outcome u rs at g)) acts (runCommands cs (a .given) at u)
-        → run (commandSteps cs ss) (course u (progress g (told a (outcome u rs at g) ∷ acts)))
+        → run (commandSteps cs ss) (course u (progress true (reported a (outcome u rs at g) ∷ acts))) ≡ onward ss (reported a (outcome u rs at g)) acts (runCommands cs (a .given) at u)
+        → run (commandSteps cs ss) (course u (progress g (reported a (outcome u rs at g) ∷ acts)))
         ≡ onward ss a acts (let y = runCommands cs (a .given) at u in pick g (outcome (y .state) (rs ++ y .reports) (y .at) (y .going)) (outcome u rs at g))
     by u rs at true ih =
         ih
         ∙ ap (λ (l : List Report). let y = runCommands cs (a .given) at u in
         let b : Acted = record { at = y .at; given = a .given; said = l } in
         pick (y .going) (run ss (course (y .state) (progress true (b ∷ acts)))) (course (y .state) (progress false (b ∷ acts)))) (append-assoc (a .said) rs (runCommands cs (a .given) at u .reports))
-    by u rs at false ih = stopped (commandSteps cs ss) u (told a (outcome u rs at false) ∷ acts)
+    by u rs at false ih = stopped (commandSteps cs ss) u (reported a (outcome u rs at false) ∷ acts)
 
 -- the texts of the actions that have ended, and a comma if there are any
 abbrev ended : List Acted → List ℕ
@@ -112,7 +112,7 @@ run-action cs acts prev t b ih = by (wrote (b .writes) t) (b .acted) (b .going)
     by u a true =
         let z = runCommands cs (a .given) (a .at) u in
         let x = outcome (z .state) (a .said ++ z .reports) (z .at) (z .going) in
-        rw (run-orders cs (steps acts) u a prev) (run-rest acts prev x (told a z) refl refl (ih x (told a z)) (z .going))
+        rw (run-orders cs (steps acts) u a prev) (run-rest acts prev x (reported a z) refl refl (ih x (reported a z)) (z .going))
     by u a false =
         let x = outcome u (a .said) (a .at) false in
         rw (stopped (commandSteps cs (steps acts)) u (a ∷ prev)) (run-rest acts prev x a refl refl (ih x a) false)

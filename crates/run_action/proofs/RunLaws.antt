@@ -14,21 +14,17 @@ use Rattle.megaco.specs.Table.{fitted}
 use Rattle.megaco.specs.Names.{nameOf}
 use Rattle.megaco.specs.Tree.{Items, Command, command}
 use Rattle.megaco.specs.State.{State}
-use Rattle.megaco.specs.Command.{Outcome, outcome, Targets, noTarget, gateway, targets, attempts, commandError, actionError, rootTargets, freeTargets, matchTargets, matches, notForRoot, targetsOf, runTargets, named, tested, unlessOptional, ordered, opOf, runCommand}
-use Rattle.megaco.specs.declared.Context.{Context}
-use Rattle.megaco.specs.declared.Op.{Op}
-use Rattle.megaco.specs.declared.Values.{Values}
-use Rattle.megaco.specs.declared.Judged.{Judged}
-use Rattle.megaco.specs.declared.Judged.the-variants.{Wrong, Right}
-use Rattle.megaco.specs.declared.Name.{Name}
-use Rattle.megaco.specs.declared.Name.the-variants.{Termination, Root, Chosen, Unchosen, Wildcard, Unmatched, Unknown}
+use Rattle.megaco.specs.Command.{Outcome, outcome, Targets, noTarget, gateway, targets, attempts, commandError, actionError, rootTargets, freeTargets, matchTargets, matches, notForRoot, targetsOf, runTargets, fromTest4, fromTest2, unlessOptional, fromTest1, opOf, runCommand}
+use Rattle.types.specs.Types.{Context, Parsed, Next, Fault, Op, Values, Judged, Wrong, Right, Name, Termination, Root, Chosen, Unchosen, Wildcard, Unmatched, Unknown}
 use Rattle.read_command.specs.Production.{pastSign, listOf, listP}
 use Rattle.read_command.specs.Places.{commandAt}
-use Rattle.run_attempts.specs.Contract.{Did, joined}
-use Rattle.run_attempts.specs.declared.Went.{Went}
-use Rattle.run_attempts.proofs.DidLaws.{went, Some, some as there, Leads, leads-on, done-none}
+use Rattle.command_places.specs.Found.{nextAt}
+use Rattle.command_places.proofs.NextLaws.{part-last, part-more}
+use Rattle.run_attempts.specs.Contract.{RunsTo, joined}
+use Rattle.run_attempts.specs.declared.CommandOutcome.{CommandOutcome}
+use Rattle.run_attempts.proofs.RunsToLaws.{commandOutcome, Some, some as there, Leads, leads-on, done-none}
 use Rattle.run_action.specs.Fold.{runCommands}
-use Rattle.run_action.proofs.Lists.{list-open, picked, left-out}
+use Rattle.run_action.proofs.Lists.{list-open}
 
 -- ---- a command reports something
 
@@ -63,25 +59,25 @@ targets-tell op name given vs _ at t no-target = there
 targets-tell op name given vs _ at t itself = there
 targets-tell op name given vs _ at t some-targets = there
 
-named-tells : (op : Op) (name : List ℕ) (given : ℕ) (items : Bool) (j : Judged) (at : Context) (t : State) → Tells (named op name given items j at t)
-unfolding named commandError
-named-tells op name given items (Wrong code) at t = there
-named-tells op name given items (Right vs) at t =
+test4-tells : (op : Op) (name : List ℕ) (given : ℕ) (items : Bool) (j : Judged) (at : Context) (t : State) → Tells (fromTest4 op name given items j at t)
+unfolding fromTest4 commandError
+test4-tells op name given items (Wrong code) at t = there
+test4-tells op name given items (Right vs) at t =
     let b : Bool = notForRoot op items vs in
     targets-tell op name given vs (targetsOf op at b (nameOf (fitted (t .table)) name) (t .table)) at t (at-least-one op at b (nameOf (fitted (t .table)) name) (t .table))
 
-tested-tells : (op : Op) (name : List ℕ) (items : Items) (given : ℕ) (at : Context) (t : State) → Tells (tested op name items given at t)
-unfolding tested commandError
-tested-tells op name items given at t = pick-ind Tells _ _ _ (λ e. there) (λ e. named-tells op name given (given? items) (judgeItems op items) at t)
+test2-tells : (op : Op) (name : List ℕ) (items : Items) (given : ℕ) (at : Context) (t : State) → Tells (fromTest2 op name items given at t)
+unfolding fromTest2 commandError
+test2-tells op name items given at t = pick-ind Tells _ _ _ (λ e. there) (λ e. test4-tells op name given (given? items) (judgeItems op items) at t)
 
-ordered-tells : (o : Bool) (op : Option Op) (name : List ℕ) (items : Items) (given : ℕ) (at : Context) (t : State) → Tells (ordered o op name items given at t)
-unfolding ordered actionError unlessOptional
-ordered-tells o none name items given at t = there
-ordered-tells o (some op) name items given at t = pick-ind Tells _ _ _ (λ e. there) (λ e. tested-tells op name items given at t)
+test1-tells : (o : Bool) (op : Option Op) (name : List ℕ) (items : Items) (given : ℕ) (at : Context) (t : State) → Tells (fromTest1 o op name items given at t)
+unfolding fromTest1 actionError unlessOptional
+test1-tells o none name items given at t = there
+test1-tells o (some op) name items given at t = pick-ind Tells _ _ _ (λ e. there) (λ e. test2-tells op name items given at t)
 
 pub command-tells : (c : Command) (given : ℕ) (at : Context) (t : State) → Tells (runCommand c given at t)
 unfolding runCommand
-command-tells (command o w word name items) given at t = ordered-tells o (opOf w word) name items given at t
+command-tells (command o w word name items) given at t = test1-tells o (opOf w word) name items given at t
 
 -- ---- commands in order
 
@@ -116,14 +112,14 @@ none-left given at t = refl
 module _ (x : Outcome) (first : Bool) (o : List ℕ) (p₀ : ℕ) (s : List ℕ) (given k i : ℕ) (at : Context) (t : State) (f : Bool) (o₁ : List ℕ) (p : ℕ)
     (l : Leads x first o p₀ true (runCommands (listP (commandAt s) s k i .tree) given at t) f o₁ p) where
   -- none is left
-  pub loop-none : k ≤ 0 → Did x first o p₀ t o₁ (went p at true)
+  pub loop-none : k ≤ 0 → RunsTo x first o p₀ t o₁ (commandOutcome p at true)
   loop-none h =
       let e : k ≡ 0 = omega arith in
       let m : Leads x first o p₀ true (outcome t [] at true) f o₁ p =
       subst (λ (z : Outcome). Leads x first o p₀ true z f o₁ p) (ap (λ (j : ℕ). runCommands (listP (commandAt s) s j i .tree) given at t) e ∙ nothing-left s i given at t) l in
       m .to t o₁ p at true (done-none t o₁ f p at)
 
-  module _ (t₂ : State) (o₂ : List ℕ) (w : Went) (h : 0 < k) (d : Did (runCommand (commandAt s i .tree) given at t) f o₁ p t₂ o₂ w) where
+  module _ (t₂ : State) (o₂ : List ℕ) (w : CommandOutcome) (h : 0 < k) (d : RunsTo (runCommand (commandAt s i .tree) given at t) f o₁ p t₂ o₂ w) where
     abbrev rest : List Command
     rest = pick (isAt s (commandAt s i .end) comma) (listP (commandAt s) s (k - 1) (pastSign comma s (commandAt s i .end)) .tree) []
 
@@ -131,7 +127,7 @@ module _ (x : Outcome) (first : Bool) (o : List ℕ) (p₀ : ℕ) (s : List ℕ)
     opened = subst (λ (z : List Command). Leads x first o p₀ true (runCommands z given at t) f o₁ p) (commands-open s k i h) l
 
     -- the command stops the transaction
-    pub loop-stop : w .going ≡ false → Did x first o p₀ t₂ o₂ w
+    pub loop-stop : w .going ≡ false → RunsTo x first o p₀ t₂ o₂ w
     loop-stop g =
         let m : Leads x first o p₀ true (runCommand (commandAt s i .tree) given at t) f o₁ p =
         subst (λ (z : Outcome). Leads x first o p₀ true z f o₁ p) (commands-stop (commandAt s i .tree) rest given at t (sym (d .going) ∙ g)) opened in
@@ -149,19 +145,16 @@ module _ (x : Outcome) (first : Bool) (o : List ℕ) (p₀ : ℕ) (s : List ℕ)
         (leads-on x first o p₀ true y (runCommands rest given (w .at) t₂) f o₁ o₂ t₂ p w (command-tells c given at t) n d)
 
     -- it is the last
-    pub loop-last : (e : ℕ) (b : Bool) → w .going ≡ true → e ≡ commandAt s i .end → b ≡ isAt s e comma → b ≡ false → Did x first o p₀ t₂ o₂ w
+    pub loop-last : (e : ℕ) (b : Parsed) → w .going ≡ true → e ≡ commandAt s i .end → b ≡ nextAt s e → b ≡ Fault → RunsTo x first o p₀ t₂ o₂ w
     loop-last e b g q u v =
-        let z : isAt s (commandAt s i .end) comma ≡ false = ap (λ (j : ℕ). isAt s j comma) (sym q) ∙ sym u ∙ v in
-        let r : rest ≡ [] = left-out (isAt s (commandAt s i .end) comma) _ _ z in
+        let r : rest ≡ [] = part-last s e (commandAt s i .end) q b u (λ j. listP (commandAt s) s (k - 1) j .tree) [] v in
         let m : Leads x first o p₀ true (outcome t₂ [] (w .at) true) false o₂ (w .next) =
         subst (λ (y : Outcome). Leads x first o p₀ true y false o₂ (w .next)) (ap (λ (y : List Command). runCommands y given (w .at) t₂) r ∙ none-left given (w .at) t₂) (going-on g) in
-        subst (λ (y : Bool). Did x first o p₀ t₂ o₂ (went (w .next) (w .at) y)) (sym g) (m .to t₂ o₂ (w .next) (w .at) true (done-none t₂ o₂ false (w .next) (w .at)))
+        subst (λ (y : Bool). RunsTo x first o p₀ t₂ o₂ (commandOutcome (w .next) (w .at) y)) (sym g) (m .to t₂ o₂ (w .next) (w .at) true (done-none t₂ o₂ false (w .next) (w .at)))
 
     -- another follows
-    pub loop-more : (e n : ℕ) (b : Bool) → w .going ≡ true → e ≡ commandAt s i .end → b ≡ isAt s e comma → b ≡ true → n ≡ pastSign comma s e
+    pub loop-more : (e n : ℕ) (b : Parsed) → w .going ≡ true → e ≡ commandAt s i .end → b ≡ nextAt s e → b ≡ Next n
         → Leads x first o p₀ true (runCommands (listP (commandAt s) s (k - 1) n .tree) given (w .at) t₂) false o₂ (w .next)
-    loop-more e n b g q u v r =
-        let z : isAt s (commandAt s i .end) comma ≡ true = ap (λ (j : ℕ). isAt s j comma) (sym q) ∙ sym u ∙ v in
-        let y : rest ≡ listP (commandAt s) s (k - 1) n .tree =
-        picked (isAt s (commandAt s i .end) comma) _ _ z ∙ ap (λ (j : ℕ). listP (commandAt s) s (k - 1) j .tree) (sym (r ∙ ap (pastSign comma s) q)) in
+    loop-more e n b g q u v =
+        let y : rest ≡ listP (commandAt s) s (k - 1) n .tree = part-more s e (commandAt s i .end) q b u (λ j. listP (commandAt s) s (k - 1) j .tree) [] n v in
         subst (λ (a : List Command). Leads x first o p₀ true (runCommands a given (w .at) t₂) false o₂ (w .next)) y (going-on g)

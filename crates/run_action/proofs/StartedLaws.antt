@@ -20,9 +20,7 @@ use Rattle.megaco.specs.Attempt.{judge, seen, numberOf}
 use Rattle.megaco.specs.Command.{Outcome, outcome}
 use Rattle.megaco.specs.Action.{anyGiven, over15, newRecord, setProperties, startChecks, startWrites, startReports, startedBy, started}
 use Rattle.megaco.specs.Transaction.{noCommands}
-use Rattle.megaco.specs.declared.Context.{Context}
-use Rattle.megaco.specs.declared.Checked.{Checked}
-use Rattle.megaco.specs.declared.Checked.the-variants.{Passes, Fails}
+use Rattle.types.specs.Types.{Context, Checked, Passes, Fails}
 use Rattle.read_command.specs.Production.{listOf}
 use Rattle.read_command.specs.Places.{commandsAt, commandsIn, bodyEnd}
 use Rattle.read_command.specs.declared.Rest.{Rest}
@@ -34,10 +32,10 @@ use Rattle.start_action.specs.declared.PropertiesRead.{PropertiesRead}
 use Rattle.start_action.proofs.StartLaws.{given-over, given-fresh, given-held, start-writes-is, start-tests-are, start-over, any-given}
 use Rattle.run_command.specs.Fails.{Failed}
 use Rattle.laws.proofs.Sound.{sound-whole}
-use Rattle.run_attempts.specs.Contract.{Did}
+use Rattle.run_attempts.specs.Contract.{RunsTo}
 use Rattle.run_attempts.specs.declared.Turn.{Turn}
-use Rattle.run_attempts.specs.declared.Went.{Went}
-use Rattle.run_attempts.proofs.DidLaws.{went}
+use Rattle.run_attempts.specs.declared.CommandOutcome.{CommandOutcome}
+use Rattle.run_attempts.proofs.RunsToLaws.{commandOutcome}
 use Rattle.run_action.specs.Fold.{runCommands, afterStart, runAction}
 use Rattle.run_action.proofs.Lists.{picked, left-out}
 
@@ -112,7 +110,7 @@ module _ (s : List ℕ) (c : Context) (body : ℕ) (rest : Rest) (t o : List ℕ
   starts = record { given = g .fresh; at = c; first = true; next = 0 }
 
   -- an action error
-  pub inner-fails : (code : ℕ) (o′ : List ℕ) (w : Went) → x ≡ Fails code → Failed code starts o o′ w → Did (runAction (action c ps cs) (state t)) true o 0 (state t) o′ w
+  pub inner-fails : (code : ℕ) (o′ : List ℕ) (w : CommandOutcome) → x ≡ Fails code → Failed code starts o o′ w → RunsTo (runAction (action c ps cs) (state t)) true o 0 (state t) o′ w
   inner-fails code o′ w z a =
       rw (action-refused c ps cs t code (sym tests-are ∙ z)) (record { state = refl; text = a .text; place = a .place; going = a .going })
 
@@ -131,19 +129,19 @@ module _ (s : List ℕ) (c : Context) (body : ℕ) (rest : Rest) (t o : List ℕ
       ((λ i. wroteStart c (any-is i) (k .given i) ((given-held ps held g h (small z) ∙ ap (setProperties ps) e) i) (flowsAfter ps (numberOf c) t)) ∙ start-writes-is c ps t)
 
   -- commands follow
-  pub inner-commands : (u : List ℕ) (t′ : State) (o′ : List ℕ) (w : Went) → x ≡ Passes → u ≡ apply (wroteStart c any (d .topology) (g .held) (flowsAfter (propertiesIn s body) (numberOf c) t)) t → rest .commands ≡ true
-      → Did (runCommands (commandsAt s (rest .at) .tree) (g .fresh) c (state u)) true o 0 t′ o′ w → Did (runAction (action c ps cs) (state t)) true o 0 t′ o′ w
+  pub inner-commands : (u : List ℕ) (t′ : State) (o′ : List ℕ) (w : CommandOutcome) → x ≡ Passes → u ≡ apply (wroteStart c any (d .topology) (g .held) (flowsAfter (propertiesIn s body) (numberOf c) t)) t → rest .commands ≡ true
+      → RunsTo (runCommands (commandsAt s (rest .at) .tree) (g .fresh) c (state u)) true o 0 t′ o′ w → RunsTo (runAction (action c ps cs) (state t)) true o 0 t′ o′ w
   inner-commands u t′ o′ w z q b w′ =
       let l : cs ≡ commandsAt s (rest .at) .tree = (unfold commandsIn in picked (rest .commands) (commandsAt s (rest .at) .tree) [] b) in
       let r : startReports ps (noCommands cs) (heldAt c t) ≡ [] = ap (λ (x : Bool). startReports ps x (heldAt c t)) (alone-is s rest ∙ ap not b) ∙ reports-none ps (heldAt c t) in
       let a : Outcome = runCommands (commandsAt s (rest .at) .tree) (g .fresh) c (state u) in
       let y : Outcome = runCommands cs (setProperties ps newRecord) c (state (apply (startWrites c ps (seen (numberOf c) t) ls) t)) in
       let m : a ≡ y = λ i. runCommands (sym l i) (given-fresh ps held g h (small z) i) c (state (wrote u z q i)) in
-      rw (action-done c ps cs t (passed z), r) (subst (λ (v : Outcome). Did (outcome (v .state) (v .reports) (v .at) (v .going)) true o 0 t′ o′ w) m w′)
+      rw (action-done c ps cs t (passed z), r) (subst (λ (v : Outcome). RunsTo (outcome (v .state) (v .reports) (v .at) (v .going)) true o 0 t′ o′ w) m w′)
 
   -- properties alone
   pub inner-alone : (u o′ : List ℕ) (n : ℕ) → x ≡ Passes → u ≡ apply (wroteStart c any (d .topology) (g .held) (flowsAfter (propertiesIn s body) (numberOf c) t)) t → rest .commands ≡ false
-      → Appended o 0 (reportsText true (standing (g .held) ∷ [])) o′ n → Did (runAction (action c ps cs) (state t)) true o 0 (state u) o′ (went n c true)
+      → Appended o 0 (reportsText true (standing (g .held) ∷ [])) o′ n → RunsTo (runAction (action c ps cs) (state t)) true o 0 (state u) o′ (commandOutcome n c true)
   inner-alone u o′ n z q b a =
       let l : cs ≡ [] = (unfold commandsIn in left-out (rest .commands) (commandsAt s (rest .at) .tree) [] b) in
       let r : startReports ps (noCommands cs) (heldAt c t) ≡ standing (setProperties ps (heldAt c t)) ∷ [] =

@@ -7,15 +7,15 @@ use Rattle.base.specs.Bytes.{text, _then_}
 use Rattle.megaco.specs.State.{State}
 use Rattle.megaco.specs.Reply.{separator}
 use Rattle.reply.specs.Texts.{actionOpen}
-use Rattle.megaco.specs.declared.Context.{Context}
+use Rattle.types.specs.Types.{Context}
 use Rattle.base.specs.Out.{Appended}
 use Rattle.megaco.specs.Command.{Outcome}
 use Rattle.megaco.specs.Transaction.{Ran}
 use Rattle.run_action.specs.Fold.{outcomeText}
-use Rattle.run_action.specs.declared.Moved.{Moved}
+use Rattle.run_action.specs.declared.RanAction.{RanAction}
 
 -- from the buffer o at `at`, an action leaves the state t′, made of the lent slices, and the buffer o′
-pub record Acts (x : Outcome) (first : Bool) (o : List ℕ) (at : ℕ) (t′ : State) (o′ : List ℕ) (r : Moved) : Type 0 where
+pub record ActionRunsTo (x : Outcome) (first : Bool) (o : List ℕ) (at : ℕ) (t′ : State) (o′ : List ℕ) (r : RanAction) : Type 0 where
   pub state : t′ ≡ x .state
   pub text : Appended o at (outcomeText first x) o′ (r .next)
   pub going : r .going ≡ x .going

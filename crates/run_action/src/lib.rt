@@ -12,25 +12,27 @@ ghost use Rattle.megaco.specs.Tree.{action};
 ghost use Rattle.read_command.specs.Places.{commandsAt, commandsIn, bodyEnd, actionAt, actionsAt};
 ghost use Rattle.command_tests.specs.CommandTests.{heldAt};
 ghost use Rattle.start_action.specs.Starting.{propertiesIn};
-ghost use Rattle.run_attempts.specs.Contract.{Did};
+ghost use Rattle.run_attempts.specs.Contract.{RunsTo};
 ghost use Rattle.run_action.specs.Fold.{runCommands, runAction, runActions};
-ghost use Rattle.run_action.specs.Promises.{around, Acts, Wrote};
+ghost use Rattle.run_action.specs.Promises.{around, ActionRunsTo, Wrote};
 use megaco::Checked;
 use megaco::Context;
+use megaco::Parsed;
 use read_command::Rest;
+use reply::TRANSACTION_ROOM;
+use run_attempts::CommandOutcome;
 use run_attempts::Turn;
-use run_attempts::Went;
 use run_command::RanCommand;
 
 // An action that was run: the place after its reply, whether the transaction goes on, and where the action's own text ends.
-pub struct Moved {
+pub struct RanAction {
     pub next: usize,
     pub going: bool,
     pub end: usize,
 }
 
 // A part of a message that was run: the place after its reply, and where its own text ends.
-pub struct Written {
+pub struct RanPart {
     pub next: usize,
     pub end: usize,
 }
@@ -38,45 +40,45 @@ pub struct Written {
 // The commands of an action, in order, until one stops the transaction.
 fn run_commands(s: &[u8], from: usize, turn: Turn, table: &mut [u32], out: &mut [u8]) -> RanCommand
     requires { ⌜ Sized (now table) ⌝ }
-    ensures { λ r. ⌜ Did (runCommands (commandsAt (now (s .entry)) from .tree) (turn .given) (turn .at) (state (now (table .entry)))) (turn .first) (now (out .entry)) (turn .next) (state (now (table .exit))) (now (out .exit)) (r .went) × (r .end ≡ commandsAt (now (s .entry)) from .end) ⌝ }
+    ensures { λ r. ⌜ RunsTo (runCommands (commandsAt (now (s .entry)) from .tree) (turn .given) (turn .at) (state (now (table .entry)))) (turn .first) (now (out .entry)) (turn .next) (state (now (table .exit))) (now (out .exit)) (r .outcome) × (r .end ≡ commandsAt (now (s .entry)) from .end) ⌝ }
 {
     let mut i = from;
     let mut left: usize = 64;
     let mut here = turn;
     while 0 < left {
         let x = run_command::run_command(s, i, here, table, out);
-        let w = x.went;
+        let w = x.outcome;
         let e = x.end;
         let going = w.going;
         if going {
-            if text::is_at(s, e, b',') {
-                i = command_places::past_comma(s, e);
-                let g = here.given;
-                let c = w.at;
-                here = Turn {
-                    given: g,
-                    at: c,
-                    first: false,
-                    next: w.next,
-                };
-                left -= 1;
-            } else {
+            let y = command_places::next_part(s, e);
+            let Parsed::Next(u) = y else {
                 return x;
-            }
+            };
+            i = u;
+            let g = here.given;
+            let c = w.at;
+            here = Turn {
+                given: g,
+                at: c,
+                first: false,
+                next: w.next,
+            };
+            left -= 1;
         } else {
             return RanCommand {
-                went: w,
+                outcome: w,
                 end: action_places::commands_after(s, left - 1, e),
             };
         }
     }
     let c = here.at;
-    let w = Went {
+    let w = CommandOutcome {
         next: here.next,
         at: c,
         going: true,
     };
-    RanCommand { went: w, end: i }
+    RanCommand { outcome: w, end: i }
 }
 
 // An action from its start on, its reports being put into a buffer of their own.
@@ -89,7 +91,7 @@ fn run_inner(
     out: &mut [u8],
 ) -> RanCommand
     requires { ⌜ (Sized (now table)) × (heldAt c (now table) ≤ 32) ⌝ }
-    ensures { λ r. ⌜ Did (runAction (action c (propertiesIn (now (s .entry)) body) (commandsIn (now (s .entry)) rest)) (state (now (table .entry)))) true (now (out .entry)) 0 (state (now (table .exit))) (now (out .exit)) (r .went) × (r .end ≡ bodyEnd (now (s .entry)) rest) ⌝ }
+    ensures { λ r. ⌜ RunsTo (runAction (action c (propertiesIn (now (s .entry)) body) (commandsIn (now (s .entry)) rest)) (state (now (table .entry)))) true (now (out .entry)) 0 (state (now (table .exit))) (now (out .exit)) (r .outcome) × (r .end ≡ bodyEnd (now (s .entry)) rest) ⌝ }
 {
     let held = command_tests::held_at(table, c);
     let any = read_action::property_here(s, body);
@@ -111,20 +113,20 @@ fn run_inner(
                 return run_commands(s, from, turn, table, out);
             }
             let n = put_alone(out, g.held);
-            let w = Went {
+            let w = CommandOutcome {
                 next: n,
                 at: c,
                 going: true,
             };
             RanCommand {
-                went: w,
+                outcome: w,
                 end: rest.at,
             }
         }
         Checked::Fails(code) => {
             let w = run_command::fail(code, turn, out);
             RanCommand {
-                went: w,
+                outcome: w,
                 end: action_places::body_end(s, rest),
             }
         }
@@ -158,22 +160,29 @@ fn put_action(out: &mut [u8], p: usize, first: bool, c: Context, inner: &[u8], n
 }
 
 // The action that stands at a place of the message.
-fn run_action(s: &[u8], i: usize, first: bool, table: &mut [u32], out: &mut [u8], p: usize) -> Moved
+fn run_action(
+    s: &[u8],
+    i: usize,
+    first: bool,
+    table: &mut [u32],
+    out: &mut [u8],
+    p: usize,
+) -> RanAction
     requires { ⌜ (sound (now table) ≡ true) × (length (now out) ≤ 2049) ⌝ }
-    ensures { λ r. ⌜ Acts (runAction (actionAt (now (s .entry)) i .tree) (state (now (table .entry)))) first (now (out .entry)) p (state (now (table .exit))) (now (out .exit)) r × (r .end ≡ actionAt (now (s .entry)) i .end) ⌝ }
+    ensures { λ r. ⌜ ActionRunsTo (runAction (actionAt (now (s .entry)) i .tree) (state (now (table .entry)))) first (now (out .entry)) p (state (now (table .exit))) (now (out .exit)) r × (r .end ≡ actionAt (now (s .entry)) i .end) ⌝ }
 {
     let a = action_places::action_places(s, i);
     let c = a.context;
     let body = a.body;
     let rest = action_places::rest_of(s, body);
-    let mut inner = [0u8; 2049];
+    let mut inner = [0u8; TRANSACTION_ROOM];
     let x = run_inner(s, c, body, rest, table, &mut inner);
-    let w = x.went;
+    let w = x.outcome;
     let at = w.at;
     let n = w.next;
     let q = put_action(out, p, first, at, &inner, n);
     let e = x.end;
-    Moved {
+    RanAction {
         next: q,
         going: w.going,
         end: command_places::past_closing(s, e),
@@ -181,7 +190,7 @@ fn run_action(s: &[u8], i: usize, first: bool, table: &mut [u32], out: &mut [u8]
 }
 
 // The actions of a transaction, in order, until one stops it.
-pub fn run_actions(s: &[u8], from: usize, table: &mut [u32], out: &mut [u8], p: usize) -> Written
+pub fn run_actions(s: &[u8], from: usize, table: &mut [u32], out: &mut [u8], p: usize) -> RanPart
     requires { ⌜ (sound (now table) ≡ true) × (length (now out) ≤ 2049) ⌝ }
     ensures { λ r. ⌜ Wrote (runActions (actionsAt (now (s .entry)) from .tree) true (state (now (table .entry)))) (now (out .entry)) p (state (now (table .exit))) (now (out .exit)) (r .next) × (r .end ≡ actionsAt (now (s .entry)) from .end) ⌝ }
 {
@@ -194,23 +203,23 @@ pub fn run_actions(s: &[u8], from: usize, table: &mut [u32], out: &mut [u8], p: 
         let going = m.going;
         let e = m.end;
         if going {
-            if text::is_at(s, e, b',') {
-                i = command_places::past_comma(s, e);
-                q = m.next;
-                f = false;
-                left -= 1;
-            } else {
-                return Written {
+            let y = command_places::next_part(s, e);
+            let Parsed::Next(u) = y else {
+                return RanPart {
                     next: m.next,
                     end: e,
                 };
-            }
+            };
+            i = u;
+            q = m.next;
+            f = false;
+            left -= 1;
         } else {
-            return Written {
+            return RanPart {
                 next: m.next,
                 end: action_places::actions_after(s, left - 1, e),
             };
         }
     }
-    Written { next: q, end: i }
+    RanPart { next: q, end: i }
 }

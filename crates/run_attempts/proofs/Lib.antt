@@ -1,1 +1,1 @@
-pub mod DidLaws
+pub mod RunsToLaws

@@ -11,10 +11,10 @@ ghost use Rattle.megaco.specs.Names.{nameText};
 ghost use Rattle.base.specs.Bytes.{_then_};
 ghost use Rattle.megaco.specs.Reply.{refused, triedText, separator, reportsText};
 ghost use Rattle.megaco.specs.Command.{attempts, runTargets};
-ghost use Rattle.attempt.specs.Judging.{Fair};
+ghost use Rattle.types.specs.Ranges.{InRange};
 ghost use Rattle.targets.specs.Targets.{targetsIn};
 ghost use Rattle.targets.specs.declared.Target.the-variants.{Many};
-ghost use Rattle.run_attempts.specs.Contract.{Did, shown, CommandFailed};
+ghost use Rattle.run_attempts.specs.Contract.{RunsTo, shown, CommandFailed};
 use megaco::Checked;
 use megaco::Context;
 use megaco::Op;
@@ -33,7 +33,7 @@ pub struct Turn {
 }
 
 // Where a part of a run ends: the place after its text, the action's context, and whether the transaction goes on.
-pub struct Went {
+pub struct CommandOutcome {
     pub next: usize,
     pub at: Context,
     pub going: bool,
@@ -81,13 +81,13 @@ fn put_refused(
 }
 
 // A command that fails before any attempt.
-pub fn command_error(op: Op, name: &[u8], code: u32, turn: Turn, out: &mut [u8]) -> Went
+pub fn command_error(op: Op, name: &[u8], code: u32, turn: Turn, out: &mut [u8]) -> CommandOutcome
     ensures { λ r. ⌜ CommandFailed op (now (name .entry)) code turn (now (out .entry)) (now (out .exit)) r ⌝ }
 {
     let p = put_received(out, turn, op, name);
     let n = report::put_code(out, p, code);
     let c = turn.at;
-    Went {
+    CommandOutcome {
         next: n,
         at: c,
         going: false,
@@ -106,9 +106,9 @@ fn try_one(
     turn: Turn,
     table: &mut [u32],
     out: &mut [u8],
-) -> Went
-    requires { ⌜ (Sized (now table)) × Fair values ⌝ }
-    ensures { λ r. ⌜ Did (attempts op wild (now (name .entry)) (turn .given) values (i ∷ []) (turn .at) (state (now (table .entry)))) (turn .first) (now (out .entry)) (turn .next) (state (now (table .exit))) (now (out .exit)) r ⌝ }
+) -> CommandOutcome
+    requires { ⌜ (Sized (now table)) × InRange values ⌝ }
+    ensures { λ r. ⌜ RunsTo (attempts op wild (now (name .entry)) (turn .given) values (i ∷ []) (turn .at) (state (now (table .entry)))) (turn .first) (now (out .entry)) (turn .next) (state (now (table .exit))) (now (out .exit)) r ⌝ }
 {
     let at = turn.at;
     let view = attempt_view::look(table, at, i);
@@ -119,7 +119,7 @@ fn try_one(
             let p = put_full(out, turn, op, view.lines, i);
             let n = report::put_detail(out, p, values.audited, view.word);
             let c = attempt::settled(at, view);
-            Went {
+            CommandOutcome {
                 next: n,
                 at: c,
                 going: true,
@@ -127,7 +127,7 @@ fn try_one(
         }
         Checked::Fails(code) => {
             let n = put_refused(out, turn, op, wild, name, view.lines, i, code);
-            Went {
+            CommandOutcome {
                 next: n,
                 at: at,
                 going: false,
@@ -151,9 +151,9 @@ fn try_each(
     turn: Turn,
     table: &mut [u32],
     out: &mut [u8],
-) -> Went
-    requires { ⌜ (Sized (now table)) × Fair values ⌝ }
-    ensures { λ r. ⌜ Did (attempts op true (now (name .entry)) (turn .given) values (now (matched .entry)) (turn .at) (state (now (table .entry)))) (turn .first) (now (out .entry)) (turn .next) (state (now (table .exit))) (now (out .exit)) r ⌝ }
+) -> CommandOutcome
+    requires { ⌜ (Sized (now table)) × InRange values ⌝ }
+    ensures { λ r. ⌜ RunsTo (attempts op true (now (name .entry)) (turn .given) values (now (matched .entry)) (turn .at) (state (now (table .entry)))) (turn .first) (now (out .entry)) (turn .next) (state (now (table .exit))) (now (out .exit)) r ⌝ }
 {
     let mut k: usize = 0;
     let mut here = turn;
@@ -172,7 +172,7 @@ fn try_each(
         k += 1;
     }
     let c = here.at;
-    Went {
+    CommandOutcome {
         next: here.next,
         at: c,
         going: good,
@@ -189,9 +189,9 @@ fn try_noted(
     turn: Turn,
     table: &mut [u32],
     out: &mut [u8],
-) -> Went
-    requires { ⌜ (Sized (now table)) × Fair values ⌝ }
-    ensures { λ r. ⌜ Did (attempts op true (now (name .entry)) (turn .given) values (take n (now (row .entry))) (turn .at) (state (now (table .entry)))) (turn .first) (now (out .entry)) (turn .next) (state (now (table .exit))) (now (out .exit)) r ⌝ }
+) -> CommandOutcome
+    requires { ⌜ (Sized (now table)) × InRange values ⌝ }
+    ensures { λ r. ⌜ RunsTo (attempts op true (now (name .entry)) (turn .given) values (take n (now (row .entry))) (turn .at) (state (now (table .entry)))) (turn .first) (now (out .entry)) (turn .next) (state (now (table .exit))) (now (out .exit)) r ⌝ }
 {
     let e = numbers::low(n, row.len());
     try_each(op, name, values, &row[0..e], turn, table, out)
@@ -206,9 +206,9 @@ fn try_many(
     turn: Turn,
     table: &mut [u32],
     out: &mut [u8],
-) -> Went
-    requires { ⌜ (Sized (now table)) × Fair values ⌝ }
-    ensures { λ w. ⌜ Did (runTargets op (now (name .entry)) (turn .given) values (targetsIn (Many r) op (turn .at) (now (table .entry))) (turn .at) (state (now (table .entry)))) (turn .first) (now (out .entry)) (turn .next) (state (now (table .exit))) (now (out .exit)) w ⌝ }
+) -> CommandOutcome
+    requires { ⌜ (Sized (now table)) × InRange values ⌝ }
+    ensures { λ w. ⌜ RunsTo (runTargets op (now (name .entry)) (turn .given) values (targetsIn (Many r) op (turn .at) (now (table .entry))) (turn .at) (state (now (table .entry)))) (turn .first) (now (out .entry)) (turn .next) (state (now (table .exit))) (now (out .exit)) w ⌝ }
 {
     let mut matched = [0u32; MOST_TERMINATIONS];
     let at = turn.at;
@@ -228,16 +228,16 @@ pub fn run_targets(
     turn: Turn,
     table: &mut [u32],
     out: &mut [u8],
-) -> Went
-    requires { ⌜ (Sized (now table)) × Fair values ⌝ }
-    ensures { λ w. ⌜ Did (runTargets op (now (name .entry)) (turn .given) values (targetsIn target op (turn .at) (now (table .entry))) (turn .at) (state (now (table .entry)))) (turn .first) (now (out .entry)) (turn .next) (state (now (table .exit))) (now (out .exit)) w ⌝ }
+) -> CommandOutcome
+    requires { ⌜ (Sized (now table)) × InRange values ⌝ }
+    ensures { λ w. ⌜ RunsTo (runTargets op (now (name .entry)) (turn .given) values (targetsIn target op (turn .at) (now (table .entry))) (turn .at) (state (now (table .entry)))) (turn .first) (now (out .entry)) (turn .next) (state (now (table .exit))) (now (out .exit)) w ⌝ }
 {
     match target {
         Target::NoTarget(code) => command_error(op, name, code, turn, out),
         Target::Gateway => {
             let q = put_received(out, turn, op, b"ROOT");
             let c = turn.at;
-            Went {
+            CommandOutcome {
                 next: q,
                 at: c,
                 going: true,

@@ -3,20 +3,20 @@ ghost use mathlib.Core.Path.{_≡_};
 ghost use mathlib.Core.Option.{some};
 ghost use Rattle.megaco.specs.Table.{Sized};
 ghost use Rattle.megaco.specs.State.{state};
-ghost use Rattle.megaco.specs.Command.{opOf, tested, ordered, runCommand};
+ghost use Rattle.megaco.specs.Command.{opOf, fromTest2, fromTest1, runCommand};
 ghost use Rattle.command_places.specs.Found.{itemsFrom, commandEndFrom};
 ghost use Rattle.read_command.specs.Places.{commandAt};
-ghost use Rattle.run_attempts.specs.Contract.{Did};
+ghost use Rattle.run_attempts.specs.Contract.{RunsTo};
 ghost use Rattle.run_command.specs.Fails.{optionally, Failed};
 use command_places::CommandPlaces;
 use command_tests::Found;
 use megaco::Op;
+use run_attempts::CommandOutcome;
 use run_attempts::Turn;
-use run_attempts::Went;
 
 // What a command leaves, and where its text ends.
 pub struct RanCommand {
-    pub went: Went,
+    pub outcome: CommandOutcome,
     pub end: usize,
 }
 
@@ -31,14 +31,14 @@ fn run_tested(
     out: &mut [u8],
 ) -> RanCommand
     requires { ⌜ Sized (now table) ⌝ }
-    ensures { λ r. ⌜ Did (tested op (now (name .entry)) (itemsFrom (now (s .entry)) places) (turn .given) (turn .at) (state (now (table .entry)))) (turn .first) (now (out .entry)) (turn .next) (state (now (table .exit))) (now (out .exit)) (r .went) × (r .end ≡ commandEndFrom (now (s .entry)) places) ⌝ }
+    ensures { λ r. ⌜ RunsTo (fromTest2 op (now (name .entry)) (itemsFrom (now (s .entry)) places) (turn .given) (turn .at) (state (now (table .entry)))) (turn .first) (now (out .entry)) (turn .next) (state (now (table .exit))) (now (out .exit)) (r .outcome) × (r .end ≡ commandEndFrom (now (s .entry)) places) ⌝ }
 {
     let at = turn.at;
     let held = command_tests::held_at(table, at);
     if command_tests::no_context(op, at, held) {
         let w = run_attempts::command_error(op, name, 411, turn, out);
         return RanCommand {
-            went: w,
+            outcome: w,
             end: command_places::command_end(s, places),
         };
     }
@@ -46,17 +46,17 @@ fn run_tested(
     let judged = x.judged;
     let w = command_tests::run_judged(op, name, places.braces, judged, turn, table, out);
     RanCommand {
-        went: w,
+        outcome: w,
         end: x.end,
     }
 }
 
 // The transaction goes on after an optional command that failed.
-fn past_optional(optional: bool, w: Went) -> Went
+fn past_optional(optional: bool, w: CommandOutcome) -> CommandOutcome
     ensures { λ r. ⌜ r ≡ optionally optional w ⌝ }
 {
     let c = w.at;
-    Went {
+    CommandOutcome {
         next: w.next,
         at: c,
         going: w.going | optional,
@@ -64,13 +64,13 @@ fn past_optional(optional: bool, w: Went) -> Went
 }
 
 // An action error.
-pub fn fail(code: u32, turn: Turn, out: &mut [u8]) -> Went
+pub fn fail(code: u32, turn: Turn, out: &mut [u8]) -> CommandOutcome
     ensures { λ r. ⌜ Failed code turn (now (out .entry)) (now (out .exit)) r ⌝ }
 {
     let q = report::put_separator(out, turn.next, turn.first);
     let n = report::put_failed(out, q, code);
     let c = turn.at;
-    Went {
+    CommandOutcome {
         next: n,
         at: c,
         going: false,
@@ -85,11 +85,11 @@ fn fail_command(
     turn: Turn,
     out: &mut [u8],
 ) -> RanCommand
-    ensures { λ r. ⌜ Failed code turn (now (out .entry)) (now (out .exit)) (r .went) × (r .end ≡ commandEndFrom (now (s .entry)) places) ⌝ }
+    ensures { λ r. ⌜ Failed code turn (now (out .entry)) (now (out .exit)) (r .outcome) × (r .end ≡ commandEndFrom (now (s .entry)) places) ⌝ }
 {
     let w = fail(code, turn, out);
     RanCommand {
-        went: w,
+        outcome: w,
         end: command_places::command_end(s, places),
     }
 }
@@ -105,16 +105,16 @@ fn run_built(
     out: &mut [u8],
 ) -> RanCommand
     requires { ⌜ Sized (now table) ⌝ }
-    ensures { λ r. ⌜ Did (ordered (places .optional) (some op) (now (name .entry)) (itemsFrom (now (s .entry)) places) (turn .given) (turn .at) (state (now (table .entry)))) (turn .first) (now (out .entry)) (turn .next) (state (now (table .exit))) (now (out .exit)) (r .went) × (r .end ≡ commandEndFrom (now (s .entry)) places) ⌝ }
+    ensures { λ r. ⌜ RunsTo (fromTest1 (places .optional) (some op) (now (name .entry)) (itemsFrom (now (s .entry)) places) (turn .given) (turn .at) (state (now (table .entry)))) (turn .first) (now (out .entry)) (turn .next) (state (now (table .exit))) (now (out .exit)) (r .outcome) × (r .end ≡ commandEndFrom (now (s .entry)) places) ⌝ }
 {
     let at = turn.at;
     if command_tests::forbidden_in_null(op, at) {
         return fail_command(s, places, 421, turn, out);
     }
     let x = run_tested(s, places, op, name, turn, table, out);
-    let w = x.went;
+    let w = x.outcome;
     RanCommand {
-        went: past_optional(places.optional, w),
+        outcome: past_optional(places.optional, w),
         end: x.end,
     }
 }
@@ -130,7 +130,7 @@ fn run_found(
     out: &mut [u8],
 ) -> RanCommand
     requires { ⌜ Sized (now table) ⌝ }
-    ensures { λ r. ⌜ Did (ordered (places .optional) (opOf (places .wild) (now (word .entry))) (now (name .entry)) (itemsFrom (now (s .entry)) places) (turn .given) (turn .at) (state (now (table .entry)))) (turn .first) (now (out .entry)) (turn .next) (state (now (table .exit))) (now (out .exit)) (r .went) × (r .end ≡ commandEndFrom (now (s .entry)) places) ⌝ }
+    ensures { λ r. ⌜ RunsTo (fromTest1 (places .optional) (opOf (places .wild) (now (word .entry))) (now (name .entry)) (itemsFrom (now (s .entry)) places) (turn .given) (turn .at) (state (now (table .entry)))) (turn .first) (now (out .entry)) (turn .next) (state (now (table .exit))) (now (out .exit)) (r .outcome) × (r .end ≡ commandEndFrom (now (s .entry)) places) ⌝ }
 {
     let f = command_tests::op_of(places.wild, word);
     match f {
@@ -142,7 +142,7 @@ fn run_found(
 // The command that stands at a place of the message.
 pub fn run_command(s: &[u8], i: usize, turn: Turn, table: &mut [u32], out: &mut [u8]) -> RanCommand
     requires { ⌜ Sized (now table) ⌝ }
-    ensures { λ r. ⌜ Did (runCommand (commandAt (now (s .entry)) i .tree) (turn .given) (turn .at) (state (now (table .entry)))) (turn .first) (now (out .entry)) (turn .next) (state (now (table .exit))) (now (out .exit)) (r .went) × (r .end ≡ commandAt (now (s .entry)) i .end) ⌝ }
+    ensures { λ r. ⌜ RunsTo (runCommand (commandAt (now (s .entry)) i .tree) (turn .given) (turn .at) (state (now (table .entry)))) (turn .first) (now (out .entry)) (turn .next) (state (now (table .exit))) (now (out .exit)) (r .outcome) × (r .end ≡ commandAt (now (s .entry)) i .end) ⌝ }
 {
     let places = command_places::command_places(s, i);
     let word = places.word;

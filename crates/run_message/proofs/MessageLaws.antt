@@ -14,7 +14,7 @@ use Rattle.megaco.specs.Tree.{Transaction, transaction}
 use Rattle.megaco.specs.Reading.{messageR}
 use Rattle.megaco.specs.Reply.{errorText, replyText}
 use Rattle.megaco.specs.Transaction.{runTransaction, runTransactions, runMessage}
-use Rattle.read_command.specs.Messages.{verdictOf, verdict-is, transactionOf, transactionsAt, headerEnd, messageAt, messageOf, messageBy, message-told}
+use Rattle.read_command.specs.Messages.{verdictOf, verdict-is, transactionOf, transactionsAt, headerEnd, messageAt, messageOf, messageBy, message-law}
 use Rattle.read_command.specs.Places.{actionsAt}
 use Rattle.read_command.specs.declared.Verdict.{Verdict}
 use Rattle.read_command.specs.declared.Verdict.the-variants.{WellFormed, Fault400, Fault403, WrongVersion406}
@@ -56,21 +56,21 @@ message-begins s i t o p e = rw e (begins (runTransactions (transactionsAt 8 s (
 -- ---- a message by its verdict
 
 module _ (s : List ℕ) (t : State) (o : List ℕ) (p : ℕ) (t′ : State) (o′ : List ℕ) (r : ℕ) (v : Verdict) (e : v ≡ verdictOf (messageR s)) where
-  as-told : (w : Verdict) → v ≡ w → messageR s ≡ messageBy w (messageOf s)
-  as-told w f = message-told s ∙ ap (λ (y : Verdict). messageBy y (messageOf s)) (verdict-is s ∙ sym e ∙ f)
+  as-read : (w : Verdict) → v ≡ w → messageR s ≡ messageBy w (messageOf s)
+  as-read w f = message-law s ∙ ap (λ (y : Verdict). messageBy y (messageOf s)) (verdict-is s ∙ sym e ∙ f)
 
   pub reads-well : v ≡ WellFormed → Wrote (runTransactions (messageOf s) t) o p t′ o′ r → Wrote (runMessage (messageR s) t) o p t′ o′ r
   unfolding messageBy runMessage
-  reads-well f w = rw (as-told WellFormed f) w
+  reads-well f w = rw (as-read WellFormed f) w
 
   pub reads-400 : v ≡ Fault400 → Appended o p (errorText 400) o′ r → Wrote (runMessage (messageR s) t) o p t o′ r
   unfolding messageBy runMessage
-  reads-400 f a = rw (as-told Fault400 f) (record { state = refl; text = a })
+  reads-400 f a = rw (as-read Fault400 f) (record { state = refl; text = a })
 
   pub reads-403 : (id : ℕ) → v ≡ Fault403 id → Appended o p (replyText id (errorText 403)) o′ r → Wrote (runMessage (messageR s) t) o p t o′ r
   unfolding messageBy runMessage
-  reads-403 id f a = rw (as-told (Fault403 id) f) (record { state = refl; text = a })
+  reads-403 id f a = rw (as-read (Fault403 id) f) (record { state = refl; text = a })
 
   pub reads-406 : v ≡ WrongVersion406 → Appended o p (errorText 406) o′ r → Wrote (runMessage (messageR s) t) o p t o′ r
   unfolding messageBy runMessage
-  reads-406 f a = rw (as-told WrongVersion406 f) (record { state = refl; text = a })
+  reads-406 f a = rw (as-read WrongVersion406 f) (record { state = refl; text = a })

@@ -8,23 +8,24 @@ ghost use Rattle.megaco.specs.Transaction.{runTransaction, runTransactions, run
 ghost use Rattle.read_command.specs.Messages.{transactionOf, transactionEnd, messageOf};
 ghost use Rattle.run_action.specs.Promises.{Wrote};
 use read_command::Verdict;
-use run_action::Written;
+use reply::TRANSACTION_ROOM;
+use run_action::RanPart;
 
 // The transaction that stands at a place of the message: its table, and its `P=id{..}` of at most 2,048 bytes.
-fn run_transaction(s: &[u8], i: usize, table: &mut [u32], out: &mut [u8], p: usize) -> Written
+fn run_transaction(s: &[u8], i: usize, table: &mut [u32], out: &mut [u8], p: usize) -> RanPart
     requires { ⌜ sound (now table) ≡ true ⌝ }
     ensures { λ r. ⌜ Wrote (runTransaction (transactionOf (now (s .entry)) i) (state (now (table .entry)))) (now (out .entry)) p (state (now (table .exit))) (now (out .exit)) (r .next) × (r .end ≡ transactionEnd (now (s .entry)) i) ⌝ }
 {
     let a = action_places::transaction_places(s, i);
     let id = a.id;
     let body = a.body;
-    let mut scratch = [0u8; 2049];
+    let mut scratch = [0u8; TRANSACTION_ROOM];
     let n = reply::put_reply_open(&mut scratch, 0, id);
     let m = run_action::run_actions(s, body, table, &mut scratch, n);
     let e = writer::put_byte(&mut scratch, m.next, 125);
     let q = reply::put_limited(out, p, id, &scratch, e);
     let t = m.end;
-    Written {
+    RanPart {
         next: q,
         end: action_places::closing_end(s, t),
     }

@@ -37,10 +37,6 @@ module _ (f : ℕ → ℕ → List ℕ) (s o : List ℕ) (at : ℕ) (bs o₁ : L
 
 -- ---- how many contexts there are
 
-pub bit-small : (b : Bool) → boolByte b ≤ 1
-bit-small true = omega arith
-bit-small false = omega arith
-
 bit-pick : (b : Bool) → boolByte (not b) ≡ pick b 0 1
 unfolding pick
 bit-pick true = refl

@@ -64,24 +64,24 @@ spread ws c [] = 0
 spread ws c (r ∷ rs) = count c ws + spread ws (c + 1) rs
 
 -- how many of those contexts a word names
-meets : ℕ → ℕ → List ℕ → ℕ
-meets w c [] = 0
-meets w c (r ∷ rs) = pick (eqb w c) 1 0 + meets w (c + 1) rs
+countIn : ℕ → ℕ → List ℕ → ℕ
+countIn w c [] = 0
+countIn w c (r ∷ rs) = pick (eqb w c) 1 0 + countIn w (c + 1) rs
 
-meets-none : (w c : ℕ) (rs : List ℕ) → w < c → meets w c rs ≡ 0
-unfolding meets pick
-meets-none w c [] h = refl
-meets-none w c (r ∷ rs) h = rw (ne-eqb w c (λ e. omega arith), meets-none w (c + 1) rs (omega arith))
+count-in-none : (w c : ℕ) (rs : List ℕ) → w < c → countIn w c rs ≡ 0
+unfolding countIn pick
+count-in-none w c [] h = refl
+count-in-none w c (r ∷ rs) h = rw (ne-eqb w c (λ e. omega arith), count-in-none w (c + 1) rs (omega arith))
 
-meets-once : (w c : ℕ) (rs : List ℕ) → meets w c rs ≤ 1
-unfolding meets
-meets-once w c [] = omega arith
-meets-once w c (r ∷ rs) =
-    pick-ind (λ x. x + meets w (c + 1) rs ≤ 1) (eqb w c) 1 0 (λ e. omega (arith, eqb-true w c e, meets-none w (c + 1) rs (omega (arith, eqb-true w c e))))
-    (λ e. omega (arith, meets-once w (c + 1) rs))
+count-in-once : (w c : ℕ) (rs : List ℕ) → countIn w c rs ≤ 1
+unfolding countIn
+count-in-once w c [] = omega arith
+count-in-once w c (r ∷ rs) =
+    pick-ind (λ x. x + countIn w (c + 1) rs ≤ 1) (eqb w c) 1 0 (λ e. omega (arith, eqb-true w c e, count-in-none w (c + 1) rs (omega (arith, eqb-true w c e))))
+    (λ e. omega (arith, count-in-once w (c + 1) rs))
 
-spread-more : (w : ℕ) (ws : List ℕ) (c : ℕ) (rs : List ℕ) → spread (w ∷ ws) c rs ≡ meets w c rs + spread ws c rs
-unfolding spread meets count
+spread-more : (w : ℕ) (ws : List ℕ) (c : ℕ) (rs : List ℕ) → spread (w ∷ ws) c rs ≡ countIn w c rs + spread ws c rs
+unfolding spread countIn count
 spread-more w ws c [] = omega arith
 spread-more w ws c (r ∷ rs) = omega (arith, spread-more w ws (c + 1) rs)
 
@@ -92,7 +92,7 @@ spread-none c (r ∷ rs) = omega (arith, spread-none (c + 1) rs)
 
 spread-fits : (ws : List ℕ) (c : ℕ) (rs : List ℕ) → spread ws c rs ≤ length ws
 spread-fits [] c rs = omega (arith, spread-none c rs)
-spread-fits (w ∷ ws) c rs = omega (arith, spread-more w ws c rs, meets-once w c rs, spread-fits ws c rs)
+spread-fits (w ∷ ws) c rs = omega (arith, spread-more w ws c rs, count-in-once w c rs, spread-fits ws c rs)
 
 -- ---- the whole
 

@@ -38,7 +38,7 @@ unfolding before
 take-before b [] = refl
 take-before b (x ∷ s) = pick-ind (λ l. take (length l) (x ∷ s) ≡ l) _ _ _ (λ t. refl) (λ t. ap (λ (l : List ℕ). x ∷ l) (take-before b s))
 
-length-before : (b : ℕ) (s : List ℕ) → length (before b s) ≤ length s
+pub length-before : (b : ℕ) (s : List ℕ) → length (before b s) ≤ length s
 unfolding before
 length-before b [] = omega arith
 length-before b (x ∷ s) = pick-ind (λ l. length l ≤ suc (length s)) (eqb x b) [] (x ∷ before b s) (λ t. omega arith) (λ t. omega (arith, length-before b s))

@@ -14,8 +14,8 @@ use borrow.Author.Tests.{lt-ltb, eq-eqb, ne-eqb, eqb-true, eqb-false}
 use Rattle.base.specs.Pick.{pick}
 use Rattle.base.specs.Lists.{every}
 use Rattle.megaco.specs.Square.{Square, bits, rows, squareOf, mayFlow, rowIsSound, rowsAreSound, squareIsSound}
-use Rattle.square.proofs.SquareLaws.{NoneOf, large}
-use Rattle.sound.specs.Parts.{flowIsSound, flowsMeet, forbiddenRow, forbiddenRows, forbiddenBits}
+use Rattle.square.proofs.SquareLaws.{NoneOf, downFrom, large}
+use Rattle.sound.specs.Parts.{flowIsSound, flowsFit, forbiddenRow, forbiddenRows, forbiddenBits}
 use Rattle.sound.proofs.SoundLaws.{one-more, no-more, picked}
 
 -- ---- two rows of bits that have no place in common
@@ -167,55 +167,21 @@ forbidden-full m h =
       lt-ltb 7 m (omega arith),
     )
 
--- the number of each count of members
-module _ (m : ℕ) where
-  pub forbidden-0 : m ≡ 0 → bits 64 18446744073709551615 ≡ forbiddenBits m
-  unfolding bits forbiddenBits forbiddenRows forbiddenRow mayFlow
-  forbidden-0 e = rw e
-
-  pub forbidden-1 : m ≡ 1 → bits 64 18446744073709551615 ≡ forbiddenBits m
-  unfolding bits forbiddenBits forbiddenRows forbiddenRow mayFlow
-  forbidden-1 e = rw e
-
-  pub forbidden-2 : m ≡ 2 → bits 64 18446744073709551357 ≡ forbiddenBits m
-  unfolding bits forbiddenBits forbiddenRows forbiddenRow mayFlow
-  forbidden-2 e = rw e
-
-  pub forbidden-3 : m ≡ 3 → bits 64 18446744073709353721 ≡ forbiddenBits m
-  unfolding bits forbiddenBits forbiddenRows forbiddenRow mayFlow
-  forbidden-3 e = rw e
-
-  pub forbidden-4 : m ≡ 4 → bits 64 18446744073591386865 ≡ forbiddenBits m
-  unfolding bits forbiddenBits forbiddenRows forbiddenRow mayFlow
-  forbidden-4 e = rw e
-
-  pub forbidden-5 : m ≡ 5 → bits 64 18446744008897389281 ≡ forbiddenBits m
-  unfolding bits forbiddenBits forbiddenRows forbiddenRow mayFlow
-  forbidden-5 e = rw e
-
-  pub forbidden-6 : m ≡ 6 → bits 64 18446709786058998465 ≡ forbiddenBits m
-  unfolding bits forbiddenBits forbiddenRows forbiddenRow mayFlow
-  forbidden-6 e = rw e
-
-  pub forbidden-7 : m ≡ 7 → bits 64 18428906217826189953 ≡ forbiddenBits m
-  unfolding bits forbiddenBits forbiddenRows forbiddenRow mayFlow
-  forbidden-7 e = rw e
-
 eight-forbidden : bits 64 9241421688590303745 ≡ forbiddenBits 8
 unfolding bits forbiddenBits forbiddenRows forbiddenRow mayFlow
 eight-forbidden = refl
 
-pub forbidden-rest : (m : ℕ) → NoneOf (7 ∷ 6 ∷ 5 ∷ 4 ∷ 3 ∷ 2 ∷ 1 ∷ 0 ∷ []) m → bits 64 9241421688590303745 ≡ forbiddenBits m
-forbidden-rest m n = eight-forbidden ∙ forbidden-full m (large m n)
+pub forbidden-rest : (m : ℕ) → NoneOf (downFrom 8) m → bits 64 9241421688590303745 ≡ forbiddenBits m
+forbidden-rest m n = eight-forbidden ∙ forbidden-full m (large 8 m n)
 
 -- ---- the flows of each context in turn
-pub flows-start : (ms fs : List ℕ) (a : ℕ) → flowsMeet ms (a + 1) fs ≡ (true && flowsMeet ms (a + 0 + 1) (drop (2 * 0) fs))
+pub flows-start : (ms fs : List ℕ) (a : ℕ) → flowsFit ms (a + 1) fs ≡ (true && flowsFit ms (a + 0 + 1) (drop (2 * 0) fs))
 flows-start ms fs a = rw (add-zero a)
 
-module _ (ms fs : List ℕ) (a i : ℕ) (b q : Bool) (inv : q ≡ (b && flowsMeet ms (a + i + 1) (drop (2 * i) fs))) (l : length fs ≡ 32) where
+module _ (ms fs : List ℕ) (a i : ℕ) (b q : Bool) (inv : q ≡ (b && flowsFit ms (a + i + 1) (drop (2 * i) fs))) (l : length fs ≡ 32) where
   pub flows-on : (x : Bool) → i < 16 → x ≡ flowIsSound (getD ms (a + i + 1) 0) (getD fs (2 * i) 0) (getD fs (2 * i + 1) 0)
-      → q ≡ ((b && x) && flowsMeet ms (a + (i + 1) + 1) (drop (2 * (i + 1)) fs))
-  unfolding flowsMeet
+      → q ≡ ((b && x) && flowsFit ms (a + (i + 1) + 1) (drop (2 * (i + 1)) fs))
+  unfolding flowsFit
   flows-on x h e =
       let n : 2 * (i + 1) ≡ suc (suc (2 * i)) = omega arith in
       let m : a + (i + 1) + 1 ≡ a + i + 1 + 1 = omega arith in
@@ -223,13 +189,13 @@ module _ (ms fs : List ℕ) (a i : ℕ) (b q : Bool) (inv : q ≡ (b && flowsMee
       inv ∙ rw (drop-cons fs (2 * i) 0 (omega arith), drop-cons fs (suc (2 * i)) 0 (omega arith), ← f, n, m) (one-more b x _)
 
   pub flows-end : 16 ≤ i → b ≡ q
-  unfolding flowsMeet
+  unfolding flowsFit
   flows-end h = let z : length fs ≤ 2 * i = omega arith in sym (inv ∙ rw (drop-of-length-le fs z) (no-more b))
 
 -- ---- the flows of some contexts together
 -- those of the first n, and the others
-flows-both : (ms : List ℕ) (n c : ℕ) (fs : List ℕ) → 2 * n ≤ length fs → flowsMeet ms c fs ≡ (flowsMeet ms c (take (2 * n) fs) && flowsMeet ms (c + n) (drop (2 * n) fs))
-unfolding flowsMeet pick
+flows-both : (ms : List ℕ) (n c : ℕ) (fs : List ℕ) → 2 * n ≤ length fs → flowsFit ms c fs ≡ (flowsFit ms c (take (2 * n) fs) && flowsFit ms (c + n) (drop (2 * n) fs))
+unfolding flowsFit pick
 flows-both ms zero c fs h = rw (add-zero c)
 flows-both ms (suc n) c [] h = absurd (omega (arith, h))
 flows-both ms (suc n) c (x ∷ []) h = absurd (omega (arith, h))
@@ -238,7 +204,7 @@ flows-both ms (suc n) c (x ∷ y ∷ fs) h =
     let k : c + suc n ≡ c + 1 + n = omega arith in
     rw (d, k, flows-both ms n (c + 1) fs (omega (arith, h))) (by (flowIsSound (getD ms c 0) x y))
   where
-    by : (t : Bool) → let r = flowsMeet ms (c + 1) (take (2 * n) fs) in let s = flowsMeet ms (c + 1 + n) (drop (2 * n) fs) in
+    by : (t : Bool) → let r = flowsFit ms (c + 1) (take (2 * n) fs) in let s = flowsFit ms (c + 1 + n) (drop (2 * n) fs) in
         pick t (r && s) false ≡ (pick t r false && s)
     by true = refl
     by false = refl
@@ -248,30 +214,30 @@ none-flow : (m : ℕ) → flowIsSound m 0 0 ≡ true
 unfolding flowIsSound squareIsSound squareOf rows bits rowsAreSound rowIsSound pick
 none-flow m = refl
 
-none-meets : (ms : List ℕ) (n c : ℕ) (fs : List ℕ) → length fs ≡ 2 * n → every (λ (w : ℕ). eqb w 0) fs ≡ true → flowsMeet ms c fs ≡ true
-unfolding flowsMeet every pick
-none-meets ms n c [] l z = refl
-none-meets ms n c (x ∷ []) l z = absurd (omega (arith, l))
-none-meets ms zero c (x ∷ y ∷ fs) l z = absurd (omega (arith, l))
-none-meets ms (suc n) c (x ∷ y ∷ fs) l z =
+all-null-fit : (ms : List ℕ) (n c : ℕ) (fs : List ℕ) → length fs ≡ 2 * n → every (λ (w : ℕ). eqb w 0) fs ≡ true → flowsFit ms c fs ≡ true
+unfolding flowsFit every pick
+all-null-fit ms n c [] l z = refl
+all-null-fit ms n c (x ∷ []) l z = absurd (omega (arith, l))
+all-null-fit ms zero c (x ∷ y ∷ fs) l z = absurd (omega (arith, l))
+all-null-fit ms (suc n) c (x ∷ y ∷ fs) l z =
     let p = picked (eqb x 0) (pick (eqb y 0) (every (λ (w : ℕ). eqb w 0) fs) false) z in
     let q = picked (eqb y 0) (every (λ (w : ℕ). eqb w 0) fs) (p .1) in
-    rw (eqb-true x 0 (p .0), eqb-true y 0 (q .0), none-flow (getD ms c 0)) (none-meets ms n (c + 1) fs (omega (arith, l)) (q .1))
+    rw (eqb-true x 0 (p .0), eqb-true y 0 (q .0), none-flow (getD ms c 0)) (all-null-fit ms n (c + 1) fs (omega (arith, l)) (q .1))
 
-pub none-meet : (ms : List ℕ) (c : ℕ) (fs : List ℕ) (t : Bool) → length fs ≡ 32 → t ≡ every (λ (w : ℕ). eqb w 0) fs → t ≡ true → true ≡ flowsMeet ms c fs
-none-meet ms c fs t l e u = sym (none-meets ms 16 c fs l (sym e ∙ u))
+pub none-fit : (ms : List ℕ) (c : ℕ) (fs : List ℕ) (t : Bool) → length fs ≡ 32 → t ≡ every (λ (w : ℕ). eqb w 0) fs → t ≡ true → true ≡ flowsFit ms c fs
+none-fit ms c fs t l e u = sym (all-null-fit ms 16 c fs l (sym e ∙ u))
 
-module _ (ms fs : List ℕ) (i : ℕ) (b q : Bool) (inv : q ≡ (b && flowsMeet ms (16 * i + 1) (drop (32 * i) fs))) (l : length fs ≡ 256) where
-  pub some-on : (x : Bool) → i < 8 → x ≡ flowsMeet ms (16 * i + 1) (take (2 * (16 * i) + 32 - 2 * (16 * i)) (drop (2 * (16 * i)) fs)) → q ≡ ((b && x) && flowsMeet ms (16 * (i + 1) + 1) (drop (32 * (i + 1)) fs))
+module _ (ms fs : List ℕ) (i : ℕ) (b q : Bool) (inv : q ≡ (b && flowsFit ms (16 * i + 1) (drop (32 * i) fs))) (l : length fs ≡ 256) where
+  pub some-on : (x : Bool) → i < 8 → x ≡ flowsFit ms (16 * i + 1) (take (2 * (16 * i) + 32 - 2 * (16 * i)) (drop (2 * (16 * i)) fs)) → q ≡ ((b && x) && flowsFit ms (16 * (i + 1) + 1) (drop (32 * (i + 1)) fs))
   some-on x h e =
       let k : 2 * 16 ≤ length (drop (32 * i) fs) = rw (length-drop (32 * i) fs) (omega arith) in
       let c : 16 * (i + 1) + 1 ≡ 16 * i + 1 + 16 = omega arith in
       let d : 32 * (i + 1) ≡ 32 * i + 32 = omega arith in
       let a : 2 * (16 * i) ≡ 32 * i = omega arith in
       let n : 32 * i + 32 - 32 * i ≡ 32 = omega arith in
-      let f : x ≡ flowsMeet ms (16 * i + 1) (take 32 (drop (32 * i) fs)) = rw (a, n) at e in
+      let f : x ≡ flowsFit ms (16 * i + 1) (take 32 (drop (32 * i) fs)) = rw (a, n) at e in
       inv ∙ rw (flows-both ms 16 (16 * i + 1) (drop (32 * i) fs) k, ← f, drop-drop 32 (32 * i) fs, c, d) (sym (and-assoc b x _))
 
   pub some-end : 8 ≤ i → b ≡ q
-  unfolding flowsMeet
+  unfolding flowsFit
   some-end h = let z : length fs ≤ 32 * i = omega arith in sym (inv ∙ rw (drop-of-length-le fs z) (no-more b))

@@ -19,7 +19,7 @@ use Rattle.megaco.specs.Map.{digits, marks}
 use Rattle.megaco.proofs.Places.{length-digits, length-marks}
 use Rattle.megaco.specs.Table.{lineTerminations, ephemerals, terminations, contexts, mostLines, fitted, Sized, sized, contextWords, propertyWords, recordWords, ephemeralContexts, ephemeralProperties, startOf, mapStart, mapWords, places, flowWords, isPropertyWord, absentAreZero, recordIsSound, recordsAreSound, flowsAreSound, mapIsSound, sound}
 use Rattle.megaco.proofs.Regions.{context-region, property-region, record-region, map-region, flow-region}
-use Rattle.sound.specs.Parts.{ephemeralIsSound, recordsMeet, flowIsSound, flowsMeet, partsAreSound}
+use Rattle.sound.specs.Parts.{ephemeralIsSound, recordsFit, flowIsSound, flowsFit, partsAreSound}
 use Rattle.base.proofs.TestLaws.{and-both}
 
 -- ---- a test of each word: b tells of the words passed
@@ -68,14 +68,14 @@ module _ (cs ps : List ℕ) (i : ℕ) (b q : Bool) (inv : q ≡ (b && (every isP
 
 -- ---- records against counters
 
-module _ (ms rs : List ℕ) (i : ℕ) (b q : Bool) (inv : q ≡ (b && recordsMeet ms (i + 1) (drop i rs))) where
+module _ (ms rs : List ℕ) (i : ℕ) (b q : Bool) (inv : q ≡ (b && recordsFit ms (i + 1) (drop i rs))) where
   pub meet-on : (x : Bool) → i < length rs → x ≡ recordIsSound (getD rs i 0) (getD ms (i + 1) 0)
-      → q ≡ ((b && x) && recordsMeet ms (i + 1 + 1) (drop (i + 1) rs))
-  unfolding recordsMeet
+      → q ≡ ((b && x) && recordsFit ms (i + 1 + 1) (drop (i + 1) rs))
+  unfolding recordsFit
   meet-on x h e = inv ∙ rw (drop-cons rs i 0, ← e, add-one i) (one-more b x _)
 
   pub meet-end : length rs ≤ i → b ≡ q
-  unfolding recordsMeet
+  unfolding recordsFit
   meet-end h = sym (inv ∙ rw (drop-of-length-le rs h) (no-more b))
 
 -- ---- counters
@@ -113,22 +113,22 @@ unfolding count
 counting-start row = record { long = length-replicate {A = ℕ} counted 0; counts = λ c p h. getD-replicate {A = ℕ} counted c 0 0 h; fits = refl }
 
 meet-counted : (cs ms : List ℕ) (c : ℕ) (rs : List ℕ) → ((k : ℕ) → 0 < k → k < counted → getD ms k 0 ≡ count k cs) → 0 < c → c + length rs ≤ counted
-    → recordsMeet ms c rs ≡ recordsAreSound cs c rs
-unfolding recordsMeet recordsAreSound
+    → recordsFit ms c rs ≡ recordsAreSound cs c rs
+unfolding recordsFit recordsAreSound
 meet-counted cs ms c [] f p h = refl
 meet-counted cs ms c (r ∷ rs) f p h =
     let here : getD ms c 0 ≡ count c cs = f c p (omega arith) in
-    let rest : recordsMeet ms (c + 1) rs ≡ recordsAreSound cs (c + 1) rs = meet-counted cs ms (c + 1) rs f (omega arith) (omega arith) in
+    let rest : recordsFit ms (c + 1) rs ≡ recordsAreSound cs (c + 1) rs = meet-counted cs ms (c + 1) rs f (omega arith) (omega arith) in
     rw (here, rest)
 
 flows-counted : (cs ms : List ℕ) (c : ℕ) (fs : List ℕ) → ((k : ℕ) → 0 < k → k < counted → getD ms k 0 ≡ count k cs) → 0 < c → 2 * c + length fs ≤ 2 * counted
-    → flowsMeet ms c fs ≡ flowsAreSound cs c fs
-unfolding flowsMeet flowsAreSound flowIsSound
+    → flowsFit ms c fs ≡ flowsAreSound cs c fs
+unfolding flowsFit flowsAreSound flowIsSound
 flows-counted cs ms c [] f p h = refl
 flows-counted cs ms c (low ∷ []) f p h = refl
 flows-counted cs ms c (low ∷ high ∷ fs) f p h =
     let here : getD ms c 0 ≡ count c cs = f c p (omega arith) in
-    let rest : flowsMeet ms (c + 1) fs ≡ flowsAreSound cs (c + 1) fs = flows-counted cs ms (c + 1) fs f (omega arith) (omega arith) in
+    let rest : flowsFit ms (c + 1) fs ≡ flowsAreSound cs (c + 1) fs = flows-counted cs ms (c + 1) fs f (omega arith) (omega arith) in
     rw (here, rest)
 
 module _ (row counters : List ℕ) (i : ℕ) (k : Counting row counters i) where
@@ -179,13 +179,13 @@ module _ (row counters : List ℕ) (i : ℕ) (k : Counting row counters i) where
   counting-no q h b = let e : every (λ w. leb w contexts) row ≡ false = k .fits ∙ rw (drop-cons row i 0, lt-leb (getD row i 0) contexts b) in rw e
 
   pub counting-end : (r : Bool) (rs fs : List ℕ) → length row ≤ i → length rs ≤ contexts → length fs ≡ 2 * contexts
-      → r ≡ (recordsMeet counters 1 rs && flowsMeet counters 1 fs) → r ≡ (every (λ w. leb w contexts) row && (recordsAreSound row 1 rs && flowsAreSound row 1 fs))
+      → r ≡ (recordsFit counters 1 rs && flowsFit counters 1 fs) → r ≡ (every (λ w. leb w contexts) row && (recordsAreSound row 1 rs && flowsAreSound row 1 fs))
   unfolding every
   counting-end r rs fs h l b e =
       let t : every (λ w. leb w contexts) row ≡ true = k .fits ∙ rw (drop-of-length-le row h) in
       let a : take i row ≡ row = take-all i row h in
-      let m : recordsMeet counters 1 rs ≡ recordsAreSound row 1 rs = meet-counted row counters 1 rs (λ c p b. k .counts c p b ∙ ap (count c) a) (omega arith) (omega arith) in
-      let f : flowsMeet counters 1 fs ≡ flowsAreSound row 1 fs = flows-counted row counters 1 fs (λ c p b. k .counts c p b ∙ ap (count c) a) (omega arith) (omega arith) in
+      let m : recordsFit counters 1 rs ≡ recordsAreSound row 1 rs = meet-counted row counters 1 rs (λ c p b. k .counts c p b ∙ ap (count c) a) (omega arith) (omega arith) in
+      let f : flowsFit counters 1 fs ≡ flowsAreSound row 1 fs = flows-counted row counters 1 fs (λ c p b. k .counts c p b ∙ ap (count c) a) (omega arith) (omega arith) in
       rw t (e ∙ rw (m, f))
 
 -- both of two tests in turn

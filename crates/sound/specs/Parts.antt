@@ -14,19 +14,19 @@ unfoldable pub ephemeralIsSound : ℕ → ℕ → Bool
 ephemeralIsSound c word = isPropertyWord word && not (eqb c 0 && not (eqb word 0))
 
 -- the records from context c on, the members being counted in a row of counters
-unfoldable pub recordsMeet : List ℕ → ℕ → List ℕ → Bool
-recordsMeet counters c [] = true
-recordsMeet counters c (r ∷ rs) = let q = recordsMeet counters (c + 1) rs in pick (recordIsSound r (getD counters c 0)) q false
+unfoldable pub recordsFit : List ℕ → ℕ → List ℕ → Bool
+recordsFit counters c [] = true
+recordsFit counters c (r ∷ rs) = let q = recordsFit counters (c + 1) rs in pick (recordIsSound r (getD counters c 0)) q false
 
 -- the two words of a context's flows
 unfoldable pub flowIsSound : ℕ → ℕ → ℕ → Bool
 flowIsSound m low high = ltb low (2 ^ 32) && ltb high (2 ^ 32) && squareIsSound m (squareOf low high)
 
 -- the flows from context c on, the members being counted in a row of counters
-unfoldable pub flowsMeet : List ℕ → ℕ → List ℕ → Bool
-flowsMeet counters c [] = true
-flowsMeet counters c (low ∷ []) = false
-flowsMeet counters c (low ∷ high ∷ fs) = let q = flowsMeet counters (c + 1) fs in pick (flowIsSound (getD counters c 0) low high) q false
+unfoldable pub flowsFit : List ℕ → ℕ → List ℕ → Bool
+flowsFit counters c [] = true
+flowsFit counters c (low ∷ []) = false
+flowsFit counters c (low ∷ high ∷ fs) = let q = flowsFit counters (c + 1) fs in pick (flowIsSound (getD counters c 0) low high) q false
 
 -- the places of a square of m members that must be 0: n of row i from place j on, and n rows from row i on, in a row
 unfoldable pub forbiddenRow : ℕ → ℕ → ℕ → ℕ → List Bool

@@ -17,7 +17,7 @@ ghost use Rattle.base.specs.Lists.{every, same};
 ghost use Rattle.megaco.specs.Map.{digits, marks};
 ghost use Rattle.megaco.specs.Square.{bits};
 ghost use Rattle.megaco.specs.Table.{contexts, isPropertyWord, absentAreZero, recordIsSound, recordsAreSound, flowsAreSound, Sized, sized, mapIsSound, sound};
-ghost use Rattle.sound.specs.Parts.{ephemeralIsSound, recordsMeet, flowIsSound, flowsMeet, forbiddenBits, partsAreSound};
+ghost use Rattle.sound.specs.Parts.{ephemeralIsSound, recordsFit, flowIsSound, flowsFit, forbiddenBits, partsAreSound};
 
 // How many context words are tested at once for null.
 const AT_ONCE: usize = 32;
@@ -92,7 +92,7 @@ fn contexts_are_sound(row: &[u32], records: &[u32], flows: &[u32]) -> bool
             i = past_null(row, i);
         }
     }
-    meet(&counters, records, flows)
+    fits(&counters, records, flows)
 }
 
 // Past a null and those that follow it: at the start of a run of AT_ONCE words past them all where each is null, else past one.
@@ -111,17 +111,17 @@ fn past_null(row: &[u32], i: usize) -> usize
 }
 
 // The records and the flows against the counters.
-fn meet(counters: &[u32], records: &[u32], flows: &[u32]) -> bool
+fn fits(counters: &[u32], records: &[u32], flows: &[u32]) -> bool
     requires { ⌜ (length (now counters) ≡ contexts + 1) × (length (now records) ≤ contexts) × (length (now flows) ≡ 2 * contexts) ⌝ }
-    ensures { λ r. ⌜ r ≡ (recordsMeet (now (counters .entry)) 1 (now (records .entry)) && flowsMeet (now (counters .entry)) 1 (now (flows .entry))) ⌝ }
+    ensures { λ r. ⌜ r ≡ (recordsFit (now (counters .entry)) 1 (now (records .entry)) && flowsFit (now (counters .entry)) 1 (now (flows .entry))) ⌝ }
 {
-    records_meet(counters, records) & flows_meet(counters, flows)
+    records_fit(counters, records) & flows_fit(counters, flows)
 }
 
 // The records from context 1 on against the counters.
-fn records_meet(counters: &[u32], records: &[u32]) -> bool
+fn records_fit(counters: &[u32], records: &[u32]) -> bool
     requires { ⌜ length (now records) < length (now counters) ⌝ }
-    ensures { λ r. ⌜ r ≡ recordsMeet (now (counters .entry)) 1 (now (records .entry)) ⌝ }
+    ensures { λ r. ⌜ r ≡ recordsFit (now (counters .entry)) 1 (now (records .entry)) ⌝ }
 {
     let mut good = true;
     let mut i: usize = 0;
@@ -141,29 +141,29 @@ fn record_is_sound(held: u32, members: u32) -> bool
 // ---- flows
 
 // The flows from context 1 on against the counters.
-fn flows_meet(counters: &[u32], flows: &[u32]) -> bool
+fn flows_fit(counters: &[u32], flows: &[u32]) -> bool
     requires { ⌜ (length (now counters) ≡ contexts + 1) × (length (now flows) ≡ 2 * contexts) ⌝ }
-    ensures { λ r. ⌜ r ≡ flowsMeet (now (counters .entry)) 1 (now (flows .entry)) ⌝ }
+    ensures { λ r. ⌜ r ≡ flowsFit (now (counters .entry)) 1 (now (flows .entry)) ⌝ }
 {
     let mut good = true;
     let mut b: usize = 0;
     while b < CONTEXTS as usize / TOGETHER {
         let i = TOGETHER * b;
-        good = good & some_meet(counters, i, &flows[2 * i..2 * i + 2 * TOGETHER]);
+        good = good & some_fit(counters, i, &flows[2 * i..2 * i + 2 * TOGETHER]);
         b += 1;
     }
     good
 }
 
 // The flows of the contexts after context i, TOGETHER of them: most often all are 0, and then they are sound whoever the members are.
-fn some_meet(counters: &[u32], i: usize, flows: &[u32]) -> bool
+fn some_fit(counters: &[u32], i: usize, flows: &[u32]) -> bool
     requires { ⌜ (i + 16 < length (now counters)) × (length (now flows) ≡ 32) ⌝ }
-    ensures { λ r. ⌜ r ≡ flowsMeet (now (counters .entry)) (i + 1) (now (flows .entry)) ⌝ }
+    ensures { λ r. ⌜ r ≡ flowsFit (now (counters .entry)) (i + 1) (now (flows .entry)) ⌝ }
 {
     if is_zero(flows) {
         return true;
     }
-    each_meets(counters, i, flows)
+    each_fits(counters, i, flows)
 }
 
 // Whether all words are 0.
@@ -179,9 +179,9 @@ fn is_zero(row: &[u32]) -> bool
     good
 }
 
-fn each_meets(counters: &[u32], i: usize, flows: &[u32]) -> bool
+fn each_fits(counters: &[u32], i: usize, flows: &[u32]) -> bool
     requires { ⌜ (i + 16 < length (now counters)) × (length (now flows) ≡ 32) ⌝ }
-    ensures { λ r. ⌜ r ≡ flowsMeet (now (counters .entry)) (i + 1) (now (flows .entry)) ⌝ }
+    ensures { λ r. ⌜ r ≡ flowsFit (now (counters .entry)) (i + 1) (now (flows .entry)) ⌝ }
 {
     let mut good = true;
     let mut k: usize = 0;

@@ -11,8 +11,7 @@ use borrow.Author.Tests.{lt-ltb, le-ltb, eq-eqb, ne-eqb, eqb-true, eqb-false}
 use mir.Val.{boolByte}
 use Rattle.base.specs.Pick.{pick}
 use Rattle.megaco.specs.Square.{Square, bits, ofBits, rows, ofRows, squareOf, lowOf, highOf, flowAt, paired, directed, joinedFlow, joinedRow, upTo}
-use Rattle.megaco.specs.declared.Direction.{Direction}
-use Rattle.megaco.specs.declared.Direction.the-variants.{Isolate, Oneway, Bothway}
+use Rattle.types.specs.Types.{Direction, Isolate, Oneway, Bothway}
 
 -- ---- the code's returns
 pub unpacked : (low high : ℕ) (a b c d e f g h : List Bool) → a ≡ bits 8 (low % 256) → b ≡ bits 8 (low / 256 % 256) → c ≡ bits 8 (low / 256 / 256 % 256) → d ≡ bits 8 (low / 256 / 256 / 256 % 256)
@@ -72,58 +71,23 @@ abbrev pub NoneOf : List ℕ → ℕ → Type 0
 NoneOf [] x = Unit {0}
 NoneOf (k ∷ ks) x = NoneOf ks x × (x ≡ k → ⊥)
 
-pub large : (m : ℕ) → NoneOf (7 ∷ 6 ∷ 5 ∷ 4 ∷ 3 ∷ 2 ∷ 1 ∷ 0 ∷ []) m → 8 ≤ m
-large zero n = absurd (n .0 .0 .0 .0 .0 .0 .0 .1 refl)
-large (suc zero) n = absurd (n .0 .0 .0 .0 .0 .0 .1 refl)
-large (suc (suc zero)) n = absurd (n .0 .0 .0 .0 .0 .1 refl)
-large (suc (suc (suc zero))) n = absurd (n .0 .0 .0 .0 .1 refl)
-large (suc (suc (suc (suc zero)))) n = absurd (n .0 .0 .0 .1 refl)
-large (suc (suc (suc (suc (suc zero))))) n = absurd (n .0 .0 .1 refl)
-large (suc (suc (suc (suc (suc (suc zero)))))) n = absurd (n .0 .1 refl)
-large (suc (suc (suc (suc (suc (suc (suc zero))))))) n = absurd (n .1 refl)
-large (suc (suc (suc (suc (suc (suc (suc (suc m)))))))) n = omega arith
+-- the numbers below n, the highest first
+abbrev pub downFrom : ℕ → List ℕ
+downFrom zero = []
+downFrom (suc n) = n ∷ downFrom n
 
-module _ (r : List Bool) (k : ℕ) where
-  pub opened-0 : k ≡ 0 → (true ∷ getD r 0 false ∷ getD r 1 false ∷ getD r 2 false ∷ getD r 3 false ∷ getD r 4 false ∷ getD r 5 false ∷ getD r 6 false ∷ []) ≡ upTo 8 (λ j. pick (eqb j k) true (getD r (pick (ltb k j) (j - 1) j) false))
-  unfolding upTo pick
-  opened-0 e = rw e
-
-  pub opened-1 : k ≡ 1 → (getD r 0 false ∷ true ∷ getD r 1 false ∷ getD r 2 false ∷ getD r 3 false ∷ getD r 4 false ∷ getD r 5 false ∷ getD r 6 false ∷ []) ≡ upTo 8 (λ j. pick (eqb j k) true (getD r (pick (ltb k j) (j - 1) j) false))
-  unfolding upTo pick
-  opened-1 e = rw e
-
-  pub opened-2 : k ≡ 2 → (getD r 0 false ∷ getD r 1 false ∷ true ∷ getD r 2 false ∷ getD r 3 false ∷ getD r 4 false ∷ getD r 5 false ∷ getD r 6 false ∷ []) ≡ upTo 8 (λ j. pick (eqb j k) true (getD r (pick (ltb k j) (j - 1) j) false))
-  unfolding upTo pick
-  opened-2 e = rw e
-
-  pub opened-3 : k ≡ 3 → (getD r 0 false ∷ getD r 1 false ∷ getD r 2 false ∷ true ∷ getD r 3 false ∷ getD r 4 false ∷ getD r 5 false ∷ getD r 6 false ∷ []) ≡ upTo 8 (λ j. pick (eqb j k) true (getD r (pick (ltb k j) (j - 1) j) false))
-  unfolding upTo pick
-  opened-3 e = rw e
-
-  pub opened-4 : k ≡ 4 → (getD r 0 false ∷ getD r 1 false ∷ getD r 2 false ∷ getD r 3 false ∷ true ∷ getD r 4 false ∷ getD r 5 false ∷ getD r 6 false ∷ []) ≡ upTo 8 (λ j. pick (eqb j k) true (getD r (pick (ltb k j) (j - 1) j) false))
-  unfolding upTo pick
-  opened-4 e = rw e
-
-  pub opened-5 : k ≡ 5 → (getD r 0 false ∷ getD r 1 false ∷ getD r 2 false ∷ getD r 3 false ∷ getD r 4 false ∷ true ∷ getD r 5 false ∷ getD r 6 false ∷ []) ≡ upTo 8 (λ j. pick (eqb j k) true (getD r (pick (ltb k j) (j - 1) j) false))
-  unfolding upTo pick
-  opened-5 e = rw e
-
-  pub opened-6 : k ≡ 6 → (getD r 0 false ∷ getD r 1 false ∷ getD r 2 false ∷ getD r 3 false ∷ getD r 4 false ∷ getD r 5 false ∷ true ∷ getD r 6 false ∷ []) ≡ upTo 8 (λ j. pick (eqb j k) true (getD r (pick (ltb k j) (j - 1) j) false))
-  unfolding upTo pick
-  opened-6 e = rw e
-
-  pub opened-7 : k ≡ 7 → (getD r 0 false ∷ getD r 1 false ∷ getD r 2 false ∷ getD r 3 false ∷ getD r 4 false ∷ getD r 5 false ∷ getD r 6 false ∷ true ∷ []) ≡ upTo 8 (λ j. pick (eqb j k) true (getD r (pick (ltb k j) (j - 1) j) false))
-  unfolding upTo pick
-  opened-7 e = rw e
+pub large : (n m : ℕ) → NoneOf (downFrom n) m → n ≤ m
+large zero m h = omega arith
+large (suc n) m h = let k = large n m (h .0) in let d = h .1 in omega (arith, k, d)
 
 -- past the row nothing is opened
-pub opened-past : (r : List Bool) (k : ℕ) → length r ≡ 8 → NoneOf (7 ∷ 6 ∷ 5 ∷ 4 ∷ 3 ∷ 2 ∷ 1 ∷ 0 ∷ []) k
+pub opened-past : (r : List Bool) (k : ℕ) → length r ≡ 8 → NoneOf (downFrom 8) k
     → r ≡ upTo 8 (λ j. pick (eqb j k) true (getD r (pick (ltb k j) (j - 1) j) false))
 unfolding pick
 opened-past r k l n = sym (row-alike 8 _ (λ j. getD r j false) at-place ∙ row-of-places 8 r l)
   where
     at-place : (j : ℕ) → j < 8 → pick (eqb j k) true (getD r (pick (ltb k j) (j - 1) j) false) ≡ getD r j false
-    at-place j h = let m = large k n in rw (ne-eqb j k (λ e. omega (arith, e)), le-ltb k j (omega arith))
+    at-place j h = let m = large 8 k n in rw (ne-eqb j k (λ e. omega (arith, e)), le-ltb k j (omega arith))
 
 -- ---- a member joins
 eqb-turned : (a b : ℕ) → eqb a b ≡ eqb b a
@@ -196,10 +160,6 @@ module _ (q : Square) (m k i : ℕ) (used : List Bool) (u : used ≡ upTo 8 (λ 
   joined-none l = rw (le-ltb i m l)
 
 -- a bit as a number
-pub bit-small : (b : Bool) → boolByte b ≤ 1
-bit-small true = omega arith
-bit-small false = omega arith
-
 pub bit-pick : (b : Bool) (n r : ℕ) → r ≡ boolByte b + 2 * n → (r ≡ pick b 1 0 + 2 * n) × (r ≤ 2 * n + 1)
 unfolding pick
 bit-pick true n r e = (e, omega (arith, e))

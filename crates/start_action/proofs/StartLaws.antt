@@ -19,22 +19,18 @@ use Rattle.megaco.specs.Square.{Square}
 use Rattle.megaco.specs.Topology.{triplesOf, anyTopology, Link, linksOf, setLinks}
 use Rattle.megaco.specs.Attempt.{check, judge, numberOf, seen, flowing, flowsOf}
 use Rattle.megaco.specs.Action.{linkChecks, flowWrites, newRecord, anyGiven, over15, setProperties, startChecks, startWrites}
-use Rattle.megaco.specs.declared.Context.{Context}
-use Rattle.megaco.specs.declared.Context.the-variants.{Null, Numbered, Choose, All}
-use Rattle.megaco.specs.declared.Checked.{Checked}
-use Rattle.megaco.specs.declared.Checked.the-variants.{Passes, Fails}
-use Rattle.megaco.specs.declared.Seen.{Seen}
-use Rattle.megaco.specs.declared.Property.{Property}
-use Rattle.megaco.specs.declared.Property.the-variants.{Priority, Emergency, Topology}
+use Rattle.types.specs.Types.{Context, Null, Numbered, Choose, All, Checked, Passes, Fails, Parsed, Next, Fault, Seen, Property, Priority, Emergency, Topology}
 use Rattle.read_command.specs.Production.{pastSign}
 use Rattle.read_command.specs.Places.{propertyAt, propertiesOf}
+use Rattle.command_places.specs.Found.{nextAt}
+use Rattle.command_places.proofs.NextLaws.{part-last, part-more}
 use Rattle.action_places.specs.declared.PropertyPlaces.{PropertyPlaces}
 use Rattle.action_places.specs.ActionPlaces.{kindOf, propertyPlaces}
 use Rattle.attempt.proofs.JudgeLaws.{passed-first}
 use Rattle.start_action.specs.declared.PropertiesRead.{PropertiesRead}
-use Rattle.topology.specs.Links.{flowsAfter}
+use Rattle.topology.specs.Links.{isTopology, flowsAfter}
 use Rattle.start_action.specs.declared.Tested.{Tested}
-use Rattle.start_action.specs.Starting.{overOne, setOne, topologyOne, propertiesIn, givenBy, judgedStart, linked, Tests, propertyWrites, wroteStart}
+use Rattle.start_action.specs.Starting.{overOne, setOne, propertiesIn, givenBy, judgedStart, linked, Tests, propertyWrites, wroteStart}
 
 -- ---- one property
 
@@ -50,18 +46,6 @@ module _ (x : Property) where
   pub over-topology : x ≡ Topology → false ≡ overOne x
   unfolding overOne
   over-topology e = rw e
-
-  pub is-priority : (n : ℕ) → x ≡ Priority n → false ≡ topologyOne x
-  unfolding topologyOne
-  is-priority n e = rw e
-
-  pub is-emergency : x ≡ Emergency → false ≡ topologyOne x
-  unfolding topologyOne
-  is-emergency e = rw e
-
-  pub is-topology : x ≡ Topology → true ≡ topologyOne x
-  unfolding topologyOne
-  is-topology e = rw e
 
   pub priority-small : (n : ℕ) → overOne x ≡ false → x ≡ Priority n → n ≤ 15
   unfolding overOne
@@ -82,18 +66,6 @@ module _ (x : Property) where
   pub set-topology : (r : ℕ) → x ≡ Topology → r ≡ setOne x r
   unfolding setOne
   set-topology r e = rw e
-
-  pub topology-priority : (n : ℕ) → x ≡ Priority n → false ≡ topologyOne x
-  unfolding topologyOne
-  topology-priority n e = rw e
-
-  pub topology-emergency : x ≡ Emergency → false ≡ topologyOne x
-  unfolding topologyOne
-  topology-emergency e = rw e
-
-  pub topology-topology : x ≡ Topology → true ≡ topologyOne x
-  unfolding topologyOne
-  topology-topology e = rw e
 
 -- ---- the properties in turn
 
@@ -180,21 +152,20 @@ module _ (s : List ℕ) (at held n i a b : ℕ) (inv : Leads (propertiesIn s at)
             let y : over15 (propertiesIn s at) ≡ true = one .over ∙ over-cons (propertyAt s i .tree) behind ∙ rw x in
             rw y
 
-        module _ (f : o ≡ false) (a′ b′ : ℕ) (ea : a′ ≡ setOne (p .property) a) (eb : b′ ≡ setOne (p .property) b) (x : Bool) (g : x ≡ isAt s (p .end) comma) where
+        module _ (f : o ≡ false) (a′ b′ : ℕ) (ea : a′ ≡ setOne (p .property) a) (eb : b′ ≡ setOne (p .property) b) (x : Parsed) (g : x ≡ nextAt s (p .end)) where
           next : (rs : List tree.Property) → behind ≡ rs → Leads (propertiesIn s at) rs held a′ b′
           next rs k =
               let u : a′ ≡ setOne (kindOf (propertyAt s i .tree)) a = ea ∙ ap (λ (y : Property). setOne y a) kind in
               let v : b′ ≡ setOne (kindOf (propertyAt s i .tree)) b = eb ∙ ap (λ (y : Property). setOne y b) kind in
               rw (u, v, ← k) (leads-on (propertiesIn s at) held a b (propertyAt s i .tree) behind (sym (w ∙ ap overOne kind) ∙ f) one)
 
-          pub read-last : x ≡ false → given false a′ b′ ≡ givenBy (propertiesIn s at) held
-          unfolding pick behind
-          read-last k = all-set a′ b′ (next [] (rw (← g, k)))
+          pub read-last : x ≡ Fault → given false a′ b′ ≡ givenBy (propertiesIn s at) held
+          unfolding behind
+          read-last k = all-set a′ b′ (next [] (part-last s (p .end) (p .end) refl x g (propertiesOf (length s + 1 - (n + 1)) s) [] k))
 
-          pub read-more : (u : ℕ) → x ≡ true → u ≡ pastSign comma s (p .end)
-              → Leads (propertiesIn s at) (propertiesOf (length s + 1 - (n + 1)) s u) held a′ b′
-          unfolding pick behind
-          read-more u k l = next (propertiesOf (length s + 1 - (n + 1)) s u) (rw (← g, k, l))
+          pub read-more : (u : ℕ) → x ≡ Next u → Leads (propertiesIn s at) (propertiesOf (length s + 1 - (n + 1)) s u) held a′ b′
+          unfolding behind
+          read-more u k = next (propertiesOf (length s + 1 - (n + 1)) s u) (part-more s (p .end) (p .end) refl x g (propertiesOf (length s + 1 - (n + 1)) s) [] u k)
 
 -- who has them as one value has each of them
 module _ (ps : List tree.Property) (was : ℕ) (g : PropertiesRead) (e : g ≡ givenBy ps was) where
@@ -215,8 +186,8 @@ module _ (ps : List tree.Property) (was : ℕ) (g : PropertiesRead) (e : g ≡ g
 unfoldable pub topologyFrom : List ℕ → ℕ → ℕ → Bool
 topologyFrom s n i = anyTopology (propertiesOf (length s + 1 - n) s i)
 
-topology-cons : (x : tree.Property) (ps : List tree.Property) → anyTopology (x ∷ ps) ≡ (topologyOne (kindOf x) || anyTopology ps)
-unfolding anyTopology topologyOne kindOf
+topology-cons : (x : tree.Property) (ps : List tree.Property) → anyTopology (x ∷ ps) ≡ (isTopology (kindOf x) || anyTopology ps)
+unfolding anyTopology isTopology kindOf
 topology-cons (priority n) ps = refl
 topology-cons emergency ps = refl
 topology-cons (topology ts) ps = refl
@@ -235,7 +206,7 @@ module _ (s : List ℕ) (n i : ℕ) (q : Bool) (inv : q ≡ topologyFrom s n i) 
     unfolding topologyFrom propertiesOf anyTopology pick
     seek-end f = let k : length s + 1 - n ≡ suc (length s + 1 - (n + 1)) = omega arith in sym (inv ∙ rw (k, ← d, f))
 
-    module _ (t : z ≡ true) (p : PropertyPlaces) (e : p ≡ propertyPlaces s i) (o : Bool) (w : o ≡ topologyOne (p .property)) where
+    module _ (t : z ≡ true) (p : PropertyPlaces) (e : p ≡ propertyPlaces s i) (o : Bool) (w : o ≡ isTopology (p .property)) where
       sought : q ≡ (o || anyTopology (pick (isAt s (p .end) comma) (propertiesOf (length s + 1 - (n + 1)) s (pastSign comma s (p .end))) []))
       unfolding topologyFrom propertiesOf propertyPlaces pick
       sought =
@@ -244,22 +215,22 @@ module _ (s : List ℕ) (n i : ℕ) (q : Bool) (inv : q ≡ topologyFrom s n i) 
           let u : p .end ≡ propertyAt s i .end = ap (λ (y : PropertyPlaces). y .end) e in
           let rest : ℕ → List tree.Property = λ v. pick (isAt s v comma) (propertiesOf (length s + 1 - (n + 1)) s (pastSign comma s v)) [] in
           let first : q ≡ anyTopology (propertyAt s i .tree ∷ rest (propertyAt s i .end)) = inv ∙ rw (k, ← d, t) in
-          let next : anyTopology (propertyAt s i .tree ∷ rest (propertyAt s i .end)) ≡ (topologyOne (kindOf (propertyAt s i .tree)) || anyTopology (rest (propertyAt s i .end))) =
+          let next : anyTopology (propertyAt s i .tree ∷ rest (propertyAt s i .end)) ≡ (isTopology (kindOf (propertyAt s i .tree)) || anyTopology (rest (propertyAt s i .end))) =
           topology-cons (propertyAt s i .tree) (rest (propertyAt s i .end)) in
-          let same : o ≡ topologyOne (kindOf (propertyAt s i .tree)) = w ∙ ap topologyOne x in
+          let same : o ≡ isTopology (kindOf (propertyAt s i .tree)) = w ∙ ap isTopology x in
           first ∙ next ∙ rw (same, u)
 
       pub seek-found : o ≡ true → true ≡ q
       seek-found f = sym (sought ∙ rw f)
 
-      module _ (f : o ≡ false) (y : Bool) (g : y ≡ isAt s (p .end) comma) where
-        pub seek-last : y ≡ false → false ≡ q
-        unfolding anyTopology pick
-        seek-last k = sym (sought ∙ rw (f, ← g, k))
+      module _ (f : o ≡ false) (y : Parsed) (g : y ≡ nextAt s (p .end)) where
+        pub seek-last : y ≡ Fault → false ≡ q
+        unfolding anyTopology
+        seek-last k = sym (sought ∙ rw (f, part-last s (p .end) (p .end) refl y g (propertiesOf (length s + 1 - (n + 1)) s) [] k))
 
-        pub seek-more : (u : ℕ) → y ≡ true → u ≡ pastSign comma s (p .end) → q ≡ topologyFrom s (n + 1) u
-        unfolding topologyFrom pick
-        seek-more u k l = sought ∙ rw (f, ← g, k, l)
+        pub seek-more : (u : ℕ) → y ≡ Next u → q ≡ topologyFrom s (n + 1) u
+        unfolding topologyFrom
+        seek-more u k = sought ∙ rw (f, part-more s (p .end) (p .end) refl y g (propertiesOf (length s + 1 - (n + 1)) s) [] u k)
 
 -- there is none where no property stands
 pub none-given : (s : List ℕ) (at : ℕ) (any : Bool) → any ≡ isProperty (wordHere s at) → any ≡ false → false ≡ anyTopology (propertiesIn s at)

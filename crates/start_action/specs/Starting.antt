@@ -12,12 +12,7 @@ use Rattle.megaco.specs.Square.{Square}
 use Rattle.megaco.specs.Topology.{triplesOf, anyTopology, linksOf}
 use Rattle.megaco.specs.Attempt.{judge, numberOf, flowing}
 use Rattle.megaco.specs.Action.{linkChecks, newRecord, over15, setProperties}
-use Rattle.megaco.specs.declared.Checked.{Checked}
-use Rattle.megaco.specs.declared.Checked.the-variants.{Passes, Fails}
-use Rattle.megaco.specs.declared.Context.{Context}
-use Rattle.megaco.specs.declared.Context.the-variants.{Null, Numbered, Choose, All}
-use Rattle.megaco.specs.declared.Property.{Property}
-use Rattle.megaco.specs.declared.Property.the-variants.{Priority, Emergency, Topology}
+use Rattle.types.specs.Types.{Checked, Passes, Fails, Context, Null, Numbered, Choose, All, Property, Priority, Emergency, Topology}
 use Rattle.read_command.specs.Places.{propertiesOf}
 use Rattle.start_action.specs.declared.PropertiesRead.{PropertiesRead}
 use Rattle.start_action.specs.declared.Tested.{Tested}
@@ -33,11 +28,6 @@ unfoldable pub setOne : Property → ℕ → ℕ
 setOne (Priority n) r = 1 + n + 16 * emergencyOf r
 setOne Emergency r = 1 + priorityOf r + 16
 setOne Topology r = r
-
-unfoldable pub topologyOne : Property → Bool
-topologyOne (Priority n) = false
-topologyOne Emergency = false
-topologyOne Topology = true
 
 -- the properties that begin here
 unfoldable pub propertiesIn : List ℕ → ℕ → List tree.Property

@@ -7,9 +7,10 @@ ghost use Rattle.megaco.specs.Reading.{isProperty, wordHere};
 ghost use Rattle.megaco.specs.Topology.{anyTopology};
 ghost use Rattle.megaco.specs.Attempt.{numberOf};
 ghost use Rattle.topology.specs.Links.{flowsAfter};
-ghost use Rattle.start_action.specs.Starting.{overOne, setOne, topologyOne, judgedStart, linked, Tests, propertyWrites, wroteStart, propertiesIn, givenBy};
+ghost use Rattle.start_action.specs.Starting.{overOne, setOne, judgedStart, linked, Tests, propertyWrites, wroteStart, propertiesIn, givenBy};
 use megaco::Checked;
 use megaco::Context;
+use megaco::Parsed;
 use megaco::Property;
 
 // The properties of an action: whether a priority is over 15, and if not, the record that they make of a new context's and of the
@@ -66,16 +67,16 @@ pub fn read_properties(s: &[u8], at: usize, held: u32) -> PropertiesRead
             }
             a = set_one(x, a);
             b = set_one(x, b);
-            if text::is_at(s, e, b',') {
-                i = command_places::past_comma(s, e);
-                n += 1;
-            } else {
+            let y = command_places::next_part(s, e);
+            let Parsed::Next(u) = y else {
                 return PropertiesRead {
                     over: false,
                     fresh: a,
                     held: b,
                 };
-            }
+            };
+            i = u;
+            n += 1;
         } else {
             return PropertiesRead {
                 over: false,
@@ -102,30 +103,20 @@ fn has_topology(s: &[u8], at: usize) -> bool
             let p = action_places::property_places(s, i);
             let x = p.property;
             let e = p.end;
-            if is_topology(x) {
+            if topology::is_topology(x) {
                 return true;
             }
-            if text::is_at(s, e, b',') {
-                i = command_places::past_comma(s, e);
-                n += 1;
-            } else {
+            let y = command_places::next_part(s, e);
+            let Parsed::Next(u) = y else {
                 return false;
-            }
+            };
+            i = u;
+            n += 1;
         } else {
             return false;
         }
     }
     false
-}
-
-fn is_topology(x: Property) -> bool
-    ensures { λ r. ⌜ r ≡ topologyOne x ⌝ }
-{
-    match x {
-        Property::Priority(_) => false,
-        Property::Emergency => false,
-        Property::Topology => true,
-    }
 }
 
 // ---- the tests
@@ -177,7 +168,7 @@ fn judge_links(s: &[u8], body: usize, table: &[u32], c: Context, topology: bool)
     ensures { λ r. ⌜ r ≡ linked c (propertiesIn (now (s .entry)) body) (now (table .entry)) ⌝ }
 {
     if topology {
-        return topology::judge_topology(s, body, table, attempt_view::number_of(c));
+        return topology::judge_topology(s, body, table, c.number());
     }
     Checked::Passes
 }

@@ -59,10 +59,6 @@ module _ (t : List ℕ) (c k : ℕ) (e : k ≡ address (fitted t) (cell (flow (l
   high-put u v p = p ∙ ap (λ (m : ℕ). set t m v) next-flow
 
 -- a test as a number
-pub bit-small : (b : Bool) → boolByte b ≤ 1
-bit-small true = omega arith
-bit-small false = omega arith
-
 bit-pick : (b : Bool) → boolByte b ≡ pick b 1 0
 unfolding pick
 bit-pick true = refl

@@ -32,9 +32,9 @@ const MAP: usize = 2;
 const FLOWS: usize = 2 * CONTEXTS as usize;
 
 // The words of a table without lines, and those that each line adds.
-const NO_LINES: usize = 2 * EPHEMERALS as usize + CONTEXTS as usize + MAP + FLOWS;
+pub const NO_LINES: usize = 2 * EPHEMERALS as usize + CONTEXTS as usize + MAP + FLOWS;
 
-const LINE: usize = 2 * CHANNELS;
+pub const LINE: usize = 2 * CHANNELS;
 
 // ---- sizes
 

@@ -3,15 +3,20 @@
 //     W n                the first n words of a fresh table
 //     N name             a name
 use libc::STDIN_FILENO;
-use libc::STDOUT_FILENO;
 use megaco::Name;
 use megaco::Range;
+use table::LINE;
+use table::NO_LINES;
 ghost use mathlib.Core.Path.{_≡_};
-ghost use Prim.Native.Nat.{_≤_};
 ghost use lib.ListN.{length};
 
+// The words of a table of eight lines, and one more.
+const WORDS: usize = NO_LINES + 8 * LINE;
+
+const ROOM: usize = WORDS + 1;
+
 fn main() {
-    let mut room = [0u32; 1011];
+    let mut room = [0u32; ROOM];
     let mut input = io::buffer();
     let n = io::read_full(STDIN_FILENO, &mut input);
     run(&mut room, &input[..n]);
@@ -24,26 +29,12 @@ fn run(room: &mut [u32], s: &[u8])
 {
     let mut a: usize = 0;
     while a < s.len() {
-        let e = line_end(s, a);
-        say(&s[a..e]);
+        let e = a + program_io::line_length(&s[a..]);
+        program_io::print(&s[a..e]);
         case(room, &s[a..e]);
-        say(b"\n");
+        program_io::print(b"\n");
         a = e + 1;
     }
-}
-
-fn line_end(s: &[u8], a: usize) -> usize
-    requires { ⌜ a ≤ length (now s) ⌝ }
-    ensures { λ r. ⌜ (a ≤ r) × (r ≤ length (now (s .entry))) ⌝ }
-{
-    let mut i = a;
-    while i < s.len() {
-        if s[i] == b'\n' {
-            return i;
-        }
-        i += 1;
-    }
-    i
 }
 
 fn case(room: &mut [u32], line: &[u8])
@@ -53,7 +44,7 @@ fn case(room: &mut [u32], line: &[u8])
         return;
     }
     if line[0] == b'T' {
-        table_case(&mut room[0..1010], line);
+        table_case(&mut room[0..WORDS], line);
         return;
     }
     if line[0] == b'W' {
@@ -78,16 +69,12 @@ fn number(line: &[u8], k: u32) -> u32 {
 
 // A number with one digit more, if the byte is one and counts.
 fn number_on(n: u64, counts: bool, b: u8) -> u64 {
-    if counts & (48 <= b) & (b <= 57) {
+    if counts & (b'0' <= b) & (b <= b'9') {
         if n < 1000000000 {
-            return n * 10 + wide(b) % 48;
+            return n * 10 + program_io::digit(b) as u64;
         }
     }
     n
-}
-
-fn wide(b: u8) -> u64 {
-    b as u64
 }
 
 fn word(n: u64) -> u32 {
@@ -96,33 +83,15 @@ fn word(n: u64) -> u32 {
 
 // ---- writing
 
-fn say(s: &[u8]) {
-    io::write_all(STDOUT_FILENO, s);
-}
-
-fn say_number(s: &[u8], n: u64) {
-    io::write_all(STDOUT_FILENO, s);
-    io::print_decimal(STDOUT_FILENO, n);
-}
-
-fn say_sound(t: &[u32]) {
+fn print_sound(t: &[u32]) {
     if sound::is_sound(t) {
-        say(b": sound");
+        program_io::print(b": sound");
     } else {
-        say(b": not sound");
+        program_io::print(b": not sound");
     }
 }
 
 // ---- tables
-
-// One word from a place up to another.
-fn put_run(t: &mut [u32], from: usize, to: usize, v: u32) {
-    let mut i = from;
-    while i < to {
-        table::put_word(t, i, v);
-        i += 1;
-    }
-}
 
 // Eight terminations from a number on in each of contexts 1, 2, ..
 fn put_eights(t: &mut [u32], from: usize) {
@@ -144,37 +113,37 @@ fn put_spread(t: &mut [u32]) {
 
 // L/1/1 to L/1/3 in context 1, L/8/31 and R/1 in context 128.
 fn put_busy(t: &mut [u32]) {
-    put_run(t, 0, 3, 1);
-    put_run(t, 247, 249, 128);
-    put_run(t, 312, 315, 3);
-    put_run(t, 624, 625, 1);
-    put_run(t, 751, 752, 32);
-    put_run(t, 752, 753, 1);
+    program_io::put_run(t, 0, 3, 1);
+    program_io::put_run(t, 247, 249, 128);
+    program_io::put_run(t, 312, 315, 3);
+    program_io::put_run(t, 624, 625, 1);
+    program_io::put_run(t, 751, 752, 32);
+    program_io::put_run(t, 752, 753, 1);
 }
 
 // 1: busy; 2: 128 contexts; 3: contexts of 8; 4: 64 ephemerals in contexts of 8; else fresh.
 fn start(t: &mut [u32], base: u32) {
-    put_run(t, 0, 1010, 0);
+    program_io::put_run(t, 0, WORDS, 0);
     if base == 1 {
         put_busy(t);
         return;
     }
     if base == 2 {
         put_spread(t);
-        put_run(t, 624, 752, 17);
-        put_run(t, 752, 754, 4294967295);
+        program_io::put_run(t, 624, 752, 17);
+        program_io::put_run(t, 752, 754, 4294967295);
         return;
     }
     if base == 3 {
         put_eights(t, 0);
-        put_run(t, 624, 663, 32);
-        put_run(t, 752, 754, 4294967295);
+        program_io::put_run(t, 624, 663, 32);
+        program_io::put_run(t, 752, 754, 4294967295);
         return;
     }
     if base == 4 {
         put_eights(t, 248);
-        put_run(t, 624, 632, 1);
-        put_run(t, 752, 754, 4294967295);
+        program_io::put_run(t, 624, 632, 1);
+        program_io::put_run(t, 752, 754, 4294967295);
     }
 }
 
@@ -189,18 +158,18 @@ fn table_case(t: &mut [u32], line: &[u8])
 fn report(t: &[u32], c: u32)
     requires { ⌜ length (now t) ≡ 1010 ⌝ }
 {
-    say_sound(t);
-    say_number(b", members ", table::members(t, c) as u64);
-    say_number(b", free context ", table::free_context(t) as u64);
-    say_number(b", free ephemeral ", table::free_ephemeral(t) as u64);
-    say_number(b", ephemerals ", table::used_ephemerals(t) as u64);
+    print_sound(t);
+    program_io::print_number(b", members ", table::members(t, c) as u64);
+    program_io::print_number(b", free context ", table::free_context(t) as u64);
+    program_io::print_number(b", free ephemeral ", table::free_ephemeral(t) as u64);
+    program_io::print_number(b", ephemerals ", table::used_ephemerals(t) as u64);
 }
 
 fn length_case(room: &mut [u32], n: u32) {
-    put_run(room, 0, 1011, 0);
+    program_io::put_run(room, 0, 1011, 0);
     let e = n as usize;
     if e <= room.len() {
-        say_sound(&room[0..e]);
+        print_sound(&room[0..e]);
     }
 }
 
@@ -210,13 +179,13 @@ fn length_case(room: &mut [u32], n: u32) {
 fn name_case(n: &[u8]) {
     let r = names::name_of(8, n);
     match r {
-        Name::Termination(i) => say_number(b": termination ", i as u64),
-        Name::Root => say(b": root"),
-        Name::Chosen => say(b": chosen"),
-        Name::Unchosen => say(b": not to be chosen"),
-        Name::Wildcard(w) => say_number(b": wildcard over ", in_all(w)),
-        Name::Unmatched => say(b": matches nobody"),
-        Name::Unknown => say(b": unknown"),
+        Name::Termination(i) => program_io::print_number(b": termination ", i as u64),
+        Name::Root => program_io::print(b": root"),
+        Name::Chosen => program_io::print(b": chosen"),
+        Name::Unchosen => program_io::print(b": not to be chosen"),
+        Name::Wildcard(w) => program_io::print_number(b": wildcard over ", in_all(w)),
+        Name::Unmatched => program_io::print(b": matches nobody"),
+        Name::Unknown => program_io::print(b": unknown"),
     }
 }
 

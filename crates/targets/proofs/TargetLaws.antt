@@ -8,11 +8,7 @@ use borrow.Author.Tests.{ne-eqb}
 use Rattle.base.specs.Pick.{pick}
 use Rattle.megaco.specs.Table.{lineTerminations, fitted, ctx, get, exists, freeEphemeral}
 use Rattle.megaco.specs.Command.{noTarget, rootTargets, freeTargets, targetsOf, isAdd, inPlace, isNull}
-use Rattle.megaco.specs.declared.Context.{Context}
-use Rattle.megaco.specs.declared.Op.{Op}
-use Rattle.megaco.specs.declared.Name.{Name}
-use Rattle.megaco.specs.declared.Name.the-variants.{Termination, Root, Chosen, Unchosen, Wildcard, Unmatched, Unknown}
-use Rattle.megaco.specs.declared.Range.{Range}
+use Rattle.types.specs.Types.{Context, Op, Name, Termination, Root, Chosen, Unchosen, Wildcard, Unmatched, Unknown, Range}
 use Rattle.targets.specs.declared.Target.{Target}
 use Rattle.targets.specs.declared.Target.the-variants.{NoTarget, One, Many}
 use Rattle.targets.specs.Targets.{rootTarget, freeTarget, unchosenTarget, oneTarget, targetOf, targetsIn}

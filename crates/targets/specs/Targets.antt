@@ -6,10 +6,7 @@ use lib.Dec.{eqb}
 use Rattle.base.specs.Pick.{pick}
 use Rattle.megaco.specs.Table.{fitted, ctx, get, lineTerminations, exists, freeEphemeral}
 use Rattle.megaco.specs.Command.{Targets, noTarget, gateway, targets, matchTargets, matches, isAdd, inPlace, isNull}
-use Rattle.megaco.specs.declared.Context.{Context}
-use Rattle.megaco.specs.declared.Op.{Op}
-use Rattle.megaco.specs.declared.Name.{Name}
-use Rattle.megaco.specs.declared.Name.the-variants.{Termination, Root, Chosen, Unchosen, Wildcard, Unmatched, Unknown}
+use Rattle.types.specs.Types.{Context, Op, Name, Termination, Root, Chosen, Unchosen, Wildcard, Unmatched, Unknown}
 use Rattle.targets.specs.declared.Target.{Target}
 use Rattle.targets.specs.declared.Target.the-variants.{NoTarget, Gateway, One, Many}
 

@@ -1,7 +1,6 @@
 // Whom a command's name means (document 01, test 4).
 ghost use mathlib.Core.Path.{_≡_};
 ghost use Rattle.megaco.specs.Table.{Sized};
-ghost use Rattle.megaco.specs.Command.{isAdd, isSubtract, inPlace, isNull};
 ghost use Rattle.targets.specs.Targets.{rootTarget, freeTarget, unchosenTarget, oneTarget, targetOf};
 use megaco::Context;
 use megaco::Name;
@@ -16,60 +15,12 @@ pub enum Target {
     Many(Range),
 }
 
-fn is_add(op: Op) -> bool
-    ensures { λ r. ⌜ r ≡ isAdd op ⌝ }
-{
-    match op {
-        Op::Add => true,
-        Op::Modify => false,
-        Op::Subtract => false,
-        Op::Move => false,
-        Op::AuditValue => false,
-    }
-}
-
-// The commands that leave a termination where it stands.
-pub fn in_place(op: Op) -> bool
-    ensures { λ r. ⌜ r ≡ inPlace op ⌝ }
-{
-    match op {
-        Op::Add => false,
-        Op::Modify => true,
-        Op::Subtract => false,
-        Op::Move => false,
-        Op::AuditValue => true,
-    }
-}
-
-pub fn is_subtract(op: Op) -> bool
-    ensures { λ r. ⌜ r ≡ isSubtract op ⌝ }
-{
-    match op {
-        Op::Add => false,
-        Op::Modify => false,
-        Op::Subtract => true,
-        Op::Move => false,
-        Op::AuditValue => false,
-    }
-}
-
-pub fn is_null(at: Context) -> bool
-    ensures { λ r. ⌜ r ≡ isNull at ⌝ }
-{
-    match at {
-        Context::Null => true,
-        Context::Numbered(_) => false,
-        Context::Choose => false,
-        Context::All => false,
-    }
-}
-
 // ROOT.
 fn root_target(op: Op, at: Context, items: bool) -> Target
     ensures { λ r. ⌜ r ≡ rootTarget op at items ⌝ }
 {
-    if in_place(op) {
-        if is_null(at) {
+    if op.in_place() {
+        if at.is_null() {
             if items {
                 return Target::NoTarget(447);
             }
@@ -84,7 +35,7 @@ fn root_target(op: Op, at: Context, items: bool) -> Target
 fn free_target(lines: u32, op: Op, n: u32) -> Target
     ensures { λ r. ⌜ r ≡ freeTarget lines op n ⌝ }
 {
-    if is_add(op) {
+    if op.is_add() {
         if n == 0 {
             return Target::NoTarget(432);
         }
@@ -96,7 +47,7 @@ fn free_target(lines: u32, op: Op, n: u32) -> Target
 fn unchosen_target(op: Op) -> Target
     ensures { λ r. ⌜ r ≡ unchosenTarget op ⌝ }
 {
-    if is_add(op) {
+    if op.is_add() {
         return Target::NoTarget(432);
     }
     Target::NoTarget(410)

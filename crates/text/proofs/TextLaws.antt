@@ -14,9 +14,7 @@ use lib.Dec.{eqb, leb, lit<}
 use borrow.Author.Tests.{eqb-true, leb-true}
 use Rattle.base.specs.Pick.{pick, picks}
 use Rattle.base.specs.Lists.{isAt}
-use Rattle.megaco.specs.declared.Parsed.{Parsed}
-use Rattle.megaco.specs.declared.Parsed.the-variants.{Next, Fault}
-use Rattle.megaco.specs.declared.Class.{Class}
+use Rattle.types.specs.Types.{Parsed, Next, Fault, Class}
 use Rattle.megaco.specs.Bytes.{semicolon, isLetter, isWhite, isLineEnd, isComment}
 use Rattle.megaco.specs.White.{after, goesOn, insideAfter, stopAt, whiteFrom, whiteAt}
 use Rattle.megaco.specs.Tokens.{letterAt, rowFrom, rowAt}

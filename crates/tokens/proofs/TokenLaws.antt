@@ -10,12 +10,7 @@ use borrow.Author.Tests.{lt-ltb, le-ltb, le-leb, lt-leb}
 use lib.ListN.{length, getD, drop, length-drop, List·getD-eq-default}
 use Rattle.base.specs.Pick.{pick}
 use Rattle.base.specs.Lists.{isAt}
-use Rattle.megaco.specs.declared.Class.{Class}
-use Rattle.megaco.specs.declared.Class.the-variants.{WordByte, NameByte}
-use Rattle.megaco.specs.declared.Parsed.{Parsed}
-use Rattle.megaco.specs.declared.Parsed.the-variants.{Next, Fault}
-use Rattle.megaco.specs.declared.Number.{Number}
-use Rattle.megaco.specs.declared.Number.the-variants.{Got, Bad}
+use Rattle.types.specs.Types.{Class, WordByte, NameByte, Parsed, Next, Fault, Number, Got, Bad}
 use Rattle.megaco.specs.Bytes.{star, dollar, isDigit, inClass}
 use Rattle.megaco.specs.Tokens.{letterAt, rowFrom, rowAt, upTo64, wordAt, pathStart, pathNameAt, terminationAt, markAt, afterNumber, mIdAt, wholeAt, isMid}
 use Rattle.megaco.specs.White.{after}

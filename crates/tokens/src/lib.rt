@@ -122,7 +122,7 @@ pub fn number(s: &[u8], at: usize, most: usize, limit: u32) -> Number
         if b'9' < b {
             return number_end(at, i, v, limit);
         }
-        let w = v * 10 + wide(b - 48);
+        let w = v * 10 + wide(b - b'0');
         if i - at >= most {
             return Number::Bad;
         }

@@ -7,6 +7,7 @@ use native.Mathlib.Omega.{arith}
 use lib.ListN.{take, drop}
 use Rattle.base.specs.Pick.{pick}
 use Rattle.base.specs.Lists.{same, part}
+use Rattle.base.proofs.TestLaws.{clash}
 use Rattle.megaco.specs.Bytes.{capitals}
 use Rattle.megaco.specs.Tree as tree
 use Rattle.megaco.specs.Tree.{Triple, priority, emergency, topology}
@@ -15,18 +16,13 @@ use Rattle.megaco.specs.Table.{cell, flow, get, lowFlow, highFlow, known}
 use Rattle.megaco.specs.Topology.{triplesOf, party, Link, link, linkOf, linksOf, isUnfit, isAbsent, isOutside, placeOf, setLink, setLinks}
 use Rattle.megaco.specs.Attempt.{seen, flowsOf, judge}
 use Rattle.megaco.specs.Action.{linkChecks}
-use Rattle.megaco.specs.declared.Checked.{Checked}
-use Rattle.megaco.specs.declared.Checked.the-variants.{Passes, Fails}
-use Rattle.megaco.specs.declared.Party.{Party}
-use Rattle.megaco.specs.declared.Party.the-variants.{Member}
-use Rattle.megaco.specs.declared.Property.{Property}
-use Rattle.megaco.specs.declared.Property.the-variants.{Priority, Emergency, Topology}
+use Rattle.types.specs.Types.{Checked, Passes, Fails, Party, Member, Property, Priority, Emergency, Topology}
 use Rattle.read_command.specs.Places.{tripleAt, triplesStart, triplesAt, propertyAt}
 use Rattle.action_places.specs.ActionPlaces.{OfTriple, tripleFrom, kindOf}
 use Rattle.action_places.specs.declared.TriplePlaces.{TriplePlaces}
-use Rattle.action_places.proofs.ActionPlaceLaws.{triple-is, kind-priority, kind-emergency, kind-topology}
+use Rattle.action_places.proofs.ActionPlaceLaws.{triple-is, kind-topology}
 use Rattle.topology.specs.declared.Looked.{Looked}
-use Rattle.topology.specs.Links.{linkFrom, Links, flowsAfter}
+use Rattle.topology.specs.Links.{linkFrom, Links, isTopology, flowsAfter}
 
 -- ---- one triple
 pub looked-up : (s t : List ℕ) (at c : ℕ) (p : TriplePlaces) (r : Looked) → OfTriple s at p
@@ -127,45 +123,40 @@ unfolding setBy setLinks linksOf
 set-none c t q = refl
 
 -- ---- one property
-module _ (s t : List ℕ) (at c : ℕ) (x : Property) (e : x ≡ kindOf (propertyAt s at .tree)) where
-  none-of : triplesOf (propertyAt s at .tree ∷ []) ≡ [] → Passes ≡ judge (linkChecks (linksOf c t (triplesOf (propertyAt s at .tree ∷ []))))
+no-triples : (x : tree.Property) → isTopology (kindOf x) ≡ false → triplesOf (x ∷ []) ≡ []
+unfolding isTopology kindOf triplesOf
+no-triples (priority n) h = refl
+no-triples emergency h = refl
+no-triples (topology ts) h = absurd (clash h)
+
+topology-alone : (x : Property) → isTopology x ≡ true → x ≡ Topology
+unfolding isTopology
+topology-alone (Priority n) h = absurd (clash (sym h))
+topology-alone Emergency h = absurd (clash (sym h))
+topology-alone Topology h = refl
+
+module _ (s t : List ℕ) (at c : ℕ) (x : Property) (e : x ≡ kindOf (propertyAt s at .tree)) (b : Bool) (y : b ≡ isTopology x) where
+  none : b ≡ false → triplesOf (propertyAt s at .tree ∷ []) ≡ []
+  none h = no-triples _ (ap isTopology (sym e) ∙ sym y ∙ h)
+
+  its-triples : (u : ℕ) → b ≡ true → u ≡ triplesStart s at → triplesOf (propertyAt s at .tree ∷ []) ≡ triplesAt s u .tree
+  unfolding triplesOf
+  its-triples u h p = rw (kind-topology s at (sym e ∙ topology-alone x (sym y ∙ h)), p) (append-nil (triplesAt s (triplesStart s at) .tree))
+
+  pub judged-other : b ≡ false → Passes ≡ judge (linkChecks (linksOf c t (triplesOf (propertyAt s at .tree ∷ []))))
   unfolding judge linkChecks linksOf
-  none-of p = rw p
+  judged-other h = rw (none h)
 
-  unset-of : (q : Square) → triplesOf (propertyAt s at .tree ∷ []) ≡ [] → q ≡ setLinks (linksOf c t (triplesOf (propertyAt s at .tree ∷ []))) q
-  unfolding setLinks linksOf
-  unset-of q p = rw p
-
-  no-priority : (n : ℕ) → x ≡ Priority n → triplesOf (propertyAt s at .tree ∷ []) ≡ []
-  unfolding triplesOf
-  no-priority n h = rw (kind-priority (propertyAt s at .tree) n (sym e ∙ h))
-
-  no-emergency : x ≡ Emergency → triplesOf (propertyAt s at .tree ∷ []) ≡ []
-  unfolding triplesOf
-  no-emergency h = rw (kind-emergency (propertyAt s at .tree) (sym e ∙ h))
-
-  its-triples : (u : ℕ) → x ≡ Topology → u ≡ triplesStart s at → triplesOf (propertyAt s at .tree ∷ []) ≡ triplesAt s u .tree
-  unfolding triplesOf
-  its-triples u h p = rw (kind-topology s at (sym e ∙ h), p) (append-nil (triplesAt s (triplesStart s at) .tree))
-
-  pub judged-priority : (n : ℕ) → x ≡ Priority n → Passes ≡ judge (linkChecks (linksOf c t (triplesOf (propertyAt s at .tree ∷ []))))
-  judged-priority n h = none-of (no-priority n h)
-
-  pub judged-emergency : x ≡ Emergency → Passes ≡ judge (linkChecks (linksOf c t (triplesOf (propertyAt s at .tree ∷ []))))
-  judged-emergency h = none-of (no-emergency h)
-
-  pub judged-topology : (u : ℕ) (r : Checked) → x ≡ Topology → u ≡ triplesStart s at → r ≡ judge (linkChecks (linksOf c t (triplesAt s u .tree)))
+  pub judged-topology : (u : ℕ) (r : Checked) → b ≡ true → u ≡ triplesStart s at → r ≡ judge (linkChecks (linksOf c t (triplesAt s u .tree)))
       → r ≡ judge (linkChecks (linksOf c t (triplesOf (propertyAt s at .tree ∷ []))))
   judged-topology u r h p k = k ∙ ap (λ (ts : List Triple). judge (linkChecks (linksOf c t ts))) (sym (its-triples u h p))
 
   module _ (q : Square) where
-    pub set-priority : (n : ℕ) → x ≡ Priority n → q ≡ setLinks (linksOf c t (triplesOf (propertyAt s at .tree ∷ []))) q
-    set-priority n h = unset-of q (no-priority n h)
+    pub set-other : b ≡ false → q ≡ setLinks (linksOf c t (triplesOf (propertyAt s at .tree ∷ []))) q
+    unfolding setLinks linksOf
+    set-other h = rw (none h)
 
-    pub set-emergency : x ≡ Emergency → q ≡ setLinks (linksOf c t (triplesOf (propertyAt s at .tree ∷ []))) q
-    set-emergency h = unset-of q (no-emergency h)
-
-    pub set-topology : (u : ℕ) (r : Square) → x ≡ Topology → u ≡ triplesStart s at → r ≡ setLinks (linksOf c t (triplesAt s u .tree)) q
+    pub set-topology : (u : ℕ) (r : Square) → b ≡ true → u ≡ triplesStart s at → r ≡ setLinks (linksOf c t (triplesAt s u .tree)) q
         → r ≡ setLinks (linksOf c t (triplesOf (propertyAt s at .tree ∷ []))) q
     set-topology u r h p k = k ∙ ap (λ (ts : List Triple). setLinks (linksOf c t ts) q) (sym (its-triples u h p))
 

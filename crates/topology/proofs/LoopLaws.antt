@@ -14,10 +14,11 @@ use Rattle.megaco.specs.Square.{Square}
 use Rattle.megaco.specs.Topology.{triplesOf, linkOf, linksOf, setLinks}
 use Rattle.megaco.specs.Attempt.{judge}
 use Rattle.megaco.specs.Action.{linkChecks}
-use Rattle.megaco.specs.declared.Checked.{Checked}
-use Rattle.megaco.specs.declared.Checked.the-variants.{Passes, Fails}
+use Rattle.types.specs.Types.{Checked, Passes, Fails, Parsed, Next, Fault}
 use Rattle.read_command.specs.Production.{pastSign, listOf}
 use Rattle.read_command.specs.Places.{tripleAt, triplesAt, propertyAt, propertiesOf}
+use Rattle.command_places.specs.Found.{nextAt}
+use Rattle.command_places.proofs.NextLaws.{part-last, part-more}
 use Rattle.action_places.specs.ActionPlaces.{kindOf, propertyPlaces}
 use Rattle.action_places.specs.declared.PropertyPlaces.{PropertyPlaces}
 use Rattle.topology.specs.declared.Looked.{Looked}
@@ -40,15 +41,6 @@ next-triple : (s : List ℕ) (n i : ℕ) → n ≤ length s
     → triplesFrom s n i ≡ (tripleAt s i .tree ∷ []) ++ pick (isAt s (tripleAt s i .end) comma) (triplesFrom s (n + 1) (pastSign comma s (tripleAt s i .end))) []
 unfolding triplesFrom listOf
 next-triple s n i h = let k : length s + 1 - n ≡ suc (length s + 1 - (n + 1)) = omega arith in rw k
-
--- where the list that follows is told by another place
-behind : (s : List ℕ) (n e u : ℕ) (y : Bool) → y ≡ isAt s e comma → y ≡ true → u ≡ pastSign comma s e → pick (isAt s e comma) (triplesFrom s n (pastSign comma s e)) [] ≡ triplesFrom s n u
-unfolding pick
-behind s n e u y g t p = rw (← g, t, p)
-
-ended : (s : List ℕ) (n e : ℕ) (y : Bool) → y ≡ isAt s e comma → y ≡ false → pick (isAt s e comma) (triplesFrom s n (pastSign comma s e)) [] ≡ []
-unfolding pick
-ended s n e y g t = rw (← g, t)
 
 -- judged: the triples before i pass
 pub judging : (s t : List ℕ) (at c : ℕ) → judgedBy c t (triplesAt s at .tree) ≡ judgedBy c t (triplesFrom s 0 at)
@@ -73,8 +65,12 @@ module _ (s t : List ℕ) (at c n i : ℕ) where
     unfolding setBy linksOf
     one-set q r j = sym (j ∙ rw (l .is))
 
-    its-end : (y : Bool) → y ≡ isAt s (x .end) comma → y ≡ isAt s (tripleAt s i .end) comma
-    its-end y g = g ∙ ap (λ (e : ℕ). isAt s e comma) (l .after)
+    module _ (y : Parsed) (g : y ≡ nextAt s (x .end)) where
+      ended : y ≡ Fault → pick (isAt s (tripleAt s i .end) comma) (triplesFrom s (n + 1) (pastSign comma s (tripleAt s i .end))) [] ≡ []
+      ended w = part-last s (x .end) (tripleAt s i .end) (l .after) y g (triplesFrom s (n + 1)) [] w
+
+      behind : (u : ℕ) → y ≡ Next u → pick (isAt s (tripleAt s i .end) comma) (triplesFrom s (n + 1) (pastSign comma s (tripleAt s i .end))) [] ≡ triplesFrom s (n + 1) u
+      behind u w = part-more s (x .end) (tripleAt s i .end) (l .after) y g (triplesFrom s (n + 1)) [] u w
 
   module _ (inv : judgedBy c t (triplesAt s at .tree) ≡ judgedBy c t (triplesFrom s n i)) where
     pub triples-none : length s < n → Passes ≡ judge (linkChecks (linksOf c t (triplesAt s at .tree)))
@@ -94,23 +90,19 @@ module _ (s t : List ℕ) (at c n i : ℕ) where
       unfolding rest
       on z = inv ∙ ap (judgedBy c t) (next-triple s n i h) ∙ judged-pass c t (tripleAt s i .tree ∷ []) rest (one-judged x l k j ∙ z)
 
-      pub triples-last : (y : Bool) → k ≡ Passes → y ≡ isAt s (x .end) comma → y ≡ false → Passes ≡ judge (linkChecks (linksOf c t (triplesAt s at .tree)))
+      pub triples-last : (y : Parsed) → k ≡ Passes → y ≡ nextAt s (x .end) → y ≡ Fault → Passes ≡ judge (linkChecks (linksOf c t (triplesAt s at .tree)))
       unfolding rest
-      triples-last y z g f =
-          as-judged c t (triplesAt s at .tree) Passes
-          (sym (on z ∙ ap (judgedBy c t) (ended s (n + 1) (tripleAt s i .end) y (its-end x l y g) f) ∙ judged-none c t))
+      triples-last y z g f = as-judged c t (triplesAt s at .tree) Passes (sym (on z ∙ ap (judgedBy c t) (ended x l y g f) ∙ judged-none c t))
 
-      pub triples-more : (y : Bool) (u : ℕ) → k ≡ Passes → y ≡ isAt s (x .end) comma → y ≡ true → u ≡ pastSign comma s (x .end)
-          → judgedBy c t (triplesAt s at .tree) ≡ judgedBy c t (triplesFrom s (n + 1) u)
+      pub triples-more : (y : Parsed) (u : ℕ) → k ≡ Passes → y ≡ nextAt s (x .end) → y ≡ Next u → judgedBy c t (triplesAt s at .tree) ≡ judgedBy c t (triplesFrom s (n + 1) u)
       unfolding rest
-      triples-more y u z g f p =
-          on z ∙ ap (judgedBy c t) (behind s (n + 1) (tripleAt s i .end) u y (its-end x l y g) f (p ∙ ap (pastSign comma s) (l .after)))
+      triples-more y u z g f = on z ∙ ap (judgedBy c t) (behind x l y g u f)
 
   module _ (was q : Square) (inv : setBy c t (triplesAt s at .tree) was ≡ setBy c t (triplesFrom s n i) q) where
     pub unset-none : length s < n → q ≡ setLinks (linksOf c t (triplesAt s at .tree)) was
     unset-none h = as-set c t (triplesAt s at .tree) was q (sym (inv ∙ rw (no-triples s n i h) (set-none c t q)))
 
-    module _ (h : n ≤ length s) (x : Looked) (l : Links s i t c x) (r : Square) (j : r ≡ setLinks (linkFrom x ∷ []) q) (y : Bool) (g : y ≡ isAt s (x .end) comma) where
+    module _ (h : n ≤ length s) (x : Looked) (l : Links s i t c x) (r : Square) (j : r ≡ setLinks (linkFrom x ∷ []) q) (y : Parsed) (g : y ≡ nextAt s (x .end)) where
       rest-set : List Triple
       rest-set = pick (isAt s (tripleAt s i .end) comma) (triplesFrom s (n + 1) (pastSign comma s (tripleAt s i .end))) []
 
@@ -120,17 +112,13 @@ module _ (s t : List ℕ) (at c n i : ℕ) where
           inv ∙ ap (λ (ts : List Triple). setBy c t ts q) (next-triple s n i h) ∙ set-both c t (tripleAt s i .tree ∷ []) rest-set q
           ∙ ap (setBy c t rest-set) (one-set x l q r j)
 
-      pub unset-last : y ≡ false → r ≡ setLinks (linksOf c t (triplesAt s at .tree)) was
+      pub unset-last : y ≡ Fault → r ≡ setLinks (linksOf c t (triplesAt s at .tree)) was
       unfolding rest-set
-      unset-last f =
-          as-set c t (triplesAt s at .tree) was r
-          (sym (on-set ∙ ap (λ (ts : List Triple). setBy c t ts r) (ended s (n + 1) (tripleAt s i .end) y (its-end x l y g) f) ∙ set-none c t r))
+      unset-last f = as-set c t (triplesAt s at .tree) was r (sym (on-set ∙ ap (λ (ts : List Triple). setBy c t ts r) (ended x l y g f) ∙ set-none c t r))
 
-      pub set-more : (u : ℕ) → y ≡ true → u ≡ pastSign comma s (x .end) → setBy c t (triplesAt s at .tree) was ≡ setBy c t (triplesFrom s (n + 1) u) r
+      pub set-more : (u : ℕ) → y ≡ Next u → setBy c t (triplesAt s at .tree) was ≡ setBy c t (triplesFrom s (n + 1) u) r
       unfolding rest-set
-      set-more u f p =
-          on-set
-          ∙ ap (λ (ts : List Triple). setBy c t ts r) (behind s (n + 1) (tripleAt s i .end) u y (its-end x l y g) f (p ∙ ap (pastSign comma s) (l .after)))
+      set-more u f = on-set ∙ ap (λ (ts : List Triple). setBy c t ts r) (behind x l y g u f)
 
 pub setting : (s t : List ℕ) (at c : ℕ) (q : Square) → setBy c t (triplesAt s at .tree) q ≡ setBy c t (triplesFrom s 0 at) q
 setting s t at c q = ap (λ (ts : List Triple). setBy c t ts q) (first-triples s at)
@@ -166,19 +154,19 @@ next-property : (s : List ℕ) (n i : ℕ) (z : Bool) → n ≤ length s → z �
 unfolding ofProperties propertiesOf pick
 next-property s n i z h d t = let k : length s + 1 - n ≡ suc (length s + 1 - (n + 1)) = omega arith in rw (k, ← d, t) (triples-cons (propertyAt s i .tree) _)
 
-module _ (s : List ℕ) (n i : ℕ) (p : PropertyPlaces) (e : p ≡ propertyPlaces s i) (y : Bool) (g : y ≡ isAt s (p .end) comma) where
+module _ (s : List ℕ) (n i : ℕ) (p : PropertyPlaces) (e : p ≡ propertyPlaces s i) (y : Parsed) (g : y ≡ nextAt s (p .end)) where
   place-is : p .end ≡ propertyAt s i .end
   unfolding propertyPlaces
   place-is = ap (λ (x : PropertyPlaces). x .end) e
 
-  property-behind : (u : ℕ) → y ≡ true → u ≡ pastSign comma s (p .end)
+  property-behind : (u : ℕ) → y ≡ Next u
       → triplesOf (pick (isAt s (propertyAt s i .end) comma) (propertiesOf (length s + 1 - (n + 1)) s (pastSign comma s (propertyAt s i .end))) []) ≡ ofProperties s (n + 1) u
-  unfolding ofProperties pick
-  property-behind u t q = let m : y ≡ isAt s (propertyAt s i .end) comma = g ∙ ap (λ (x : ℕ). isAt s x comma) place-is in rw (← m, t, q, place-is)
+  unfolding ofProperties
+  property-behind u w = ap triplesOf (part-more s (p .end) (propertyAt s i .end) place-is y g (propertiesOf (length s + 1 - (n + 1)) s) [] u w)
 
-  property-ended : y ≡ false → triplesOf (pick (isAt s (propertyAt s i .end) comma) (propertiesOf (length s + 1 - (n + 1)) s (pastSign comma s (propertyAt s i .end))) []) ≡ []
-  unfolding triplesOf pick
-  property-ended t = let m : y ≡ isAt s (propertyAt s i .end) comma = g ∙ ap (λ (x : ℕ). isAt s x comma) place-is in rw (← m, t)
+  property-ended : y ≡ Fault → triplesOf (pick (isAt s (propertyAt s i .end) comma) (propertiesOf (length s + 1 - (n + 1)) s (pastSign comma s (propertyAt s i .end))) []) ≡ []
+  unfolding triplesOf
+  property-ended w = ap triplesOf (part-last s (p .end) (propertyAt s i .end) place-is y g (propertiesOf (length s + 1 - (n + 1)) s) [] w)
 
 pub judging-all : (s t : List ℕ) (at c : ℕ) → judgedBy c t (ofAction s at) ≡ judgedBy c t (ofProperties s 0 at)
 judging-all s t at c = ap (judgedBy c t) (first-properties s at)
@@ -217,18 +205,18 @@ module _ (s t : List ℕ) (at c n i : ℕ) where
             all-judged (Fails code)
             (sym (inv ∙ ap (judgedBy c t) (next-property s n i z h d v) ∙ judged-fail c t (triplesOf (propertyAt s i .tree ∷ [])) behind-it code (here ∙ w)))
 
-        module _ (w : k ≡ Passes) (p : PropertyPlaces) (e : p ≡ propertyPlaces s i) (y : Bool) (g : y ≡ isAt s (p .end) comma) where
+        module _ (w : k ≡ Passes) (p : PropertyPlaces) (e : p ≡ propertyPlaces s i) (y : Parsed) (g : y ≡ nextAt s (p .end)) where
           on-all : judgedBy c t (ofAction s at) ≡ judgedBy c t behind-it
           unfolding behind-it
           on-all = inv ∙ ap (judgedBy c t) (next-property s n i z h d v) ∙ judged-pass c t (triplesOf (propertyAt s i .tree ∷ [])) behind-it (here ∙ w)
 
-          pub all-last : y ≡ false → Passes ≡ judge (linkChecks (linksOf c t (triplesOf (propertiesOf (unlimited s) s at))))
+          pub all-last : y ≡ Fault → Passes ≡ judge (linkChecks (linksOf c t (triplesOf (propertiesOf (unlimited s) s at))))
           unfolding behind-it
           all-last f = all-judged Passes (sym (on-all ∙ ap (judgedBy c t) (property-ended s n i p e y g f) ∙ judged-none c t))
 
-          pub all-more : (u : ℕ) → y ≡ true → u ≡ pastSign comma s (p .end) → judgedBy c t (ofAction s at) ≡ judgedBy c t (ofProperties s (n + 1) u)
+          pub all-more : (u : ℕ) → y ≡ Next u → judgedBy c t (ofAction s at) ≡ judgedBy c t (ofProperties s (n + 1) u)
           unfolding behind-it
-          all-more u f q = on-all ∙ ap (judgedBy c t) (property-behind s n i p e y g u f q)
+          all-more u f = on-all ∙ ap (judgedBy c t) (property-behind s n i p e y g u f)
 
   module _ (was q : Square) (inv : setBy c t (ofAction s at) was ≡ setBy c t (ofProperties s n i) q) where
     pub set-all-none : length s < n → q ≡ setLinks (linksOf c t (triplesOf (propertiesOf (unlimited s) s at))) was
@@ -238,8 +226,8 @@ module _ (s t : List ℕ) (at c n i : ℕ) where
       pub set-all-end : z ≡ false → q ≡ setLinks (linksOf c t (triplesOf (propertiesOf (unlimited s) s at))) was
       set-all-end f = all-set was q (sym (inv ∙ ap (λ (ts : List Triple). setBy c t ts q) (after-properties s n i z h d f) ∙ set-none c t q))
 
-      module _ (v : z ≡ true) (r : Square) (j : r ≡ setLinks (linksOf c t (triplesOf (propertyAt s i .tree ∷ []))) q) (p : PropertyPlaces) (e : p ≡ propertyPlaces s i) (y : Bool)
-          (g : y ≡ isAt s (p .end) comma) where
+      module _ (v : z ≡ true) (r : Square) (j : r ≡ setLinks (linksOf c t (triplesOf (propertyAt s i .tree ∷ []))) q) (p : PropertyPlaces) (e : p ≡ propertyPlaces s i) (y : Parsed)
+          (g : y ≡ nextAt s (p .end)) where
         here-set : setBy c t (triplesOf (propertyAt s i .tree ∷ [])) q ≡ r
         unfolding setBy
         here-set = sym j
@@ -250,13 +238,13 @@ module _ (s t : List ℕ) (at c n i : ℕ) where
             inv ∙ ap (λ (ts : List Triple). setBy c t ts q) (next-property s n i z h d v) ∙ set-both c t (triplesOf (propertyAt s i .tree ∷ [])) behind-it q
             ∙ ap (setBy c t behind-it) here-set
 
-        pub set-all-last : y ≡ false → r ≡ setLinks (linksOf c t (triplesOf (propertiesOf (unlimited s) s at))) was
+        pub set-all-last : y ≡ Fault → r ≡ setLinks (linksOf c t (triplesOf (propertiesOf (unlimited s) s at))) was
         unfolding behind-it
         set-all-last f = all-set was r (sym (on-all-set ∙ ap (λ (ts : List Triple). setBy c t ts r) (property-ended s n i p e y g f) ∙ set-none c t r))
 
-        pub set-all-more : (u : ℕ) → y ≡ true → u ≡ pastSign comma s (p .end) → setBy c t (ofAction s at) was ≡ setBy c t (ofProperties s (n + 1) u) r
+        pub set-all-more : (u : ℕ) → y ≡ Next u → setBy c t (ofAction s at) was ≡ setBy c t (ofProperties s (n + 1) u) r
         unfolding behind-it
-        set-all-more u f q′ = on-all-set ∙ ap (λ (ts : List Triple). setBy c t ts r) (property-behind s n i p e y g u f q′)
+        set-all-more u f = on-all-set ∙ ap (λ (ts : List Triple). setBy c t ts r) (property-behind s n i p e y g u f)
 
 pub kind-is : (s : List ℕ) (i : ℕ) (p : PropertyPlaces) → p ≡ propertyPlaces s i → p .property ≡ kindOf (propertyAt s i .tree)
 unfolding propertyPlaces

@@ -15,11 +15,7 @@ use Rattle.megaco.specs.Bytes.{capital, capitals}
 use Rattle.megaco.specs.Table.{ctx, get, fitted, exists, placeIn}
 use Rattle.megaco.specs.Names.{nameOf}
 use Rattle.megaco.specs.Topology.{meant, party}
-use Rattle.megaco.specs.declared.Name.{Name}
-use Rattle.megaco.specs.declared.Name.the-variants.{Termination, Root, Chosen, Unchosen, Wildcard, Unmatched, Unknown}
-use Rattle.megaco.specs.declared.Range.{Range}
-use Rattle.megaco.specs.declared.Party.{Party}
-use Rattle.megaco.specs.declared.Party.the-variants.{Unfit, Absent, Outside, Member}
+use Rattle.types.specs.Types.{Name, Termination, Root, Chosen, Unchosen, Wildcard, Unmatched, Unknown, Range, Party, Unfit, Absent, Outside, Member}
 
 -- ---- a termination
 module _ (t : List ℕ) (c i here lines : ℕ) (x : Bool) (e : here ≡ get t (ctx i)) (f : lines ≡ fitted t) (g : x ≡ exists lines i here) where

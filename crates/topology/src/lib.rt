@@ -9,13 +9,14 @@ ghost use Rattle.megaco.specs.Table.{Sized};
 ghost use Rattle.megaco.specs.Topology.{triplesOf, meant, party, linksOf, isUnfit, isAbsent, isOutside, placeOf, setLinks};
 ghost use Rattle.megaco.specs.Attempt.{seen, flowsOf, judge};
 ghost use Rattle.megaco.specs.Action.{linkChecks};
-ghost use Rattle.megaco.specs.declared.Name.the-variants.{Termination};
+ghost use Rattle.types.specs.Types.{Termination};
 ghost use Rattle.read_command.specs.Places.{tripleAt, triplesAt, propertyAt, propertiesOf};
 ghost use Rattle.action_places.specs.ActionPlaces.{kindOf};
-ghost use Rattle.topology.specs.Links.{linkFrom, Links, flowsAfter};
+ghost use Rattle.topology.specs.Links.{linkFrom, Links, isTopology, flowsAfter};
 use megaco::Checked;
 use megaco::Direction;
 use megaco::Name;
+use megaco::Parsed;
 use megaco::Party;
 use megaco::Property;
 
@@ -202,12 +203,12 @@ fn judge_triples(s: &[u8], at: usize, table: &[u32], c: u32) -> Checked
         let checked = judge_link(x);
         match checked {
             Checked::Passes => {
-                if text::is_at(s, e, b',') {
-                    i = command_places::past_comma(s, e);
-                    n += 1;
-                } else {
+                let y = command_places::next_part(s, e);
+                let Parsed::Next(u) = y else {
                     return Checked::Passes;
-                }
+                };
+                i = u;
+                n += 1;
             }
             Checked::Fails(code) => {
                 return Checked::Fails(code);
@@ -229,28 +230,37 @@ fn set_triples(s: &[u8], at: usize, table: &[u32], c: u32, was: [[bool; 8]; 8]) 
         let e = x.end;
         let r = set_link(x, q);
         q = r;
-        if text::is_at(s, e, b',') {
-            i = command_places::past_comma(s, e);
-            n += 1;
-        } else {
+        let y = command_places::next_part(s, e);
+        let Parsed::Next(u) = y else {
             return q;
-        }
+        };
+        i = u;
+        n += 1;
     }
     q
 }
 
 // ---- the topologies of an action
 
+pub fn is_topology(x: Property) -> bool
+    ensures { λ r. ⌜ r ≡ isTopology x ⌝ }
+{
+    match x {
+        Property::Priority(_) => false,
+        Property::Emergency => false,
+        Property::Topology => true,
+    }
+}
+
 // Those of one property, whose kind is known.
 fn judge_property(s: &[u8], at: usize, x: Property, table: &[u32], c: u32) -> Checked
     requires { ⌜ (Sized (now table)) × (x ≡ kindOf (propertyAt (now s) at .tree)) ⌝ }
     ensures { λ r. ⌜ r ≡ judge (linkChecks (linksOf c (now (table .entry)) (triplesOf (propertyAt (now (s .entry)) at .tree ∷ [])))) ⌝ }
 {
-    match x {
-        Property::Priority(_) => Checked::Passes,
-        Property::Emergency => Checked::Passes,
-        Property::Topology => judge_triples(s, action_places::triples_start(s, at), table, c),
+    if is_topology(x) {
+        return judge_triples(s, action_places::triples_start(s, at), table, c);
     }
+    Checked::Passes
 }
 
 fn set_property(
@@ -264,11 +274,10 @@ fn set_property(
     requires { ⌜ (Sized (now table)) × (x ≡ kindOf (propertyAt (now s) at .tree)) ⌝ }
     ensures { λ r. ⌜ r ≡ setLinks (linksOf c (now (table .entry)) (triplesOf (propertyAt (now (s .entry)) at .tree ∷ []))) was ⌝ }
 {
-    match x {
-        Property::Priority(_) => was,
-        Property::Emergency => was,
-        Property::Topology => set_triples(s, action_places::triples_start(s, at), table, c, was),
+    if is_topology(x) {
+        return set_triples(s, action_places::triples_start(s, at), table, c, was);
     }
+    was
 }
 
 // The tests of every triple of the properties that begin here, in order: the first code.
@@ -286,12 +295,12 @@ pub fn judge_topology(s: &[u8], at: usize, table: &[u32], c: u32) -> Checked
             let checked = judge_property(s, i, x, table, c);
             match checked {
                 Checked::Passes => {
-                    if text::is_at(s, e, b',') {
-                        i = command_places::past_comma(s, e);
-                        n += 1;
-                    } else {
+                    let y = command_places::next_part(s, e);
+                    let Parsed::Next(u) = y else {
                         return Checked::Passes;
-                    }
+                    };
+                    i = u;
+                    n += 1;
                 }
                 Checked::Fails(code) => {
                     return Checked::Fails(code);
@@ -319,12 +328,12 @@ fn set_topology(s: &[u8], at: usize, table: &[u32], c: u32, was: [[bool; 8]; 8])
             let e = p.end;
             let r = set_property(s, i, x, table, c, q);
             q = r;
-            if text::is_at(s, e, b',') {
-                i = command_places::past_comma(s, e);
-                n += 1;
-            } else {
+            let y = command_places::next_part(s, e);
+            let Parsed::Next(u) = y else {
                 return q;
-            }
+            };
+            i = u;
+            n += 1;
         } else {
             return q;
         }

@@ -41,7 +41,7 @@ Times: CPU time of one thread, median of 15 rounds of about 10 ms, the sides by 
 one release build. One reply buffer of 16,640 bytes, not cleared between calls. After each pass over a
 workload's messages the words of the table that they change are put back, on both sides, within the time.
 Instructions: callgrind's count of the same loop, as the difference of a longer and a shorter run, so that
-start and set-up are not in it; the C library is told to clear memory by plain stores, which it counts as they are.
+start and set-up are not in it; the C library is set to clear memory by plain stores, which it counts as they are.
 Ratios are archive to reference, within this run.
 ";
 

@@ -39,7 +39,7 @@
 //! # Ok::<(), cordafina::Refusal>(())
 //! ```
 //!
-//! A table that is kept is its words, which tell the count of lines too:
+//! A table that is kept is its words, whose number gives the count of lines:
 //!
 //! ```
 //! # use cordafina::{Gateway, Table};

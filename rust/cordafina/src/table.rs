@@ -196,7 +196,7 @@ impl Table {
 impl TryFrom<&[u32]> for Table {
     type Error = Refusal;
 
-    /// A table of these words; their number tells the count of lines.
+    /// A table of these words; their number gives the count of lines.
     ///
     /// # Errors
     /// `TableUnsound` if no count has so many words, or if they are not sound.

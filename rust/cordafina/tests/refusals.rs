@@ -71,7 +71,7 @@ fn as_the_code_has_them() {
 }
 
 #[test]
-fn as_the_reference_tells_them() {
+fn as_the_reference_lists_them() {
     for refusal in ALL {
         let name = format!("{refusal:?}");
         let row = format!(

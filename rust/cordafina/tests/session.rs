@@ -97,7 +97,7 @@ fn refusals_in_their_order() {
     // All five hold; then one after the other is mended.
     let mut table = [0; TABLE_WORDS];
     table[623] = 7;
-    let trampled = table;
+    let damaged = table;
     let mut reply = [FILL; REPLY_BYTES];
     for lines in [0, 17, 264, u32::MAX] {
         let short = &mut reply[1..];
@@ -106,7 +106,7 @@ fn refusals_in_their_order() {
     let short = &mut reply[1..];
     assert_eq!(answer_word(8, b"", &mut table, b"", short), 3 << 32);
     assert_eq!(answer_word(8, b"", &mut table, b"", &mut reply), 2 << 32);
-    assert_eq!(table, trampled);
+    assert_eq!(table, damaged);
     table[623] = 0;
     let cut = &mut table[1..];
     assert_eq!(answer_word(8, b"", cut, b"", &mut reply), 2 << 32);

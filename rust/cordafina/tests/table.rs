@@ -76,11 +76,11 @@ fn read_by_name() {
             assert_eq!(table.state_of(absent), None);
         }
         let contexts: Vec<_> = table.contexts().collect();
-        let told = contexts.iter();
-        let told: Vec<_> = told
+        let properties = contexts.iter();
+        let properties: Vec<_> = properties
             .map(|c| (c.number(), c.priority(), c.emergency()))
             .collect();
-        assert_eq!(told, [(1, 4, true), (2, 15, false)]);
+        assert_eq!(properties, [(1, 4, true), (2, 15, false)]);
         assert!(contexts[0].members().eq([five, first]));
         assert!(contexts[1].members().eq([last, third]));
         for absent in [0, 3, 128, 129, u32::MAX] {

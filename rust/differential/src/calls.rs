@@ -33,7 +33,7 @@ pub fn reference_word(
 /// One call.
 #[derive(Clone)]
 pub struct Case {
-    /// The count of lines told.
+    /// The count of lines given.
     pub lines: u32,
     pub message: Box<[u8]>,
     pub table: Vec<u32>,
@@ -56,7 +56,7 @@ impl Cases {
         }
     }
 
-    /// Tells the table that the last case left.
+    /// Takes the table that the last case left.
     pub fn left(&mut self, table: &[u32]) {
         if tables::lines_of(table.len()).is_some() {
             self.left = table.to_vec();
@@ -85,7 +85,7 @@ impl Cases {
             _ => REPLY_BYTES,
         };
         Case {
-            lines: told(numbers, lines),
+            lines: lines_given(numbers, lines),
             message: message.into_boxed_slice(),
             table,
             own: own.into_boxed_slice(),
@@ -94,9 +94,9 @@ impl Cases {
     }
 }
 
-/// The count told: nearly always that of the table, else another's, one about
+/// The count given: nearly always that of the table, else another's, one about
 /// it, or none.
-fn told(numbers: &mut Numbers, lines: Lines) -> u32 {
+fn lines_given(numbers: &mut Numbers, lines: Lines) -> u32 {
     const UNFIT: [u32; 10] = [0, 0, 17, 17, 18, 32, 255, 256, 1 << 31, u32::MAX];
     let count = lines.count();
     match numbers.under(80) {
@@ -204,8 +204,8 @@ impl Outcome {
     }
 }
 
-/// How much stands around a lent buffer to see it trampled. Odd, so that a
-/// table is aligned as its words are and not more.
+/// How much stands around a lent buffer to see a write past its ends.
+/// Odd, so that a table is aligned as its words are and not more.
 pub const GUARD: usize = 21;
 
 /// What stands around a lent table.

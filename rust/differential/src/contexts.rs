@@ -38,7 +38,7 @@ pub fn reference(lines: u32, table: &[u32], out: &mut [u8]) -> u64 {
 
 /// Every termination in a context, in as many contexts as there are: the
 /// longest text.
-fn crowded(numbers: &mut Numbers, lines: Lines) -> Vec<u32> {
+fn filled(numbers: &mut Numbers, lines: Lines) -> Vec<u32> {
     let mut table = tables::fresh(lines);
     let contexts = numbers
         .pick(&[lines.terminations().div_ceil(8), 100, 128])
@@ -57,7 +57,7 @@ pub fn ask(numbers: &mut Numbers, side: Asked) -> Result<u64, String> {
     let fitted = tables::lines(numbers);
     let table = match numbers.under(8) {
         0 => tables::damaged(numbers, fitted),
-        1 => crowded(numbers, fitted),
+        1 => filled(numbers, fitted),
         2 => tables::lowest(numbers, fitted),
         _ => tables::sound(numbers, fitted),
     };

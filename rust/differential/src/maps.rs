@@ -46,13 +46,13 @@ pub fn ask(numbers: &mut Numbers, side: &Questions) -> Result<u64, String> {
     };
     let ephemerals = &table[lines.line_terminations()..lines.terminations()];
     let absent = ephemerals.iter().position(|&context| context == 0);
-    let walked = [
+    let counted = [
         absent.map_or(0, |place| place as u32 + 1),
         ephemerals.iter().filter(|&&context| context != 0).count() as u32,
     ];
     let of_table = tables::map(lines, &table);
     let looped = [lowest_absent(drawn), in_use(drawn)];
-    for (map, expected) in [(drawn, looped), (of_table, walked)] {
+    for (map, expected) in [(drawn, looped), (of_table, counted)] {
         let got = [(side.lowest_absent)(map), (side.in_use)(map)];
         if got != expected {
             return Err(format!(

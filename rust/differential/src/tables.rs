@@ -1,4 +1,4 @@
-//! Tables: random sound ones, and what somebody trampled.
+//! Tables: random sound ones, and damaged ones.
 
 use reference::table::{Lines, CONTEXTS, MEMBERS};
 
@@ -150,7 +150,7 @@ fn shuffle<T>(numbers: &mut Numbers, list: &mut [T]) {
     }
 }
 
-/// A table after somebody trampled it: of another length, noise, or a sound
+/// A damaged table: of another length, noise, or a sound
 /// one with a sentence of soundness broken (or just not broken).
 pub fn damaged(numbers: &mut Numbers, lines: Lines) -> Vec<u32> {
     let (properties, records) = (lines.properties(), lines.records());

@@ -91,7 +91,7 @@ fn judges_after_items(
 }
 
 /// Test does not move either.
-fn bars_test(lines: u32, message: &[u8], table: &mut [u32], own: &[u8], reply: &mut [u8]) -> u64 {
+fn test_503(lines: u32, message: &[u8], table: &mut [u32], own: &[u8], reply: &mut [u8]) -> u64 {
     let capital = message.to_ascii_uppercase();
     let mut before = table.to_vec();
     let Some(old) = states(&mut before) else {
@@ -404,7 +404,7 @@ fn transpose(table: &mut [u32]) {
 
 const DEFECTS: [(&str, Call); 33] = [
     ("503 is judged after the items", judges_after_items),
-    ("503 for Test", bars_test),
+    ("503 for Test", test_503),
     ("503 before 433", judges_before_433),
     ("keeps state", keeps_state),
     (
@@ -787,7 +787,7 @@ fn a_map_answered_wrongly_is_found() {
 }
 
 #[test]
-fn contexts_told_wrongly_are_found() {
+fn wrong_contexts_are_found() {
     const EIGHT: usize = Lines::EIGHT.words();
     const DEFECTS: [contexts::Asked; 6] = [
         // As if there were eight lines.

@@ -38,7 +38,7 @@ fn sound_tables_are_sound() {
 }
 
 #[test]
-fn trampled_tables_are_sound_or_not() {
+fn damaged_tables_are_sound_or_not() {
     let mut numbers = Numbers::new(1);
     let sound = (0..2_000).filter(|_| {
         let lines = tables::lines(&mut numbers);

@@ -250,7 +250,7 @@ impl Runner<'_, '_> {
         }
     }
 
-    /// Makes and reports a command's attempts; tells whether all succeeded.
+    /// Makes and reports a command's attempts; says whether all succeeded.
     fn attempts(&mut self, kind: Kind, command: &Command, target: &mut Target) -> bool {
         let (subject, request) = match self.judge(kind, command, *target) {
             Ok(judged) => judged,
@@ -318,14 +318,14 @@ impl Runner<'_, '_> {
             Kind::Add | Kind::Modify | Kind::Move => request.values = judge_items(&command.items)?,
         }
         // "ROOT in `-` may have empty braces", "447 for ROOT with Media"
-        let bars_root = match kind {
+        let refuses_root = match kind {
             Kind::AuditValue => request.media,
             _ => !command.items.is_empty(),
         };
         let subject = match Name::of(self.table.lines(), command.termination) {
             Name::Root if !matches!(kind, Kind::Modify | Kind::AuditValue) => return Err(410),
             Name::Root if !matches!(target, Target::Null) => return Err(435),
-            Name::Root if bars_root => return Err(447),
+            Name::Root if refuses_root => return Err(447),
             Name::Root => Subject::Root,
             Name::Choose | Name::BadChoose if kind != Kind::Add => return Err(410),
             Name::BadChoose => return Err(432),
@@ -476,7 +476,7 @@ fn judge_items(items: &[Item]) -> Result<Values, Code> {
     Ok(values)
 }
 
-/// Test 3 for AuditValue; tells whether Media is audited. "447 for any item on
+/// Test 3 for AuditValue; says whether Media is audited. "447 for any item on
 /// AV but Audit; 448 for a second Audit or Media; 442 for Audit with a value or
 /// without braces, and Media with either; 444 for any audited item but Media;
 /// 442 for no Audit, last."

@@ -128,7 +128,7 @@ fn flow(from: usize, to: usize) -> u64 {
 }
 
 /// The square of so many members in which the flows are those that the test
-/// tells; "the diagonal and unused places 0".
+/// gives; "the diagonal and unused places 0".
 fn square(members: usize, flows: impl Fn(usize, usize) -> bool) -> u64 {
     let mut all = 0;
     for from in 0..members {

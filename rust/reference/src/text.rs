@@ -249,7 +249,7 @@ impl<'m> Reader<'m> {
         &rest[..length]
     }
 
-    /// Takes all white space that stands next and tells whether there was any:
+    /// Takes all white space that stands next and says whether there was any:
     /// "space, tab, CR, LF, and comments from `;` through a line end".
     fn white(&mut self) -> Reads<bool> {
         let start = self.at;

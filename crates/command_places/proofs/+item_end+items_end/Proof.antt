@@ -18,9 +18,8 @@ use Rattle.command_places.proofs.items_end.Kinds as items-end-kinds
 use Rattle.command_places.proofs.+item_end+items_end.Lts-items_end as items-end-lts
 use Rattle.command_places.proofs.item_places.Reads as item-places-reads
 use Rattle.command_places.proofs.past_closing.Reads as past-closing-reads
-use Rattle.command_places.proofs.past_comma.Reads as past-comma-reads
+use Rattle.command_places.proofs.next_part.Reads as next-part-reads
 use Rattle.read_command.proofs.empty_here.Reads as empty-here-reads
-use Rattle.text.proofs.is_at.Reads as is-at-reads
 use Rattle.command_places.proofs.+item_end+items_end.{statement}
 use Rattle.command_places.proofs.+item_end+items_end.Tie.{close}
 
@@ -64,7 +63,7 @@ pub +item-end+items-end-spec : {M : Type 1} → statement M
     (λ c. search item-braced)
     (λ c. search item-plain))
     (λ t. items-end-lts.spec
-    (item-end-below t, item-end.Post, is-at-reads.Asked, is-at-reads.Learnt, past-comma-reads.Asked, past-comma-reads.Learnt)
+    (item-end-below t, item-end.Post, next-part-reads.Asked, next-part-reads.Learnt)
     (items-end-at t)
     items-end.Post
     Inv-loop
@@ -74,9 +73,10 @@ pub +item-end+items-end-spec : {M : Type 1} → statement M
     (λ c. search needs)
     (λ c κs. (search items-falls, tt))
     (λ c κs. search needs)
-    (λ c κs. search needs)
+    (λ c. search needs)
+    (λ c. search needs)
+    (λ c. search all-end-last)
     (λ c. search needs)
     (λ c. search needs)
     (λ c. search all-end-more)
-    (λ c. search all-end-last)
     (λ c. search all-end-none))

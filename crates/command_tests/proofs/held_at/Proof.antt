@@ -9,5 +9,6 @@ held-at-spec =
     (tie.spec
     (λ c κs. search needs)
     (λ c κs. search needs)
+    (λ c κs. search needs)
     (λ c. search held-known)
     (λ c. search held-none))

@@ -1,5 +1,5 @@
 use borrow.Author.Needs.{needs}
-use Rattle.command_tests.proofs.TestLaws.{judged-wrong, judged-right, fair-right}
+use Rattle.command_tests.proofs.TestLaws.{judged-wrong, judged-right, right-in-range}
 use Rattle.command_tests.proofs.run_judged.Statement.{statement}
 use Rattle.command_tests.proofs.run_judged.Tie as tie
 
@@ -10,7 +10,7 @@ run-judged-spec =
     (λ c. search needs)
     (λ c κs. search needs)
     (λ c. search needs)
-    (λ c κs. (search needs, search fair-right))
+    (λ c κs. (search needs, search right-in-range))
     (λ c. search needs)
     (λ c. search judged-wrong)
     (λ c. search needs)

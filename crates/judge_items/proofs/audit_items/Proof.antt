@@ -7,9 +7,9 @@ use Rattle.read_command.specs.Production.{listEnd}
 use Rattle.read_command.specs.Places.{itemAt, itemsAt}
 use Rattle.megaco.specs.Items.{auditItems}
 use Rattle.judge_items.proofs.OneLaws.{audit-one, audit-ends}
-use Rattle.judge_items.proofs.ListLaws.{judgeAll, levelLeft, stands, audit-starts, all-none, all-wrong, all-right, all-more, items-begin, ends-last, ends-more}
+use Rattle.judge_items.proofs.ListLaws.{judgeAll, levelLeft, stands, audit-starts, all-none, all-wrong, all-right, all-more, items-begin}
 use Rattle.judge_items.proofs.CallLaws.{known-by, known-wrong}
-use Rattle.command_places.proofs.EndLaws.{all-end-none}
+use Rattle.command_places.proofs.EndLaws.{all-end-none, all-end-last, all-end-more}
 use Rattle.judge_items.proofs.audit_items.Statement.{statement}
 use Rattle.judge_items.proofs.audit_items.Tie as tie
 
@@ -37,7 +37,7 @@ audit-items-spec =
     (λ c κs. search needs)
     (λ c. search needs)
     (λ c. search needs)
-    (λ c. (search (all-right, audit-one, audit-ends), known-by _ _ (search (ends-last, audit-ends))))
+    (λ c. (search (all-right, audit-one, audit-ends), known-by _ _ (search (all-end-last, audit-ends))))
     (λ c. search needs)
-    (λ c. (search (all-more, audit-one, audit-ends), search (ends-more, audit-ends)))
+    (λ c. (search (all-more, audit-one, audit-ends), search (all-end-more, audit-ends)))
     (λ c. (search all-none, known-by _ _ (search all-end-none))))

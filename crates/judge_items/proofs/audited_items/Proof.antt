@@ -7,9 +7,9 @@ use Rattle.read_command.specs.Production.{listEnd}
 use Rattle.read_command.specs.Places.{itemAt, itemsAt}
 use Rattle.megaco.specs.Items.{auditedItems}
 use Rattle.judge_items.proofs.OneLaws.{audited-one, audited-ends}
-use Rattle.judge_items.proofs.ListLaws.{judgeAll, levelLeft, stands, audited-starts, all-none, all-wrong, all-last, all-more, items-begin, ends-last, ends-more}
+use Rattle.judge_items.proofs.ListLaws.{judgeAll, levelLeft, stands, audited-starts, all-none, all-wrong, all-last, all-more, items-begin}
 use Rattle.judge_items.proofs.CallLaws.{known-by, known-wrong}
-use Rattle.command_places.proofs.EndLaws.{all-end-none}
+use Rattle.command_places.proofs.EndLaws.{all-end-none, all-end-last, all-end-more}
 use Rattle.judge_items.proofs.audited_items.Statement.{statement}
 use Rattle.judge_items.proofs.audited_items.Tie as tie
 
@@ -37,7 +37,7 @@ audited-items-spec =
     (λ c κs. search needs)
     (λ c. search needs)
     (λ c. search needs)
-    (λ c. (search (all-last, audited-one, audited-ends), known-by _ _ (search (ends-last, audited-ends))))
+    (λ c. (search (all-last, audited-one, audited-ends), known-by _ _ (search (all-end-last, audited-ends))))
     (λ c. search needs)
-    (λ c. (search (all-more, audited-one, audited-ends), search (ends-more, audited-ends)))
+    (λ c. (search (all-more, audited-one, audited-ends), search (all-end-more, audited-ends)))
     (λ c. (search all-none, known-by _ _ (search all-end-none))))

@@ -7,9 +7,9 @@ use Rattle.read_command.specs.Production.{listEnd}
 use Rattle.read_command.specs.Places.{itemAt, itemsAt}
 use Rattle.megaco.specs.Items.{mediaItems}
 use Rattle.judge_items.proofs.OneLaws.{mediaAll, stoodNext, media-one, media-ends, stood-next}
-use Rattle.judge_items.proofs.ListLaws.{judgeAll, levelLeft, media-starts, all-none, all-wrong, all-right, all-more, items-begin, ends-last, ends-more}
+use Rattle.judge_items.proofs.ListLaws.{judgeAll, levelLeft, media-starts, all-none, all-wrong, all-right, all-more, items-begin}
 use Rattle.judge_items.proofs.CallLaws.{known-by, known-wrong}
-use Rattle.command_places.proofs.EndLaws.{all-end-none}
+use Rattle.command_places.proofs.EndLaws.{all-end-none, all-end-last, all-end-more}
 use Rattle.judge_items.proofs.media_items.Statement.{statement}
 use Rattle.judge_items.proofs.media_items.Tie as tie
 
@@ -38,8 +38,8 @@ media-items-spec =
     (λ c κs. search needs)
     (λ c. search needs)
     (λ c. search needs)
-    (λ c. (search (all-right, media-one, media-ends), known-by _ _ (search (ends-last, media-ends))))
+    (λ c. (search (all-right, media-one, media-ends), known-by _ _ (search (all-end-last, media-ends))))
     (λ c κs. search needs)
     (λ c. search needs)
-    (λ c. (search (all-more, media-one, media-ends, stood-next), search (ends-more, media-ends)))
+    (λ c. (search (all-more, media-one, media-ends, stood-next), search (all-end-more, media-ends)))
     (λ c. (search all-none, known-by _ _ (search all-end-none))))

@@ -7,9 +7,9 @@ use Rattle.read_command.specs.Production.{listEnd}
 use Rattle.read_command.specs.Places.{itemAt, itemsAt}
 use Rattle.megaco.specs.Items.{propertyItems}
 use Rattle.judge_items.proofs.OneLaws.{property-one, property-ends}
-use Rattle.judge_items.proofs.ListLaws.{judgeAll, levelLeft, stands, property-starts, all-none, all-wrong, all-last, all-more, items-begin, ends-last, ends-more}
+use Rattle.judge_items.proofs.ListLaws.{judgeAll, levelLeft, stands, property-starts, all-none, all-wrong, all-last, all-more, items-begin}
 use Rattle.judge_items.proofs.CallLaws.{known-by, known-wrong}
-use Rattle.command_places.proofs.EndLaws.{all-end-none}
+use Rattle.command_places.proofs.EndLaws.{all-end-none, all-end-last, all-end-more}
 use Rattle.judge_items.proofs.property_items.Statement.{statement}
 use Rattle.judge_items.proofs.property_items.Tie as tie
 
@@ -37,7 +37,7 @@ property-items-spec =
     (λ c κs. search needs)
     (λ c. search needs)
     (λ c. search needs)
-    (λ c. (search (all-last, property-one, property-ends), known-by _ _ (search (ends-last, property-ends))))
+    (λ c. (search (all-last, property-one, property-ends), known-by _ _ (search (all-end-last, property-ends))))
     (λ c. search needs)
-    (λ c. (search (all-more, property-one, property-ends), search (ends-more, property-ends)))
+    (λ c. (search (all-more, property-one, property-ends), search (all-end-more, property-ends)))
     (λ c. (search all-none, known-by _ _ (search all-end-none))))

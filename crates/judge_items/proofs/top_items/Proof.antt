@@ -7,9 +7,9 @@ use Rattle.read_command.specs.Production.{listEnd}
 use Rattle.read_command.specs.Places.{itemAt, itemsAt}
 use Rattle.megaco.specs.Items.{topItems}
 use Rattle.judge_items.proofs.OneLaws.{top-one, top-ends}
-use Rattle.judge_items.proofs.ListLaws.{judgeAll, levelLeft, stands, top-starts, all-none, all-wrong, all-right, all-more, items-begin, ends-last, ends-more}
+use Rattle.judge_items.proofs.ListLaws.{judgeAll, levelLeft, stands, top-starts, all-none, all-wrong, all-right, all-more, items-begin}
 use Rattle.judge_items.proofs.CallLaws.{known-by, known-wrong}
-use Rattle.command_places.proofs.EndLaws.{all-end-none}
+use Rattle.command_places.proofs.EndLaws.{all-end-none, all-end-last, all-end-more}
 use Rattle.judge_items.proofs.top_items.Statement.{statement}
 use Rattle.judge_items.proofs.top_items.Tie as tie
 
@@ -37,7 +37,7 @@ top-items-spec =
     (λ c κs. search needs)
     (λ c. search needs)
     (λ c. search needs)
-    (λ c. (search (all-right, top-one, top-ends), known-by _ _ (search (ends-last, top-ends))))
+    (λ c. (search (all-right, top-one, top-ends), known-by _ _ (search (all-end-last, top-ends))))
     (λ c. search needs)
-    (λ c. (search (all-more, top-one, top-ends), search (ends-more, top-ends)))
+    (λ c. (search (all-more, top-one, top-ends), search (all-end-more, top-ends)))
     (λ c. (search all-none, known-by _ _ (search all-end-none))))

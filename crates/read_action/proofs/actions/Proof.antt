@@ -1,8 +1,7 @@
 use mathlib.Core.Path.{_≡_, refl}
 use Rattle.read_command.specs.Production.{listAt}
 use Rattle.read_command.specs.Places.{actionAt, actionsAt}
-use Rattle.read_action.proofs.ActionLaws.{parts}
-use Rattle.read_command.proofs.ListLaws.{list-none, list-fault, list-last, list-cut, list-more}
+use Rattle.read_command.proofs.ListLaws.{list-none, list-ends, list-more}
 use borrow.Author.Needs.{needs}
 use Rattle.read_action.proofs.actions.Statement.{statement}
 use Rattle.read_action.proofs.actions.Tie as tie
@@ -21,17 +20,11 @@ actions-spec =
     μ-loop
     (λ c. unfold actionsAt in refl)
     (λ c κs. search needs)
-    (λ c. search needs)
-    (λ c. search needs)
-    (λ c. search list-fault)
-    (λ c κs. search needs)
-    (λ c. search parts)
     (λ c κs. search needs)
     (λ c. search needs)
-    (λ c. search needs)
-    (λ c. search list-cut)
     (λ c. search needs)
     (λ c. search needs)
     (λ c. search list-more)
-    (λ c. search list-last)
+    (λ c. search needs)
+    (λ c. search list-ends)
     (λ c. search list-none))

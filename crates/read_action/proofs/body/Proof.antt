@@ -2,7 +2,7 @@ use Prim.Native.Nat.{_-_}
 use lib.ListN.{length}
 use Rattle.read_command.specs.Places.{bodyAt}
 use Rattle.megaco.specs.Reading.{unlimited}
-use Rattle.read_action.proofs.ActionLaws.{Goes, parts, body-start, body-commands, body-fault, body-last, body-cut, body-less, body-more}
+use Rattle.read_action.proofs.ActionLaws.{Goes, body-start, body-commands, body-ends, body-less, body-more}
 use borrow.Author.Needs.{needs}
 use Rattle.read_action.proofs.body.Statement.{statement}
 use Rattle.read_action.proofs.body.Tie as tie
@@ -22,17 +22,11 @@ body-spec =
     (λ c. body-start _ _)
     (λ c κs. search needs)
     (λ c κs. search needs)
-    (λ c. search needs)
-    (λ c. search needs)
-    (λ c. search body-fault)
-    (λ c κs. search needs)
-    (λ c. search parts)
     (λ c κs. search needs)
     (λ c. search needs)
-    (λ c. search needs)
-    (λ c. search body-cut)
     (λ c. search body-less)
     (λ c. search body-more)
-    (λ c. search body-last)
+    (λ c. search needs)
+    (λ c. search body-ends)
     (λ c κs. search needs)
     (λ c. search body-commands))

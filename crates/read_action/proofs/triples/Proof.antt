@@ -1,7 +1,7 @@
 use Prim.Native.Nat.{_-_}
 use lib.ListN.{length}
 use Rattle.read_command.specs.Places.{tripleAt, triplesAt}
-use Rattle.read_command.proofs.ListLaws.{steps, Goes, goes-fault, goes-last, goes-cut}
+use Rattle.read_command.proofs.ListLaws.{Goes, goes-ends}
 use Rattle.read_action.proofs.ActionLaws.{triples-start, triples-less, triples-more}
 use borrow.Author.Needs.{needs}
 use Rattle.read_action.proofs.triples.Statement.{statement}
@@ -21,15 +21,9 @@ triples-spec =
     μ-loop
     (λ c. triples-start _ _)
     (λ c κs. search needs)
-    (λ c. search needs)
-    (λ c. search needs)
-    (λ c. search goes-fault)
-    (λ c κs. search needs)
-    (λ c. search steps)
     (λ c κs. search needs)
     (λ c. search needs)
-    (λ c. search needs)
-    (λ c. search goes-cut)
     (λ c. search triples-less)
     (λ c. search triples-more)
-    (λ c. search goes-last))
+    (λ c. search needs)
+    (λ c. search goes-ends))

@@ -8,7 +8,7 @@ use borrow.Fn.Kinds.{In}
 use borrow.Fn.PlainCycle.{Measures, is, falls, and}
 use Rattle.read_command.specs.Places.{bracesAt, itemAt, itemsAt}
 use Rattle.read_command.proofs.empty_here.Reads as empty-here-reads
-use Rattle.read_command.proofs.ListLaws.{steps, goes-fault, goes-last, goes-cut}
+use Rattle.read_command.proofs.ListLaws.{steps, goes-ends}
 use Rattle.read_command.proofs.ItemLaws.{GoesOn, items-level, braces-empty, braces-deep, item-falls, braces-falls, items-start, items-falls, items-less, items-past, items-more}
 use Rattle.read_command.proofs.braced_items.Reads as braced-items
 use Rattle.read_command.proofs.braced_items.Kinds as braced-items-kinds
@@ -20,6 +20,7 @@ use Rattle.read_command.proofs.items.Reads as items
 use Rattle.read_command.proofs.items.Kinds as items-kinds
 use Rattle.read_command.proofs.+braced_items+item+items.Lts-items as items-lts
 use Rattle.read_command.proofs.head.Reads as head-reads
+use Rattle.read_command.proofs.after_part.Reads as after-part-reads
 use Rattle.text.proofs.is_at.Reads as is-at-reads
 use Rattle.text.proofs.sign.Reads as sign-reads
 use Rattle.text.proofs.white.Reads as white-reads
@@ -95,22 +96,16 @@ pub +braced-items+item+items-spec : {M : Type 1} → statement M
     (λ c κs. (search item-falls, tt))
     (λ c. unfold itemAt in search steps depth 9))
     (λ t. items-lts.spec
-    (item-below t, item.Post, is-at-reads.Asked, is-at-reads.Learnt, white-reads.Asked, white-reads.Learnt)
+    (item-below t, item.Post, after-part-reads.Asked, after-part-reads.Learnt)
     (items-at t)
     items.Post
     Inv-loop
     μ-loop
     (λ c. (le-refl _, items-start _ _ _))
     (λ c κs. (search items-falls, tt))
-    (λ c. search needs)
-    (λ c. search needs)
-    (λ c. search goes-fault)
-    (λ c κs. search needs)
-    (λ c. search steps)
     (λ c κs. search needs)
     (λ c. search needs)
-    (λ c. search needs)
-    (λ c. search goes-cut)
     (λ c. search items-less)
     (λ c. (search items-past, search items-more))
-    (λ c. search goes-last))
+    (λ c. search needs)
+    (λ c. search goes-ends))

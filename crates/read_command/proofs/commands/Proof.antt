@@ -1,7 +1,7 @@
 use mathlib.Core.Path.{_≡_, refl}
 use Rattle.read_command.specs.Production.{listAt}
 use Rattle.read_command.specs.Places.{commandAt, commandsAt}
-use Rattle.read_command.proofs.ListLaws.{steps, list-none, list-fault, list-last, list-cut, list-more}
+use Rattle.read_command.proofs.ListLaws.{list-none, list-ends, list-more}
 use borrow.Author.Needs.{needs}
 use Rattle.read_command.proofs.commands.Statement.{statement}
 use Rattle.read_command.proofs.commands.Tie as tie
@@ -20,17 +20,11 @@ commands-spec =
     μ-loop
     (λ c. unfold commandsAt in refl)
     (λ c κs. search needs)
-    (λ c. search needs)
-    (λ c. search needs)
-    (λ c. search list-fault)
-    (λ c κs. search needs)
-    (λ c. search steps)
     (λ c κs. search needs)
     (λ c. search needs)
-    (λ c. search needs)
-    (λ c. search list-cut)
     (λ c. search needs)
     (λ c. search needs)
     (λ c. search list-more)
-    (λ c. search list-last)
+    (λ c. search needs)
+    (λ c. search list-ends)
     (λ c. search list-none))

@@ -1,5 +1,5 @@
 use borrow.Author.Needs.{needs}
-use Rattle.report.proofs.ReportLaws.{told-media, told-nothing}
+use Rattle.report.proofs.ReportLaws.{detail-media, detail-nothing}
 use Rattle.report.proofs.put_detail.Statement.{statement}
 use Rattle.report.proofs.put_detail.Tie as tie
 
@@ -9,5 +9,5 @@ put-detail-spec =
     (tie.spec
     (λ c κs. search needs)
     (λ c. search needs)
-    (λ c. search told-media)
-    (λ c. search told-nothing))
+    (λ c. search detail-media)
+    (λ c. search detail-nothing))

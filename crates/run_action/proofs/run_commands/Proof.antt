@@ -7,7 +7,7 @@ use Rattle.megaco.proofs.Sizes.{sized-same}
 use Rattle.read_command.specs.Production.{listP}
 use Rattle.read_command.specs.Places.{commandAt, commandsAt}
 use Rattle.command_places.proofs.EndLaws.{end-none, end-last, end-more, end-after}
-use Rattle.run_attempts.proofs.DidLaws.{Leads, begins}
+use Rattle.run_attempts.proofs.RunsToLaws.{Leads, begins}
 use Rattle.run_action.specs.Fold.{runCommands}
 use Rattle.run_action.proofs.RunLaws.{loop-none, loop-stop, loop-last, loop-more}
 use Rattle.run_action.proofs.run_commands.Statement.{statement}
@@ -31,13 +31,14 @@ run-commands-spec =
     (λ c. (refl, refl, unfold commandsAt in refl, unfold commandsAt in begins _ _ _ _))
     (λ c κs. search sized-same)
     (λ c κs. search needs)
-    (λ c κs. search needs)
     (λ c. search needs)
     (λ c. search needs)
-    (λ c. (search needs, search needs, search end-more, search loop-more))
     (λ c. search needs)
     (λ c. search needs)
     (λ c. (search loop-last, search end-last))
+    (λ c. search needs)
+    (λ c. search needs)
+    (λ c. (search needs, search needs, search end-more, search loop-more))
     (λ c. search needs)
     (λ c κs. search needs)
     (λ c. search needs)

@@ -1,5 +1,5 @@
 use borrow.Author.Needs.{needs}
-use Rattle.run_attempts.proofs.DidLaws.{shown-full, shown-received}
+use Rattle.run_attempts.proofs.RunsToLaws.{shown-full, shown-received}
 use Rattle.run_attempts.proofs.put_refused.Statement.{statement}
 use Rattle.run_attempts.proofs.put_refused.Tie as tie
 

@@ -1,5 +1,5 @@
 use borrow.Author.Needs.{needs}
-use Rattle.run_attempts.proofs.DidLaws.{target-none, target-gateway, target-one, target-many}
+use Rattle.run_attempts.proofs.RunsToLaws.{target-none, target-gateway, target-one, target-many}
 use Rattle.run_attempts.proofs.run_targets.Statement.{statement}
 use Rattle.run_attempts.proofs.run_targets.Tie as tie
 

@@ -6,7 +6,7 @@ use lib.ListN.{length, drop}
 use Rattle.megaco.proofs.Sizes.{sized-same}
 use Rattle.megaco.specs.State.{state}
 use Rattle.megaco.specs.Command.{attempts}
-use Rattle.run_attempts.proofs.DidLaws.{Leads, begins, tries-on, tries-end}
+use Rattle.run_attempts.proofs.RunsToLaws.{Leads, begins, tries-on, tries-end}
 use Rattle.run_attempts.proofs.try_each.Statement.{statement}
 use Rattle.run_attempts.proofs.try_each.Tie as tie
 

@@ -1,5 +1,5 @@
 use borrow.Author.Needs.{needs}
-use Rattle.run_attempts.proofs.DidLaws.{many-none, many-some}
+use Rattle.run_attempts.proofs.RunsToLaws.{many-none, many-some}
 use Rattle.run_attempts.proofs.try_many.Statement.{statement}
 use Rattle.run_attempts.proofs.try_many.Tie as tie
 

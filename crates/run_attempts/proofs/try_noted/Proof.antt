@@ -1,5 +1,5 @@
 use borrow.Author.Needs.{needs}
-use Rattle.run_attempts.proofs.DidLaws.{noted-attempts}
+use Rattle.run_attempts.proofs.RunsToLaws.{noted-attempts}
 use Rattle.run_attempts.proofs.try_noted.Statement.{statement}
 use Rattle.run_attempts.proofs.try_noted.Tie as tie
 

@@ -1,5 +1,5 @@
 use borrow.Author.Needs.{needs}
-use Rattle.run_attempts.proofs.DidLaws.{look-lines, attempt-does, attempt-fails}
+use Rattle.run_attempts.proofs.RunsToLaws.{look-lines, attempt-does, attempt-fails}
 use Rattle.run_attempts.proofs.try_one.Statement.{statement}
 use Rattle.run_attempts.proofs.try_one.Tie as tie
 

@@ -6,7 +6,8 @@ use native.Mathlib.Omega.{arith}
 use lib.ListN.{length, getD, drop}
 use lib.Dec.{eqb}
 use Rattle.sessions.specs.Listing.{present}
-use Rattle.sessions.proofs.EachLaws.{bit-small, present-on, present-end}
+use Rattle.base.proofs.TestLaws.{bit-small}
+use Rattle.sessions.proofs.EachLaws.{present-on, present-end}
 use Rattle.sessions.proofs.count_present.Statement.{statement}
 use Rattle.sessions.proofs.count_present.Tie as tie
 

@@ -1,18 +1,20 @@
-use Rattle.sound.proofs.FlowLaws.{forbidden-0, forbidden-1, forbidden-2, forbidden-3, forbidden-4, forbidden-5, forbidden-6, forbidden-7, forbidden-rest}
-use borrow.Author.Needs.{needs}
+use Rattle.megaco.specs.Square.{bits, mayFlow}
+use Rattle.sound.specs.Parts.{forbiddenBits, forbiddenRows, forbiddenRow}
+use Rattle.sound.proofs.FlowLaws.{forbidden-rest}
 use Rattle.sound.proofs.forbidden.Statement.{statement}
 use Rattle.sound.proofs.forbidden.Tie as tie
 
 pub forbidden-spec : {M : Type 1} → statement M
+unfolding bits forbiddenBits forbiddenRows forbiddenRow mayFlow
 forbidden-spec =
     tie.close
     (tie.spec
-    (λ c. search forbidden-0)
-    (λ c. search forbidden-1)
-    (λ c. search forbidden-2)
-    (λ c. search forbidden-3)
-    (λ c. search forbidden-4)
-    (λ c. search forbidden-5)
-    (λ c. search forbidden-6)
-    (λ c. search forbidden-7)
+    (λ c. rw (c .match .keys1))
+    (λ c. rw (c .match .keys2))
+    (λ c. rw (c .match .keys3))
+    (λ c. rw (c .match .keys4))
+    (λ c. rw (c .match .keys5))
+    (λ c. rw (c .match .keys6))
+    (λ c. rw (c .match .keys7))
+    (λ c. rw (c .match .keys8))
     (λ c. forbidden-rest _ (c .match .rest)))

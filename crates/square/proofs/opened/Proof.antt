@@ -1,4 +1,6 @@
-use Rattle.square.proofs.SquareLaws.{opened-0, opened-1, opened-2, opened-3, opened-4, opened-5, opened-6, opened-7, opened-past}
+use Rattle.square.proofs.SquareLaws.{opened-past}
+use Rattle.base.specs.Pick.{pick}
+use Rattle.megaco.specs.Square.{upTo}
 use borrow.Author.Needs.{needs}
 use Rattle.square.proofs.opened.Statement.{statement}
 use Rattle.square.proofs.opened.Tie as tie
@@ -63,12 +65,12 @@ opened-spec =
     (λ c. search needs)
     (λ c. search needs)
     (λ c. search needs)
-    (λ c. search (opened-0, c .match .keys1))
-    (λ c. search (opened-1, c .match .keys2))
-    (λ c. search (opened-2, c .match .keys3))
-    (λ c. search (opened-3, c .match .keys4))
-    (λ c. search (opened-4, c .match .keys5))
-    (λ c. search (opened-5, c .match .keys6))
-    (λ c. search (opened-6, c .match .keys7))
-    (λ c. search (opened-7, c .match .keys8))
+    (λ c. unfold upTo pick in rw (c .match .keys1))
+    (λ c. unfold upTo pick in rw (c .match .keys2))
+    (λ c. unfold upTo pick in rw (c .match .keys3))
+    (λ c. unfold upTo pick in rw (c .match .keys4))
+    (λ c. unfold upTo pick in rw (c .match .keys5))
+    (λ c. unfold upTo pick in rw (c .match .keys6))
+    (λ c. unfold upTo pick in rw (c .match .keys7))
+    (λ c. unfold upTo pick in rw (c .match .keys8))
     (λ c. opened-past _ _ (search needs) (c .match .rest)))

@@ -1,4 +1,5 @@
-use Rattle.square.proofs.SquareLaws.{bit-small, bit-pick}
+use Rattle.base.proofs.TestLaws.{bit-small}
+use Rattle.square.proofs.SquareLaws.{bit-pick}
 use mathlib.Core.Path.{refl}
 use native.Mathlib.Omega.{arith}
 use borrow.Author.Needs.{needs}

@@ -3,7 +3,8 @@ use Prim.Native.Nat.{_+_, _-_, _≤_}
 use mathlib.Core.Path.{_≡_}
 use lib.ListN.{length, getD, drop}
 use Rattle.base.specs.Lists.{count}
-use Rattle.table.proofs.TableLaws.{bit-small, count-on, count-end}
+use Rattle.base.proofs.TestLaws.{bit-small}
+use Rattle.table.proofs.TableLaws.{count-on, count-end}
 use borrow.Author.Needs.{needs}
 use native.Mathlib.Omega.{arith}
 use Rattle.table.proofs.count_in.Statement.{statement}

@@ -1,7 +1,7 @@
 use borrow.Author.Needs.{needs}
 use native.Mathlib.Omega.{arith}
 use Prim.Native.Nat.{_-_, _≤_}
-use Rattle.table.proofs.TableLaws.{bit-small}
+use Rattle.base.proofs.TestLaws.{bit-small}
 use Rattle.table_run.proofs.in_all.Statement.{statement}
 use Rattle.table_run.proofs.in_all.Tie as tie
 

@@ -1,4 +1,4 @@
-use Rattle.topology.proofs.LinkLaws.{judged-priority, judged-emergency, judged-topology}
+use Rattle.topology.proofs.LinkLaws.{judged-other, judged-topology}
 use borrow.Author.Needs.{needs}
 use Rattle.topology.proofs.judge_property.Statement.{statement}
 use Rattle.topology.proofs.judge_property.Tie as tie
@@ -7,11 +7,8 @@ pub judge-property-spec : {M : Type 1} → statement M
 judge-property-spec =
     tie.close
     (tie.spec
-    (λ c. search needs)
-    (λ c. search needs)
-    (λ c. search needs)
     (λ c κs. search needs)
     (λ c κs. search needs)
-    (λ c. search judged-priority)
-    (λ c. search judged-emergency)
-    (λ c. search judged-topology))
+    (λ c κs. search needs)
+    (λ c. search judged-topology)
+    (λ c. search judged-other))

@@ -1,4 +1,4 @@
-use Rattle.topology.proofs.LinkLaws.{set-priority, set-emergency, set-topology}
+use Rattle.topology.proofs.LinkLaws.{set-other, set-topology}
 use borrow.Author.Needs.{needs}
 use Rattle.topology.proofs.set_property.Statement.{statement}
 use Rattle.topology.proofs.set_property.Tie as tie
@@ -7,11 +7,8 @@ pub set-property-spec : {M : Type 1} → statement M
 set-property-spec =
     tie.close
     (tie.spec
-    (λ c. search needs)
-    (λ c. search needs)
-    (λ c. search needs)
     (λ c κs. search needs)
     (λ c κs. search needs)
-    (λ c. search set-priority)
-    (λ c. search set-emergency)
-    (λ c. search set-topology))
+    (λ c κs. search needs)
+    (λ c. search set-topology)
+    (λ c. search set-other))
