@@ -1,9 +1,9 @@
 #!/usr/bin/env bash
-# The tests beside the proofs: unit tests, documentation without an archive, examples, the reference's examples, listing sessions,
-# differential tests of the calls, the map of the ephemerals and the contexts, demand 3 on the compiled library.
+# The tests beside the proofs: tools, unit tests, documentation without an archive, examples, the reference's examples, listing sessions,
+# differential tests of the calls, the map of the ephemerals and the contexts, demand 3 on the compiled library, README.md's commands.
 # Ends with status 0 only if all of them passed. docs/TESTING.md says what each is.
 #
-#   tests/run.sh                      the short form, under two minutes
+#   tests/run.sh                      the short form, some minutes
 #   tests/run.sh --long               the long form
 #   tests/run.sh --allow-no-archive   where there is no archive: the reference's tests alone, and the note 'no archive yet'
 #
@@ -54,6 +54,7 @@ if [ ! -f "$archive" ]; then
     exit 0
 fi
 
+step "tools" python3 tests/tools.py
 step "build" rust build --workspace
 step "unit tests" rust test --workspace
 step "no archive" without_archive
@@ -65,6 +66,7 @@ step "differential test, $calls calls" rust run -p differential -- calls "$seed"
 step "map of the ephemerals, $maps maps" rust run -p differential -- maps "$seed" $maps
 step "contexts as text, $contexts tables" rust run -p differential -- contexts "$seed" $contexts
 step "demand 3, $pairs pairs" rust run -p differential -- pairs "$seed" $pairs
+step "commands of README.md" python3 tests/readme.py
 if [ $long = yes ]; then
     step "out of range, 20000 calls under a memory checker" \
         valgrind -q --error-exitcode=9 rust/target/release/differential calls "$seed" 20000 exact

@@ -1,9 +1,6 @@
 #!/usr/bin/env python3
 """The calls that crates/calls_run reads, and what each must answer: writes its stdin and its stdout from recorded calls.
 
-usage, from the root: tools/call_cases.py CALLS.jsonl
-
-
 Takes the rows at a boundary first, then rows that show a code, a refusal, a report or a kind that few before them show, as
 tools/evaluate.py does, and adds the calls of SESSION and SINGLE, which stand in this file: document 01 gives their replies and
 tables, or its rules decide them. Nothing is taken from the program: a row's reply, its table and its buffer are the recorded ones.
@@ -15,11 +12,13 @@ Output, for each call: its number, the refusal or the reply's length and its byt
 whole buffer, which is filled with 170 before the call.
 """
 import collections
-import json
 import os
 import random
 import re
 import sys
+
+sys.dont_write_bytecode = True
+import command
 
 OWN, HEAD = b"[10.0.0.9]", b"!/1 [10.0.0.1] "
 LINES, WORDS, BUFFER = 8, 1010, 16640
@@ -205,10 +204,12 @@ def choose(rows, room):
 
 
 def main():
-    rows = [json.loads(line) for line in open(sys.argv[1])]
+    words = command.parser(__doc__)
+    words.add_argument("calls", metavar="CALLS.jsonl", help="recorded calls, one a line")
+    rows = command.calls(words.parse_args().calls)
     own = own_rows()
     taken = own + choose(rows, ROOM - sum(len(record(r)) for r in own))
-    crate = os.path.join("crates", "calls_run")
+    crate = os.path.join(command.TOP, "crates", "calls_run")
     with open(os.path.join(crate, "stdin"), "wb") as f:
         f.write(b"".join(record(r) for r in taken))
     with open(os.path.join(crate, "stdout"), "wb") as f:
@@ -220,4 +221,5 @@ def main():
     print(len(taken), "calls; shown by no call:", sorted(map(str, every - set(shown))))
 
 
-main()
+if __name__ == "__main__":
+    command.run(main)

@@ -1,15 +1,18 @@
 #!/usr/bin/env python3
 """crates.txt names, for each crate, the crates that its own files name: no more, so that it is the picture, and no fewer.
 
-usage: tools/crates.py [--write]
-
-Without --write it says what differs and fails; with it the lines are written anew, each in the order in which crates.txt has its crates.
+No crate may bear the name of a module of the kit's libraries: `rt try` refuses every program that reaches both.
+Says what differs and fails.
 """
 import pathlib
 import re
+import shutil
 import sys
 
-ROOT = pathlib.Path(__file__).resolve().parent.parent
+sys.dont_write_bytecode = True
+import command
+
+ROOT = pathlib.Path(command.TOP)
 LIST = ROOT / "crates.txt"
 KIT = {"std", "check", "io", "bytes", "os", "libc"}
 
@@ -19,16 +22,25 @@ def named_by(crate, names):
     found = set()
     for path in (ROOT / "crates" / crate).rglob("*"):
         if path.suffix == ".rt":
-            text = path.read_text()
+            text = command.text(path)
             code = "\n".join(line.split("//", 1)[0] for line in text.splitlines())
             found |= set(re.findall(r"\b([a-z_0-9]+)::", code)) | set(re.findall(r"Rattle·([a-z_0-9]+)", text))
         elif path.suffix == ".antt":
-            found |= set(re.findall(r"Rattle·([a-z_0-9]+)", path.read_text()))
+            found |= set(re.findall(r"Rattle·([a-z_0-9]+)", command.text(path)))
     return (found & names) - {crate}
 
 
+def kit_modules():
+    """The modules of the kit's libraries, each with its library; none where the kit's folder is not found beside rt."""
+    libraries = pathlib.Path(shutil.which("rt") or "/").resolve().parent.parent / "libs"
+    return {path.stem: path.parts[len(libraries.parts)] for path in libraries.glob("*/src/**/*.rt") if path.stem != "lib"}
+
+
 def main():
-    lines = LIST.read_text().splitlines()
+    words = command.parser(__doc__)
+    words.add_argument("--write", action="store_true", help="write the lines anew, each in the order in which crates.txt has its crates")
+    write = words.parse_args().write
+    lines = command.text(LIST).splitlines()
     listed = {}
     for line in lines:
         if ":" in line and not line.startswith("#"):
@@ -42,7 +54,11 @@ def main():
         kit = [k for k in before if k in KIT]
         wanted[crate] = [n for n in order if n in used] + [k for k in kit if k in used or k == "libc"]
     wrong = [c for c in listed if set(listed[c]) != set(wanted[c])]
-    if "--write" in sys.argv[1:]:
+    modules = kit_modules()
+    taken = sorted(set(listed) & set(modules))
+    for crate in taken:
+        print(f"crates.txt: {crate}: the kit's library {modules[crate]} has a module of that name")
+    if write:
         out = []
         for line in lines:
             name = line.split(":", 1)[0].strip()
@@ -53,9 +69,11 @@ def main():
             extra = sorted(set(listed[c]) - set(wanted[c]))
             missing = sorted(set(wanted[c]) - set(listed[c]))
             print(f"crates.txt: {c}: named and not used {extra}, used and not named {missing}")
-        sys.exit(1)
-    print(f"crates.txt: {len(listed)} crates, {sum(map(len, wanted.values()))} direct dependencies")
+    if taken or (wrong and not write):
+        return 1
+    apart = f"no name of the kit's {len(modules)} modules" if modules else "the kit's modules are not found, and no name was compared with theirs"
+    print(f"crates.txt: {len(listed)} crates, {sum(map(len, wanted.values()))} direct dependencies, {apart}")
 
 
 if __name__ == "__main__":
-    main()
+    command.run(main)

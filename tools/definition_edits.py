@@ -1,8 +1,6 @@
 #!/usr/bin/env python3
 """Edits of the definition (crate megaco) that the theorems about it must refuse: laws, or the grammar, on which demand 2 rests.
 
-usage: tools/definition_edits.py [NAME ..]
-
 A must-fail edit of rt changes its own crate only, and megaco by itself is proved with any definition but those of its methods. So each edit of
 tools/definition-edits, in the form of rt's must-fail edits with a line `refused by: laws` or `refused by: grammar` before it, is applied to a
 copy of the repository without the fourteen examples: megaco must still be proved there, and the crate named must not. The gate runs it
@@ -10,15 +8,18 @@ copy of the repository without the fourteen examples: megaco must still be prove
 """
 import glob, os, re, shutil, subprocess, sys, tempfile
 
-ROOT = os.path.dirname(os.path.dirname(os.path.abspath(__file__)))
+sys.dont_write_bytecode = True
+import command
+
+ROOT = command.TOP
 # what a crate rests on here
-BELOW = {'base': '', 'megaco': 'base', 'types': 'megaco', 'laws': 'types megaco base', 'grammar': 'types megaco base'}
+BELOW = {'base': '', 'megaco': 'base', 'protocol': 'megaco', 'laws': 'protocol megaco base', 'grammar': 'protocol megaco base'}
 
 
 def edited(text, edit):
     """The file that an edit names, and the text with its replacements made."""
     name, old = None, None
-    for line in open(edit, encoding='utf-8').read().splitlines():
+    for line in command.text(edit).splitlines():
         if line.startswith('file: '):
             name = line[6:]
         elif line.startswith('old: '):
@@ -35,7 +36,7 @@ def edited(text, edit):
 
 def refuser(edit):
     """The crate that must refuse an edit."""
-    named = re.search(r'^refused by: (\w+)$', open(edit, encoding='utf-8').read(), re.M)
+    named = re.search(r'^refused by: (\w+)$', command.text(edit), re.M)
     if not named or named[1] not in ('laws', 'grammar'):
         sys.exit(f'{edit}: says no crate that must refuse it')
     return named[1]
@@ -81,15 +82,23 @@ def tried(edit):
 
 
 def main():
-    edits = sorted(glob.glob(f'{ROOT}/tools/definition-edits/*.edit'))
-    chosen = [e for e in edits if not sys.argv[1:] or os.path.basename(e)[:-5] in sys.argv[1:]]
+    words = command.parser(__doc__)
+    words.add_argument('names', metavar='NAME', nargs='*', help='an edit of tools/definition-edits, without its ending; none: all of them')
+    names = words.parse_args().names
+    command.need('rt')
+    edits = {os.path.basename(path)[:-5]: path for path in sorted(glob.glob(f'{ROOT}/tools/definition-edits/*.edit'))}
+    for name in names:
+        if name not in edits:
+            command.fail(f'there is no edit {name} in tools/definition-edits')
+    chosen = [edits[name] for name in names or edits]
     kept = 0
     for edit in chosen:
         refused, said = tried(edit)
         kept += not refused
         print(f'{os.path.basename(edit)[:-5]}: {"refused, first at" if refused else "NOT REFUSED:"} {said}', flush=True)
     print(f'{len(chosen) - kept} refused, {kept} not')
-    sys.exit(1 if kept or not chosen else 0)
+    return 1 if kept or not chosen else 0
 
 
-main()
+if __name__ == '__main__':
+    command.run(main)

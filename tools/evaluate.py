@@ -1,16 +1,17 @@
 #!/usr/bin/env python3
 """Evaluates the definition of the call (crates/megaco) on recorded calls, by computed equality.
 
-usage: tools/evaluate.py CALLS.jsonl [--rows N] [--longest BYTES] [--seed S] [--keep DIR]
-
 Takes N rows (default 300), of messages of at most BYTES bytes (default 200), those first that show a code, a refusal, a
 report, a count of lines or a kind (by its first letter) that few before them show. A row without `lines` has eight. Each row is a theorem `holds row ≡ true`, proved by
 computation, in a crate `rows` that is written into a temporary repository beside copies of `base` and `megaco`. The refusal,
 the whole table and the whole reply buffer, filled with 170 before the call, are compared. It stands outside the gate.
 """
-import argparse, collections, json, os, random, re, shutil, subprocess, sys, tempfile
+import collections, os, random, re, shutil, subprocess, sys, tempfile
 
-ROOT = os.path.dirname(os.path.dirname(os.path.abspath(__file__)))
+sys.dont_write_bytecode = True
+import command
+
+ROOT = command.TOP
 
 
 def number_list(bs):
@@ -48,14 +49,15 @@ def choose(rows, n, seed):
 
 
 def main():
-    ap = argparse.ArgumentParser()
-    ap.add_argument('calls')
-    ap.add_argument('--rows', type=int, default=300)
-    ap.add_argument('--longest', type=int, default=200)
-    ap.add_argument('--seed', type=int, default=1)
-    ap.add_argument('--keep')
+    ap = command.parser(__doc__)
+    ap.add_argument('calls', metavar='CALLS.jsonl', help='recorded calls, one a line')
+    ap.add_argument('--rows', metavar='N', type=int, default=300)
+    ap.add_argument('--longest', metavar='BYTES', type=int, default=200)
+    ap.add_argument('--seed', metavar='S', type=int, default=1)
+    ap.add_argument('--keep', metavar='DIR', help='the folder for the temporary repository, which is then kept')
     a = ap.parse_args()
-    rows = [json.loads(line) for line in open(a.calls)]
+    command.need('rt')
+    rows = command.calls(a.calls)
     rows = [r for r in rows if len(r['message']) // 2 <= a.longest]
     taken = choose(rows, a.rows, a.seed)
     work = a.keep or tempfile.mkdtemp()
@@ -118,7 +120,8 @@ row{k + i} = refl
     print(f'{len(taken) - len(bad)} rows hold, {len(bad)} differ' if ok or bad else 'not checked')
     if not a.keep:
         shutil.rmtree(work)
-    sys.exit(0 if ok else 1)
+    return 0 if ok else 1
 
 
-main()
+if __name__ == '__main__':
+    command.run(main)

@@ -1,17 +1,17 @@
 #!/usr/bin/env python3
 """The table of keywords: the constant in crates/keywords/src/lib.rt.
 
-keywords.py          compares the constant with the rows of the definition (crates/megaco/specs/Keywords.antt), with the tokens
-                     (crates/megaco/src/lib.rt) and with the page (docs/KEYWORDS.md), and the derived files with what it would write.
-                     Exit 1 on a difference.
-keywords.py --write  writes the derived files: src/rows.rt, proofs/LengthLaws.antt and proofs/rows/ of crates/keywords. Nothing that it
-                     writes is trusted: the check proves it.
+Compares the constant with the rows of the definition (crates/megaco/specs/Keywords.antt), with the tokens (crates/megaco/src/lib.rt)
+and with the page (docs/KEYWORDS.md), and the derived files with what it would write. Exit 1 on a difference.
 """
 import os
 import re
 import sys
 
-ROOT = os.path.join(os.path.dirname(os.path.abspath(__file__)), "..")
+sys.dont_write_bytecode = True
+import command
+
+ROOT = command.TOP
 TABLE = "crates/keywords/src/lib.rt"
 DEFINITION = "crates/megaco/specs/Keywords.antt"
 TOKENS = "crates/megaco/src/lib.rt"
@@ -22,8 +22,7 @@ MOST = 5  # tests in one function by length
 
 
 def read(path):
-    with open(os.path.join(ROOT, path), encoding="utf-8") as f:
-        return f.read()
+    return command.text(os.path.join(ROOT, path))
 
 
 def part(text, start, end, path):
@@ -335,8 +334,12 @@ def compare(what, rows, others):
 
 
 def main():
+    words = command.parser(__doc__)
+    words.add_argument("--write", action="store_true", help="write the derived files: src/rows.rt, proofs/LengthLaws.antt and proofs/rows/ of "
+                       "crates/keywords. Nothing that it writes is trusted: the check proves it")
+    write = words.parse_args().write
     rows, wrong = table()
-    if sys.argv[1:] == ["--write"]:
+    if write:
         if wrong:
             sys.exit("\n".join(wrong))
         files = derived(rows)
@@ -354,8 +357,6 @@ def main():
                     f.write(text)
                 print("wrote", path)
         return
-    if sys.argv[1:]:
-        sys.exit(__doc__)
     wrong += compare(DEFINITION, rows, definition())
     wrong += compare(TOKENS, [r[0] for r in rows], tokens())
     wrong += compare(PAGE, rows, page())
@@ -371,4 +372,5 @@ def main():
     print("keywords: %d rows, the same in the constant, the definition and the page" % len(rows))
 
 
-main()
+if __name__ == "__main__":
+    command.run(main)

@@ -2,10 +2,15 @@
 # Says whether the kit here is the one that this tree was proved with (kit.txt), and what another one may change.
 set -eu
 cd "$(dirname "$0")/.."
-pinned=$(cat kit.txt)
+case $* in
+    "") ;;
+    --help | -h) echo "usage: kit.sh"; sed -n '2s/^# //p' tools/kit.sh; exit 0 ;;
+    *) echo "usage: kit.sh" >&2; exit 2 ;;
+esac
+pinned=$(cat kit.txt) || exit 2
 if ! command -v rt > /dev/null; then
-    echo "kit: there is no rt on the path; this tree was proved with $pinned"
-    exit 1
+    echo "kit: there is no rt on the path; this tree was proved with $pinned" >&2
+    exit 2
 fi
 here=$(rt version)
 if [ "$here" = "$pinned" ]; then

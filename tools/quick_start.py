@@ -1,10 +1,7 @@
 #!/usr/bin/env python3
 """Answers messages by the listing program: README.md's Quick start, or those of a file, one a line.
 
-    tools/quick_start.py [FILE]             in seconds, with no proof: the sources as they are, run by `rt try`
-    tools/quick_start.py --proved [FILE]    by the proved program; the first time `rt check listing` proves it, which takes minutes
-
-It prints each message with its reply on a line, then the contexts. `-` is standard input.
+In seconds, with no proof: the sources as they are, run by `rt try`. It prints each message with its reply on a line, then the contexts.
 """
 import ast
 import os
@@ -14,11 +11,14 @@ import subprocess
 import sys
 import tempfile
 
-TOP = os.path.dirname(os.path.dirname(os.path.abspath(__file__)))
+sys.dont_write_bytecode = True
+import command
+
+TOP = command.TOP
 
 
 def of_readme():
-    text = open(os.path.join(TOP, 'README.md')).read()
+    text = command.text(os.path.join(TOP, 'README.md'))
     block = re.search(r'^```quick\n(.*?)^```$', text, re.M | re.S)
     return [re.split(r' {2,}', line)[0] for line in block[1].splitlines()]
 
@@ -52,27 +52,22 @@ def tried(messages):
 
 
 def main():
-    words = sys.argv[1:]
-    with_proof = words[:1] == ['--proved']
-    words = words[with_proof:]
-    if len(words) > 1:
-        raise SystemExit(__doc__)
-    if not shutil.which('rt'):
-        raise SystemExit('quick start: FAILED, there is no rt on the path; it is the Rattle kit\'s, see README.md')
-    if words:
-        messages = (sys.stdin if words[0] == '-' else open(words[0])).read().splitlines()
-    else:
-        messages = of_readme()
-    output = (proved if with_proof else tried)(''.join(message + '\n' for message in messages)).splitlines()
+    words = command.parser(__doc__)
+    words.add_argument('--proved', action='store_true', help='by the proved program; the first time `rt check listing` proves it, which takes minutes')
+    words.add_argument('file', metavar='FILE', nargs='?', help='messages, one a line; `-` is standard input; none: those of README.md')
+    words = words.parse_args()
+    command.need('rt')
+    messages = command.text(words.file).splitlines() if words.file else of_readme()
+    output = (proved if words.proved else tried)(''.join(message + '\n' for message in messages)).splitlines()
     width = max((len(message) for message in messages if len(message) < 80), default=0)
     for message, reply in zip(messages, output):
         print(f'{message:{width}}  {reply}')
     print('\n'.join(output[len(messages):]))
-    if with_proof:
+    if words.proved:
         print('(by target/bin/listing, which `rt check listing` proved)')
     else:
         print('(NOT PROVED: the sources were run without their proofs; with --proved they are proved first)')
 
 
 if __name__ == '__main__':
-    main()
+    command.run(main)

@@ -1,8 +1,6 @@
 #!/usr/bin/env python3
 """Runs every example of docs/REFERENCE.md, and README.md's Quick start, and compares what is answered.
 
-    tools/reference.py [FILE.md ..]
-
 An example is a fenced block. What is answered stands indented by four spaces under what was asked.
 
     session    requests and replies without their headers, from a fresh table of eight lines, through target/bin/listing;
@@ -22,7 +20,10 @@ import subprocess
 import sys
 import tempfile
 
-TOP = os.path.dirname(os.path.dirname(os.path.abspath(__file__)))
+sys.dont_write_bytecode = True
+import command
+
+TOP = command.TOP
 SENDER, OWN = '!/1 [10.0.0.1] ', '!/1 [10.0.0.9] '
 NOT_RUN = ('sh', 'text')
 
@@ -35,8 +36,7 @@ class Block:
 
 def blocks_of(path):
     found, open_block = [], None
-    for number, line in enumerate(open(path), 1):
-        line = line.rstrip('\n')
+    for number, line in enumerate(command.text(path).split('\n'), 1):
         if not line.startswith('```'):
             if open_block:
                 open_block.lines.append(line)
@@ -74,7 +74,7 @@ def run(command, text):
 def program(name):
     path = os.path.join(TOP, 'target/bin', name)
     if not os.path.exists(path):
-        raise SystemExit(f'reference: FAILED, there is no {path}; make it with `rt check {name}`')
+        command.fail(f'there is no {path}; make it with `rt check {name}`')
     return path
 
 
@@ -102,7 +102,7 @@ def quick(lines):
 def c_program(lines, output):
     archive = os.path.join(TOP, os.environ.get('CORDAFINA_LIB', 'target/staticlib/libcordafina.a'))
     if not os.path.exists(archive):
-        raise SystemExit(f'reference: FAILED, there is no archive at {archive}; make it with `rt staticlib cordafina`')
+        command.fail(f'there is no archive at {archive}; make it with `rt staticlib cordafina`')
     with tempfile.TemporaryDirectory() as folder:
         source, binary = os.path.join(folder, 'example.c'), os.path.join(folder, 'example')
         open(source, 'w').write('\n'.join(lines) + '\n')
@@ -130,7 +130,9 @@ def altered(lines, place):
 
 
 def main():
-    paths = sys.argv[1:] or [os.path.join(TOP, 'docs/REFERENCE.md'), os.path.join(TOP, 'README.md')]
+    words = command.parser(__doc__)
+    words.add_argument('files', metavar='FILE.md', nargs='*', help='none: docs/REFERENCE.md and README.md')
+    paths = words.parse_args().files or [os.path.join(TOP, 'docs/REFERENCE.md'), os.path.join(TOP, 'README.md')]
     failed = found = count = answers = 0
     for path in paths:
         blocks = blocks_of(path)
@@ -179,4 +181,4 @@ def with_lines(block, lines):
 
 
 if __name__ == '__main__':
-    main()
+    command.run(main)

@@ -1,8 +1,6 @@
 #!/usr/bin/env python3
 """The messages that crates/verdict_run reads, and the verdict on each: writes its stdin and its stdout.
 
-usage, from the root: tools/verdict_cases.py
-
 The verdicts stand in this file. They were written down from the sentences of document 01 and then compared, on the written
 stdin, with the reader of the reference in plain Rust (rust/reference/src/text.rs), which shares nothing with the program and
 reads messages of any length: the two agree on every message, one slip of the writer put right. None was taken from the program. Those on
@@ -13,6 +11,9 @@ Output, for each message: its number, what it shows, the verdict. What it shows 
 """
 import os
 import sys
+
+sys.dont_write_bytecode = True
+import command
 
 GOOD, F400, F406 = "well-formed", "400", "406"
 CASES = []
@@ -286,7 +287,8 @@ put(f403(1), message, ("a fault in 8192 bytes", filled(trans(b"T=1{"), b"C=1{A=$
 
 
 def main():
-    crate = os.path.join("crates", "verdict_run")
+    command.parser(__doc__).parse_args()
+    crate = os.path.join(command.TOP, "crates", "verdict_run")
     with open(os.path.join(crate, "stdin"), "wb") as f:
         for name, text, _ in CASES:
             f.write(b"%05d %s\n" % (len(text), name.ljust(41).encode()) + text + b"\n")
@@ -299,4 +301,5 @@ def main():
     print(len(CASES), "messages", counts, file=sys.stderr)
 
 
-main()
+if __name__ == "__main__":
+    command.run(main)

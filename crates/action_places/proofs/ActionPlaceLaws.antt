@@ -12,7 +12,7 @@ use Rattle.megaco.specs.Keywords.{spells}
 use Rattle.megaco.specs.Tokens.{markAt, rowAt, terminationAt, numberAt}
 use Rattle.megaco.specs.Tree.{priority, emergency, topology, Triple}
 use Rattle.megaco.specs.Reading.{unlimited, keyAt, isProperty, wordHere, senderAt}
-use Rattle.types.specs.Types.{Parsed, Next, Fault, Number, Got, Bad, WordByte, Null, Numbered, Choose, All, Direction, Priority, Emergency, Topology, CtxToken, EmergencyToken, TopologyToken}
+use Rattle.protocol.specs.Types.{Parsed, Next, Fault, Number, Got, Bad, WordByte, Null, Numbered, Choose, All, Direction, Priority, Emergency, Topology, CtxToken, EmergencyToken, TopologyToken}
 use Rattle.read_command.specs.declared.Piece.{Piece}
 use Rattle.read_command.specs.Pieces.{Holds}
 use Rattle.read_command.specs.declared.Rest.{Rest}

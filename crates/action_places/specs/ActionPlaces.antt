@@ -4,7 +4,7 @@ use mathlib.Core.Path.{_≡_}
 use mathlib.Core.List.{List}
 use Rattle.megaco.specs.Tree as tree
 use Rattle.megaco.specs.Tree.{Triple, triple, priority, emergency, topology}
-use Rattle.types.specs.Types.{Property, Priority, Emergency, Topology}
+use Rattle.protocol.specs.Types.{Property, Priority, Emergency, Topology}
 use Rattle.read_command.specs.Messages.{identifierAt, actionsStart}
 use Rattle.read_command.specs.Production.{valueIn}
 use Rattle.read_command.specs.Places.{contextStart, contextAt, bodyStart, directionAt, partyEnd, twoStart, directionStart, tripleAt, propertyAt}

@@ -14,8 +14,8 @@ use Rattle.megaco.specs.Square.{Square, squareOf, ofBits, ofRows, lowOf, highOf
 use Rattle.megaco.specs.Table.{Write, write, ctx, cell, prop, rec, used, flow, lowFlow, highFlow, most, isEphemeral, store, apply}
 use Rattle.megaco.specs.Items.{update}
 use Rattle.megaco.specs.Attempt.{numberOf, isChoose, target, flowsOf, flowing, joining, leaving, placed, marking, added, subtracted, changes}
-use Rattle.types.specs.Types.{Op, Add, Modify, Subtract, Move, AuditValue, Context, Given, Keep, To, Values, Seen, View}
-use Rattle.types.specs.Ranges.{InRange}
+use Rattle.protocol.specs.Types.{Op, Add, Modify, Subtract, Move, AuditValue, Context, Given, Keep, To, Values, Seen, View}
+use Rattle.protocol.specs.Ranges.{InRange}
 use Rattle.attempt.specs.Judging.{valueOr}
 
 -- ---- property words

@@ -9,7 +9,7 @@ use borrow.Author.Tests.{eq-eqb, ne-eqb, le-leb, lt-leb}
 use Rattle.base.specs.Pick.{pick}
 use Rattle.megaco.specs.Table.{stateOf}
 use Rattle.megaco.specs.Attempt.{Check, check, judge, numberOf, roomChecks, checks}
-use Rattle.types.specs.Types.{Op, Add, Modify, Subtract, Move, AuditValue, Context, Checked, Passes, Fails, View}
+use Rattle.protocol.specs.Types.{Op, Add, Modify, Subtract, Move, AuditValue, Context, Checked, Passes, Fails, View}
 
 -- ---- the tests in turn
 

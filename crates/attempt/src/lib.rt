@@ -15,7 +15,7 @@ ghost use Rattle.megaco.specs.Square.{joined, parted};
 ghost use Rattle.megaco.specs.Table.{most, apply};
 ghost use Rattle.megaco.specs.Items.{update};
 ghost use Rattle.megaco.specs.Attempt.{judge, target, roomChecks, checks, flowsOf, flowing, joining, leaving, placed, marking, added, subtracted, changes, settled};
-ghost use Rattle.types.specs.Ranges.{InRange};
+ghost use Rattle.protocol.specs.Ranges.{InRange};
 ghost use Rattle.attempt.specs.Judging.{valueOr};
 
 // ---- judging

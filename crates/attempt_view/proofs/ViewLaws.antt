@@ -13,7 +13,7 @@ use Rattle.megaco.specs.Table.{prop, rec, flow, ctx, cell, lowFlow, highFlow, g
 use Rattle.megaco.proofs.Regions.{context-region}
 use Rattle.megaco.specs.Attempt.{unseen, seen, numberOf, freeAt, look}
 use Rattle.megaco.specs.Command.{matchesFrom, matches}
-use Rattle.types.specs.Types.{View, Context, Op, Range}
+use Rattle.protocol.specs.Types.{View, Context, Op, Range}
 use Rattle.attempt_view.specs.Sight.{SeesContext}
 use Rattle.attempt_view.specs.declared.ContextSeen.{ContextSeen}
 use Rattle.attempt_view.specs.Noted.{isMatch, Noted, Matched}

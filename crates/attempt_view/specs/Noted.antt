@@ -9,7 +9,7 @@ use Rattle.base.specs.Bytes.{put}
 use Rattle.megaco.specs.Table.{exists}
 use Rattle.megaco.specs.Names.{inRange}
 use Rattle.megaco.specs.Command.{wanted}
-use Rattle.types.specs.Types.{Op, Range}
+use Rattle.protocol.specs.Types.{Op, Range}
 
 -- a wildcard matches termination i, whose context word is given
 unfoldable pub isMatch : ℕ → Op → ℕ → Range → ℕ → ℕ → Bool

@@ -15,7 +15,7 @@ use Rattle.megaco.specs.Attempt.{judge, checks, changes, seen, numberOf, look, 
 use Rattle.megaco.specs.Command.{Outcome, attempts, commandError, actionError, Targets, noTarget, gateway, targets, runTargets, opOf, forbiddenInNull, noContext, fromTest4, fromTest2, unlessOptional, fromTest1, runCommand}
 use Rattle.megaco.specs.Action.{startChecks, startWrites, anyGiven, over15, startedBy, started}
 use Rattle.megaco.specs.Transaction.{Step, start, commandStep, commandSteps, noCommands, steps, Course, course, begin, advance, proceed, step, run, fresh, runTransaction}
-use Rattle.types.specs.Types.{Context, Null, Numbered, Choose, All, Op, AuditValue, Judged, Wrong, Right, Checked, Passes, Fails, Values, Seen, View}
+use Rattle.protocol.specs.Types.{Context, Null, Numbered, Choose, All, Op, AuditValue, Judged, Wrong, Right, Checked, Passes, Fails, Values, Seen, View}
 use Rattle.audits.specs.Audits.{IsAudit, Stays, Audits, OnlyAudits, TransactionStays, no-more, more}
 
 -- ---- a command

@@ -20,7 +20,7 @@ use Rattle.megaco.specs.Items.{given?}
 use Rattle.megaco.specs.Reply.{Report, refused}
 use Rattle.megaco.specs.Attempt.{numberOf, seen, isChoose}
 use Rattle.megaco.specs.Command.{noContext, wanted, matchesFrom, matches, Targets, matchTargets, notForRoot, targetsOf, runTargets, commandError, opOf, runCommand}
-use Rattle.types.specs.Types.{Context, AuditValue, Range, Wildcard, Values}
+use Rattle.protocol.specs.Types.{Context, AuditValue, Range, Wildcard, Values}
 use Rattle.laws.specs.Membership.{_∈_}
 use Rattle.laws.specs.Sound.{Whole}
 use Rattle.laws.proofs.Sound.{sound-whole, context-words, context-at}

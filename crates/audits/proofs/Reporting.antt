@@ -17,7 +17,7 @@ use Rattle.megaco.specs.Items.{given?, judgeItems}
 use Rattle.megaco.specs.Reply.{nothing, Report, done, refused, failed}
 use Rattle.megaco.specs.Attempt.{Check, check, judge, checks, seen, numberOf, look, isChoose, settled, detailOf, concluded, effect, Effect}
 use Rattle.megaco.specs.Command.{Outcome, attempts, commandError, actionError, Targets, noTarget, gateway, targets, isNull, isSubtract, inPlace, notForRoot, targetsOf, runTargets, opOf, forbiddenInNull, noContext, fromTest4, fromTest2, unlessOptional, fromTest1, runCommand}
-use Rattle.types.specs.Types.{Context, Null, Numbered, Choose, All, Op, AuditValue, Name, Termination, Judged, Wrong, Right, Checked, Passes, Fails, Values}
+use Rattle.protocol.specs.Types.{Context, Null, Numbered, Choose, All, Op, AuditValue, Name, Termination, Judged, Wrong, Right, Checked, Passes, Fails, Values}
 use Rattle.audits.specs.Audits.{IsAudit, heldReport, Honest, of-one, of-root, of-none, of-action, AllHonest, no-more, more, ReportsHeld, ReportsNamed, reportsOf}
 use Rattle.audits.proofs.Keeping.{effect-keeps}
 

@@ -17,7 +17,7 @@ use Rattle.megaco.specs.Attempt.{seen, numberOf, detailOf}
 use Rattle.megaco.specs.Command.{noContext, matches, opOf, runCommand}
 use Rattle.megaco.specs.Transaction.{runTransaction}
 use Rattle.megaco.specs.Call.{call}
-use Rattle.types.specs.Types.{Context, AuditValue, Range, Termination, Wildcard, Right, Values}
+use Rattle.protocol.specs.Types.{Context, AuditValue, Range, Termination, Wildcard, Right, Values}
 use Rattle.laws.specs.Membership.{_∈_}
 
 -- a command that is AuditValue, without `W-`

@@ -5,7 +5,7 @@ use mathlib.Core.List.{List}
 use native.Mathlib.Omega.{arith}
 use lib.ListN.{length}
 use Rattle.megaco.specs.Reading.{unlimited}
-use Rattle.types.specs.Types.{Parsed, Next, Fault}
+use Rattle.protocol.specs.Types.{Parsed, Next, Fault}
 use Rattle.read_command.specs.Production.{listEnd, listAfter}
 use Rattle.read_command.specs.Places.{itemAt, itemsAt}
 use Rattle.command_places.specs.Found.{nextAt}

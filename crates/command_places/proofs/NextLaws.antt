@@ -7,7 +7,7 @@ use native.Mathlib.Omega.{arith}
 use Rattle.base.specs.Pick.{pick}
 use Rattle.base.specs.Lists.{isAt}
 use Rattle.megaco.specs.Bytes.{comma}
-use Rattle.types.specs.Types.{Parsed, Next, Fault}
+use Rattle.protocol.specs.Types.{Parsed, Next, Fault}
 use Rattle.read_command.specs.Production.{pastSign}
 use Rattle.command_places.specs.Found.{nextAt}
 

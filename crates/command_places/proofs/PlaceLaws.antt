@@ -12,7 +12,7 @@ use Rattle.megaco.specs.Bytes.{equal, leftBrace, rightBrace, slash, quote}
 use Rattle.megaco.specs.Tokens.{rowAt, valueAt, terminationAt}
 use Rattle.megaco.specs.Tree.{plain, quoted}
 use Rattle.megaco.specs.Reading.{Read, valueOf, mayBeEmpty, prefixAt, prefixEnd}
-use Rattle.types.specs.Types.{Parsed, Next, Fault, WordByte}
+use Rattle.protocol.specs.Types.{Parsed, Next, Fault, WordByte}
 use Rattle.read_command.specs.declared.Piece.{Piece}
 use Rattle.read_command.specs.Places.{orderStart, orderAt, bracesAt, auditAt, emptyAt, orNoneAt, itemAt, itemsAt, commandAt, secondAt, equalPlace, valueEnd, valueItemAt, headEnd, orderEnd, nameStart, nameEnd, commandHeadEnd}
 use Rattle.read_command.specs.Pieces.{Holds}

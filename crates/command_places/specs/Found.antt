@@ -10,7 +10,7 @@ use Rattle.base.specs.Lists.{isAt, part}
 use Rattle.megaco.specs.Bytes.{comma, equal, leftBrace, rightBrace, slash, quote}
 use Rattle.megaco.specs.Tree.{Value, plain, quoted, ItemOf, item, Items, Command, command}
 use Rattle.megaco.specs.Reading.{prefixAt, prefixEnd}
-use Rattle.types.specs.Types.{Parsed, Next, Fault}
+use Rattle.protocol.specs.Types.{Parsed, Next, Fault}
 use Rattle.read_command.specs.declared.Piece.{Piece}
 use Rattle.read_command.specs.Places.{orderStart, equalPlace, valueEnd, valueItemAt, headEnd, itemsAt, orderEnd, nameStart, nameEnd, commandHeadEnd}
 use Rattle.read_command.specs.Pieces.{pieceOf, Holds}

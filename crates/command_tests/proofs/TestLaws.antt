@@ -16,8 +16,8 @@ use Rattle.keywords.proofs.RowLaws.{token-some, token-none}
 use Rattle.keywords.specs.Page.{tokenOf}
 use Rattle.keywords.specs.declared.Meaning.{Meaning}
 use Rattle.keywords.specs.declared.Meaning.the-variants.{Of, Nothing}
-use Rattle.types.specs.Types.{Token, AddToken, ModifyToken, SubtractToken, MoveToken, AuditValueToken, Context, Op, Add, Modify, Subtract, Move, AuditValue, Judged, Wrong, Right, Values, Name}
-use Rattle.types.specs.Ranges.{InRange, JudgedInRange, right}
+use Rattle.protocol.specs.Types.{Token, AddToken, ModifyToken, SubtractToken, MoveToken, AuditValueToken, Context, Op, Add, Modify, Subtract, Move, AuditValue, Judged, Wrong, Right, Values, Name}
+use Rattle.protocol.specs.Ranges.{InRange, JudgedInRange, right}
 use Rattle.targets.specs.Targets.{targetOf, targetsIn}
 use Rattle.targets.proofs.TargetLaws.{target-is}
 use Rattle.targets.specs.declared.Target.{Target}

@@ -5,7 +5,7 @@ use mathlib.Core.Option.{Option, none, some}
 use Rattle.base.specs.Pick.{pick}
 use Rattle.megaco.specs.Keywords.{isToken}
 use Rattle.megaco.specs.Attempt.{seen, numberOf}
-use Rattle.types.specs.Types.{Context, Op, Add, Modify, Subtract, Move, AuditValue, Token, AddToken, ModifyToken, SubtractToken, MoveToken, AuditValueToken}
+use Rattle.protocol.specs.Types.{Context, Op, Add, Modify, Subtract, Move, AuditValue, Token, AddToken, ModifyToken, SubtractToken, MoveToken, AuditValueToken}
 use Rattle.command_tests.specs.declared.Found.{Found}
 use Rattle.command_tests.specs.declared.Found.the-variants.{Built, Unbuilt}
 

@@ -15,7 +15,7 @@ use Rattle.base.specs.Bytes.{_then_}
 use Rattle.base.specs.Out.{Appended}
 use Rattle.base.proofs.OutLaws.{_▸_}
 use Rattle.megaco.specs.Tokens.{numberAt}
-use Rattle.types.specs.Types.{Number, Got, Bad}
+use Rattle.protocol.specs.Types.{Number, Got, Bad}
 use Rattle.digits.specs.Dialling.{load, dial}
 use Rattle.digits.specs.declared.ZeroStart.{ZeroStart}
 use Rattle.digits.specs.declared.Dialled.{Dialled}

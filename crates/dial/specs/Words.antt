@@ -7,7 +7,7 @@ use Rattle.base.specs.Pick.{pick}
 use Rattle.base.specs.Lists.{same}
 use Rattle.base.specs.Bytes.{text, _then_}
 use Rattle.megaco.specs.Tokens.{numberAt}
-use Rattle.types.specs.Types.{Number, Got, Bad}
+use Rattle.protocol.specs.Types.{Number, Got, Bad}
 use Rattle.digits.specs.declared.Progress.{Progress}
 use Rattle.digits.specs.declared.Progress.the-variants.{NoMatch, MoreNeeded, MorePossible, Closed}
 use Rattle.digits.specs.declared.Timer.{Timer}

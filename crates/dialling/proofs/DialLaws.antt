@@ -16,7 +16,7 @@ use Rattle.base.specs.Bytes.{_then_}
 use Rattle.base.proofs.TestLaws.{clash, not-holds}
 use Rattle.base.proofs.TextLaws.{length-then}
 use Rattle.base.proofs.OutLaws.{take-put}
-use Rattle.types.specs.Types.{Parsed, Next, Fault}
+use Rattle.protocol.specs.Types.{Parsed, Next, Fault}
 use Rattle.digits.specs.Symbols.{symbolOf, isSymbol, symbolsOf, takes}
 use Rattle.digits.specs.DigitMap.{mapR}
 use Rattle.digits.specs.Dialling.{plan, noPlan, planOf, load, dial, progress, progressOf, answered, timerOf, laterTimer, zeroTimer, firstTimer, isDialled}

@@ -9,7 +9,7 @@ use Rattle.base.specs.Pick.{pick}
 use Rattle.base.specs.Bytes.{_then_}
 use Rattle.base.specs.Out.{Appended}
 use Rattle.megaco.specs.Reading.{got}
-use Rattle.types.specs.Types.{Parsed, Next, Fault}
+use Rattle.protocol.specs.Types.{Parsed, Next, Fault}
 use Rattle.digits.specs.DigitMap.{stringR}
 use Rattle.digits.specs.Dialling.{Plan, plan, noPlan}
 use Rattle.dialling.specs.declared.Loaded.{Loaded}

@@ -15,7 +15,7 @@ use Rattle.megaco.specs.Bytes.{isDigit, isWhite, capital}
 use Rattle.megaco.specs.White.{goesOn, whiteAt}
 use Rattle.megaco.specs.Tokens.{wholeAt}
 use Rattle.megaco.specs.Reading.{Read, got, fault}
-use Rattle.types.specs.Types.{Parsed, Next, Fault}
+use Rattle.protocol.specs.Types.{Parsed, Next, Fault}
 use Rattle.grammar.specs.Grammar.{LWSP, noLWSP, Around, around, AtMost, atMost}
 use Rattle.grammar.proofs.Places.{head, given, whether, isAt-head, isAt-cons}
 use Rattle.grammar.proofs.WhiteLaws.{solid-end, white-complete, white-sound}

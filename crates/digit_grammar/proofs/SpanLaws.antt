@@ -11,7 +11,7 @@ use native.Mathlib.Omega.{arith}
 use Rattle.base.specs.Pick.{pick}
 use Rattle.base.specs.Lists.{isAt}
 use Rattle.megaco.specs.Bytes.{dash, isDigit, capital}
-use Rattle.types.specs.Types.{Parsed, Next, Fault}
+use Rattle.protocol.specs.Types.{Parsed, Next, Fault}
 use Rattle.grammar.proofs.Classes.{or-true, or-left, or-right, and-parts}
 use Rattle.grammar.proofs.Places.{head, at-head, behind, isAt-head, isAt-cons, Finds, whether, given}
 use Rattle.digits.specs.Symbols.{letterOf, symbolOf, symbolAt, spanOf}

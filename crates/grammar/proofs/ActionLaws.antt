@@ -15,7 +15,7 @@ use Rattle.megaco.specs.Keywords.{formsOf, spelt, spells}
 use Rattle.megaco.specs.Tokens.{signAt, numberAt}
 use Rattle.megaco.specs.Tree.{Command, Property, Action, action}
 use Rattle.megaco.specs.Reading.{got, listR, unlimited, keyAt, isProperty, commandR, contextR, wordHere, propertyR, Body, body, withProperty, propertyThen, bodyR, actionOf, actionR}
-use Rattle.types.specs.Types.{CtxToken, PriorityToken, EmergencyToken, TopologyToken, Context, Null, Numbered, Choose, All, Next}
+use Rattle.protocol.specs.Types.{CtxToken, PriorityToken, EmergencyToken, TopologyToken, Context, Null, Numbered, Choose, All, Next}
 use Rattle.grammar.specs.Characters.{Keyword, noMore}
 use Rattle.grammar.specs.Grammar.{LWSP, noLWSP, around, EQUAL, COMMA, single, joined, atMost, uint, name, noPrefix, withPrefix, commandRequest, ammRequest, commandRequestList, contextProperty, contextProperties, ContextID, contextNumber, contextAll, contextNull, contextChoose, actionBody, properties, propertiesCommands, commands, actionRequest, inContext}
 use Rattle.grammar.proofs.Classes.{test-not, digit-tests}

@@ -13,7 +13,7 @@ use Rattle.base.specs.Lists.{every, has}
 use Rattle.base.specs.Bytes.{text}
 use Rattle.megaco.specs.Bytes.{isLetter, isDigit, isWhite, isComment, isWord, isName, isSafe, isRest, isQuoted, isDomain, inClass}
 use Rattle.megaco.specs.White.{goesOn}
-use Rattle.types.specs.Types.{WordByte, NameByte, SafeByte, QuotedByte, DomainByte}
+use Rattle.protocol.specs.Types.{WordByte, NameByte, SafeByte, QuotedByte, DomainByte}
 use Rattle.grammar.specs.Characters.{ALPHA, upper, lower, DIGIT, digit, AlphaDigitOr, orAlpha, orDigit, orMark, SafeChar, RestChar, restMark, SP, HTAB, QuotedChar, quotedSafe, quotedRest, quotedWSP, CommentChar, commentChar, commentQuote}
 
 -- a test that tells the characters of a kind

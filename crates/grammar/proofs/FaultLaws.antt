@@ -9,7 +9,7 @@ use Rattle.base.specs.Bytes.{text}
 use Rattle.megaco.specs.Bytes.{isDigit}
 use Rattle.megaco.specs.Tree.{Action, Message, fault403}
 use Rattle.megaco.specs.Reading.{Read, got, fault, actionsR, elsewhere, numbered, inside, followed, endOr, transactionsR}
-use Rattle.types.specs.Types.{TransToken}
+use Rattle.protocol.specs.Types.{TransToken}
 use Rattle.grammar.specs.Grammar.{NAME, name}
 use Rattle.grammar.specs.Faults.{Whole, noneWhole, oneMore, Closed, BadTransaction, unclosed, zeroIdentifier}
 use Rattle.grammar.proofs.Classes.{digit-has}

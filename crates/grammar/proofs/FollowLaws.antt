@@ -10,7 +10,7 @@ use Rattle.base.specs.Lists.{every, has}
 use Rattle.base.specs.Bytes.{text}
 use Rattle.megaco.specs.Bytes.{isLetter, isDigit, isWhite, isWord, isName, isSafe, inClass}
 use Rattle.megaco.specs.White.{goesOn}
-use Rattle.types.specs.Types.{WordByte, NameByte, SafeByte}
+use Rattle.protocol.specs.Types.{WordByte, NameByte, SafeByte}
 use Rattle.grammar.specs.Characters.{SP, HTAB}
 use Rattle.grammar.specs.Grammar.{CR, CRLF, LF, comment, Blank, blankWSP, blankCOMMENT, blankEOL, LWSP, noLWSP, moreLWSP, Around, around}
 use Rattle.grammar.proofs.Classes.{test-not}

@@ -16,7 +16,7 @@ use Rattle.megaco.specs.White.{goesOn, whiteAt, sepAt}
 use Rattle.megaco.specs.Keywords.{forms, formsOf}
 use Rattle.megaco.specs.Tokens.{markAt, keywordAt, numberAt, mIdAt}
 use Rattle.megaco.specs.Reading.{startAt, senderAt}
-use Rattle.types.specs.Types.{MegacopToken, Parsed, Next, Got}
+use Rattle.protocol.specs.Types.{MegacopToken, Parsed, Next, Got}
 use Rattle.grammar.specs.Characters.{Spelling, long, short, Keyword}
 use Rattle.grammar.specs.Grammar.{SEP, sep, NAME, mId, byAddress, byDomain, deviceName, IPv4address, domain, Header, header}
 use Rattle.grammar.proofs.Classes.{and-parts, test-not}

@@ -17,7 +17,7 @@ use Rattle.megaco.specs.Tokens.{signAt, valueAt}
 use Rattle.megaco.specs.Tree.{Value, ItemOf, item, Item}
 use Rattle.megaco.specs.Items.{called}
 use Rattle.megaco.specs.Reading.{Read, got, reading, spaced, wordR, secondR, valueOf, valueR, bracesR, mayBeEmpty, orNoneR, itemR, itemsR}
-use Rattle.types.specs.Types.{AuditToken, WordByte, SafeByte, Next}
+use Rattle.protocol.specs.Types.{AuditToken, WordByte, SafeByte, Next}
 use Rattle.grammar.specs.Characters.{Keyword}
 use Rattle.grammar.specs.Grammar.{LWSP, noLWSP, around, NAME, name, VALUE, quotedString, safeChars, ItemID, noItemID, itemID, parmValue, noValue, withValue, Commas, single, joined, LBRKT, RBRKT, Braces, noBraces, withBraces, auditDescriptor, emptyAudit, ammParameter, parameter, audit, ammParameters}
 use Rattle.grammar.proofs.Classes.{and-parts, test-not, letter-passes, safe-tests}

@@ -13,7 +13,7 @@ use Rattle.megaco.specs.Bytes.{equal, comma, isWhite, inClass}
 use Rattle.megaco.specs.White.{goesOn, after, whiteAt}
 use Rattle.megaco.specs.Tokens.{signAt}
 use Rattle.megaco.specs.Reading.{Read, got, spaced, listR, unlimited, keyAt, wordR}
-use Rattle.types.specs.Types.{Token, WordByte, Next}
+use Rattle.protocol.specs.Types.{Token, WordByte, Next}
 use Rattle.grammar.specs.Characters.{Keyword}
 use Rattle.grammar.specs.Grammar.{LWSP, Around, around, EQUAL, Commas, single, joined, AtMost, atMost, NAME}
 use Rattle.grammar.proofs.Places.{regroup3, Stands, Finds, Gets, finds, gets-here, finds-after, gets-skip, gets-bind, gets-part, part-fits, isAt-head, whether, given, fault-got, got-same, skip-got, bind-got, reading-got, after-next}

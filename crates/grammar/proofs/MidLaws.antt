@@ -12,7 +12,7 @@ use Rattle.base.specs.Bytes.{text}
 use Rattle.megaco.specs.Bytes.{colon, dot, isLetter, isDigit, isWord, isName, isDomain, inClass}
 use Rattle.megaco.specs.White.{after}
 use Rattle.megaco.specs.Tokens.{markAt, rowAt, pathNameAt, numberAt, afterNumber, portAt, octetAt, addressAt, domainAt, mIdAt}
-use Rattle.types.specs.Types.{NameByte, DomainByte, Parsed, Next, Number, Got}
+use Rattle.protocol.specs.Types.{NameByte, DomainByte, Parsed, Next, Number, Got}
 use Rattle.grammar.specs.Characters.{AlphaDigitOr, orAlpha, orDigit, orMark, Many, noMore, andThen}
 use Rattle.grammar.specs.Grammar.{V4hex, domainAddress, IPv4address, domainName, domain, Port, noPort, port, mId, byAddress, byDomain, deviceName}
 use Rattle.grammar.proofs.Classes.{test-not, name-tests, digit-tests, domain-tests, letter-digit-tests}

@@ -17,7 +17,7 @@ use Rattle.megaco.specs.White.{after}
 use Rattle.megaco.specs.Tokens.{markAt, letterAt, rowAt, upTo64, pathStart, pathNameAt, terminationAt, quotedAt, plainAt, valueAt}
 use Rattle.megaco.specs.Tree.{Value, plain, quoted}
 use Rattle.megaco.specs.Reading.{valueOf}
-use Rattle.types.specs.Types.{NameByte, SafeByte, QuotedByte, Next, Fault}
+use Rattle.protocol.specs.Types.{NameByte, SafeByte, QuotedByte, Next, Fault}
 use Rattle.grammar.specs.Characters.{AlphaDigitOr, orAlpha, orDigit, orMark, SafeChar, Many, noMore, andThen}
 use Rattle.grammar.specs.Grammar.{NAME, name, VALUE, quotedString, safeChars, Star, noStar, withStar, pathNAME, path, TerminationID, root, named, chooseOne, allOf}
 use Rattle.grammar.proofs.Classes.{or-true, test-not, letter-tells, name-tests, safe-tests, quoted-tests}

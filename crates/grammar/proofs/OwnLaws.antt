@@ -13,7 +13,7 @@ use Rattle.base.specs.Pick.{pick}
 use Rattle.base.specs.Lists.{isAt}
 use Rattle.megaco.specs.Bytes.{colon, star, isDigit, inClass}
 use Rattle.megaco.specs.Tokens.{markAt, letterAt, rowFrom, rowAt, pathStart, pathNameAt, numberEnd, numberFrom, numberAt, portAt, octetAt, addressAt, domainAt, mIdAt, wholeAt, isMid}
-use Rattle.types.specs.Types.{Class, NameByte, Parsed, Next, Fault, Got, Bad}
+use Rattle.protocol.specs.Types.{Class, NameByte, Parsed, Next, Fault, Got, Bad}
 use Rattle.grammar.specs.Grammar.{mId}
 use Rattle.grammar.proofs.Classes.{and-both, and-parts}
 use Rattle.grammar.proofs.Places.{isAt-cons, whether, given, next-same, pick-next, after-next, number-next}

@@ -13,7 +13,7 @@ use Rattle.base.specs.Lists.{isAt, part}
 use Rattle.megaco.specs.White.{after}
 use Rattle.megaco.specs.Tokens.{afterNumber}
 use Rattle.megaco.specs.Reading.{Read, got, fault, bind, skip, reading, readNumber}
-use Rattle.types.specs.Types.{Parsed, Next, Fault, Number, Got, Bad}
+use Rattle.protocol.specs.Types.{Parsed, Next, Fault, Number, Got, Bad}
 
 -- ---- parts one after another
 

@@ -11,7 +11,7 @@ use Rattle.megaco.specs.Keywords.{formsOf, spelt, spells}
 use Rattle.megaco.specs.Tokens.{letterAt, rowAt, wordAt, numberAt}
 use Rattle.megaco.specs.Tree.{Triple, Property, priority, emergency}
 use Rattle.megaco.specs.Reading.{got, keyAt, isProperty, wordHere, topologyR, propertyR}
-use Rattle.types.specs.Types.{PriorityToken, EmergencyToken, TopologyToken, WordByte, Next}
+use Rattle.protocol.specs.Types.{PriorityToken, EmergencyToken, TopologyToken, WordByte, Next}
 use Rattle.grammar.specs.Characters.{Keyword}
 use Rattle.grammar.specs.Grammar.{LWSP, UINT, uint, NAME, topologyDescriptor, triples, contextProperty, withTopology, withPriority, withEmergency}
 use Rattle.grammar.proofs.Classes.{or-left, or-right, word-tests, digit-tests}

@@ -13,7 +13,7 @@ use Rattle.base.specs.Lists.{isAt}
 use Rattle.megaco.specs.Bytes.{isDigit, inClass}
 use Rattle.megaco.specs.White.{whiteAt}
 use Rattle.megaco.specs.Tokens.{markAt, signAt, rowFrom, rowAt, upTo64, numberEnd, numberFrom, numberAt}
-use Rattle.types.specs.Types.{Class, Next, Fault, Number, Got, Bad}
+use Rattle.protocol.specs.Types.{Class, Next, Fault, Number, Got, Bad}
 use Rattle.grammar.specs.Characters.{DIGIT, Many, noMore, andThen}
 use Rattle.grammar.specs.Grammar.{LWSP, valueFrom, UINT, uint}
 use Rattle.grammar.proofs.Classes.{Tests, digit-tests}

@@ -5,7 +5,7 @@ use mathlib.Core.List.{[], _∷_}
 use mathlib.Core.Option.{none, some}
 use Rattle.base.specs.Bytes.{text}
 use Rattle.megaco.specs.Tree.{plain, quoted, item, command, action, transaction, triple, priority, emergency, topology}
-use Rattle.types.specs.Types.{Null, Numbered, Choose, Oneway, Bothway}
+use Rattle.protocol.specs.Types.{Null, Numbered, Choose, Oneway, Bothway}
 use Rattle.megaco.proofs.Opened.{opened}
 use Rattle.grammar.specs.Grammar.{megacoMessage}
 use Rattle.grammar.specs.Faults.{Fault403, Fault406}

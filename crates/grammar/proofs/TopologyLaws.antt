@@ -15,7 +15,7 @@ use Rattle.megaco.specs.Keywords.{Forms, forms, formsOf, spelt, spells}
 use Rattle.megaco.specs.Tokens.{signAt, wordAt, terminationAt}
 use Rattle.megaco.specs.Tree.{Triple, triple, Property, topology}
 use Rattle.megaco.specs.Reading.{got, listR, unlimited, wordR, directionR, partyR, tripleR, topologyR}
-use Rattle.types.specs.Types.{Token, TopologyToken, IsolateToken, OnewayToken, BothwayToken, Direction, Isolate, Oneway, Bothway, Next}
+use Rattle.protocol.specs.Types.{Token, TopologyToken, IsolateToken, OnewayToken, BothwayToken, Direction, Isolate, Oneway, Bothway, Next}
 use Rattle.grammar.specs.Characters.{Spelling, long, short, Keyword}
 use Rattle.grammar.specs.Grammar.{LWSP, noLWSP, around, Commas, TerminationID, topologyDirection, bothway, isolate, oneway, topologyTriple, between, topologyDescriptor, triples, contextProperty, withTopology}
 use Rattle.grammar.proofs.Classes.{and-parts}

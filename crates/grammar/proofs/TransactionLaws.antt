@@ -15,7 +15,7 @@ use Rattle.megaco.specs.White.{goesOn, whiteAt}
 use Rattle.megaco.specs.Tokens.{markAt}
 use Rattle.megaco.specs.Tree.{Action, Transaction, transaction, Message, wellFormed}
 use Rattle.megaco.specs.Reading.{got, listR, actionR, actionsR, elsewhere, numbered, inside, followed, endOr, bracesThen, transactionsR}
-use Rattle.types.specs.Types.{TransToken, Next}
+use Rattle.protocol.specs.Types.{TransToken, Next}
 use Rattle.grammar.specs.Characters.{Keyword}
 use Rattle.grammar.specs.Grammar.{LWSP, around, EQUAL, Commas, AtMost, NAME, name, actionRequest, TransactionID, identifier, transactionRequest, withActions, transactionList, lastRequest, nextRequest}
 use Rattle.grammar.specs.Faults.{Closed, closed}

@@ -12,7 +12,7 @@ use native.Mathlib.Nat.{add-zero, add-assoc}
 use Rattle.base.specs.Pick.{pick}
 use Rattle.megaco.specs.Bytes.{semicolon, isWhite, isLineEnd, isComment}
 use Rattle.megaco.specs.White.{after, goesOn, insideAfter, stopAt, whiteFrom, whiteAt, sepAt}
-use Rattle.types.specs.Types.{Next}
+use Rattle.protocol.specs.Types.{Next}
 use Rattle.grammar.specs.Characters.{SP, HTAB, CommentChar, Many, noMore, andThen}
 use Rattle.grammar.specs.Grammar.{EOL, CR, CRLF, LF, comment, Blank, blankWSP, blankCOMMENT, blankEOL, LWSP, noLWSP, moreLWSP, SEP, sep}
 use Rattle.grammar.proofs.Classes.{or-true, or-only, and-parts, comment-tests}

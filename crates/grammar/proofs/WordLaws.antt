@@ -15,7 +15,7 @@ use Rattle.megaco.specs.Bytes.{isLetter, inClass, capital, capitals}
 use Rattle.megaco.specs.White.{after}
 use Rattle.megaco.specs.Keywords.{Forms, forms, formsOf, spelt, spells}
 use Rattle.megaco.specs.Tokens.{letterAt, rowAt, wordAt, keywordAt}
-use Rattle.types.specs.Types.{Token, AuditToken, TransToken, CtxToken, PriorityToken, EmergencyToken, TopologyToken, IsolateToken, OnewayToken, BothwayToken, Class, WordByte, Next}
+use Rattle.protocol.specs.Types.{Token, AuditToken, TransToken, CtxToken, PriorityToken, EmergencyToken, TopologyToken, IsolateToken, OnewayToken, BothwayToken, Class, WordByte, Next}
 use Rattle.base.proofs.TestLaws.{same-is, pick-both}
 use Rattle.grammar.specs.Characters.{Spelling, long, short, Keyword, ALPHA, lower, AlphaDigitOr, orAlpha, Many, noMore, andThen}
 use Rattle.grammar.specs.Grammar.{NAME, name}

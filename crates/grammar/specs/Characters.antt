@@ -7,7 +7,7 @@ use Rattle.base.specs.Lists.{has}
 use Rattle.base.specs.Bytes.{text}
 use Rattle.megaco.specs.Bytes.{capitals}
 use Rattle.megaco.specs.Keywords.{Forms, forms, formsOf}
-use Rattle.types.specs.Types.{Token}
+use Rattle.protocol.specs.Types.{Token}
 
 -- ---- tokens
 

@@ -7,7 +7,7 @@ use Rattle.base.specs.Lists.{has}
 use Rattle.base.specs.Bytes.{text}
 use Rattle.megaco.specs.Bytes.{leftBrace, rightBrace}
 use Rattle.megaco.specs.Tree.{Action, Transaction}
-use Rattle.types.specs.Types.{TransToken}
+use Rattle.protocol.specs.Types.{TransToken}
 use Rattle.grammar.specs.Characters.{Keyword}
 use Rattle.grammar.specs.Grammar.{LWSP, EQUAL, Commas, AtMost, UINT32, actionRequest, TransactionID, transactionRequest, Header}
 

@@ -13,7 +13,7 @@ use Rattle.base.specs.Bytes.{text}
 use Rattle.megaco.specs.Bytes.{equal, comma, leftBrace, rightBrace, slash, colon, dot, quote, semicolon, dash, dollar, star, capital, capitals}
 use Rattle.grammar.specs.Characters.{Keyword, ALPHA, DIGIT, AlphaDigitOr, SafeChar, WSP, QuotedChar, CommentChar, Many}
 use Rattle.megaco.specs.Tree.{Value, plain, quoted, ItemOf, item, Item, Items, Command, command, Action, action, Transaction, transaction, Triple, triple, Property, priority, emergency, topology}
-use Rattle.types.specs.Types.{AuditToken, MegacopToken, TransToken, CtxToken, PriorityToken, EmergencyToken, TopologyToken, IsolateToken, OnewayToken, BothwayToken, Context, Null, Numbered, Choose, All, Direction, Isolate, Oneway, Bothway}
+use Rattle.protocol.specs.Types.{AuditToken, MegacopToken, TransToken, CtxToken, PriorityToken, EmergencyToken, TopologyToken, IsolateToken, OnewayToken, BothwayToken, Context, Null, Numbered, Choose, All, Direction, Isolate, Oneway, Bothway}
 
 -- ---- white space
 

@@ -9,7 +9,7 @@ use Rattle.base.specs.Pick.{pick}
 use Rattle.megaco.specs.Bytes.{rightBrace}
 use Rattle.megaco.specs.Tree.{plain, ItemOf}
 use Rattle.megaco.specs.Items.{modeGiven, stateGiven, propertyToken, valueGiven, setValue, propertyItems, itemsIn, topItems, auditItems, auditGiven, unchanged, mediaGiven, noItems, judgeItems}
-use Rattle.types.specs.Types.{Token, Given, Keep, To, Judged, Wrong, Right, Checked, Passes, Fails, Op, Add, Modify, Subtract, Move, AuditValue, Kind, InControl, InState, Values}
+use Rattle.protocol.specs.Types.{Token, Given, Keep, To, Judged, Wrong, Right, Checked, Passes, Fails, Op, Add, Modify, Subtract, Move, AuditValue, Kind, InControl, InState, Values}
 use Rattle.read_command.specs.Production.{pastSign}
 use Rattle.read_command.specs.Places.{itemsAt}
 use Rattle.command_places.specs.declared.ItemPlaces.{ItemPlaces}

@@ -11,7 +11,7 @@ use Rattle.megaco.specs.Bytes.{comma}
 use Rattle.megaco.specs.Tree.{ItemOf, item, Item}
 use Rattle.megaco.specs.Reading.{unlimited}
 use Rattle.megaco.specs.Items.{onward, called, descriptorShape, propertyShape, propertyToken, valueGiven, setValue, propertyItems, itemsIn, mediaItems, topItems, auditing, bareShape, auditedItems, auditItems, auditGiven, unchanged}
-use Rattle.types.specs.Types.{Parsed, Next, Fault, AuditToken, MediaToken, LocalControlToken, Judged, Wrong, Right, Kind, Values}
+use Rattle.protocol.specs.Types.{Parsed, Next, Fault, AuditToken, MediaToken, LocalControlToken, Judged, Wrong, Right, Kind, Values}
 use Rattle.read_command.specs.Production.{pastSign, listOf, listEnd}
 use Rattle.read_command.specs.Places.{itemAt, itemsAt}
 use Rattle.command_places.specs.Found.{nextAt}

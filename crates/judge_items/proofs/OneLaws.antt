@@ -14,7 +14,7 @@ use Rattle.megaco.specs.Keywords.{isToken, spells, meaningOf}
 use Rattle.megaco.proofs.Meanings.{spelt-means, spells-means}
 use Rattle.megaco.specs.Tree.{plain, quoted, ItemOf, item, Item}
 use Rattle.megaco.specs.Items.{onward, called, given?, descriptorShape, propertyShape, valueGiven, setValue, propertyItems, itemsIn, mediaItems, topItems, auditing, bareShape, auditedItems, auditItems}
-use Rattle.types.specs.Types.{Token, AuditToken, LocalControlToken, MediaToken, Keep, Judged, Wrong, Right, Kind, InControl, InState, Values}
+use Rattle.protocol.specs.Types.{Token, AuditToken, LocalControlToken, MediaToken, Keep, Judged, Wrong, Right, Kind, InControl, InState, Values}
 use Rattle.read_command.specs.Production.{pastSign, wordEnd}
 use Rattle.read_command.specs.Places.{secondAt, auditAt, emptyAt, orNoneAt, itemAt, itemsAt}
 use Rattle.command_places.specs.declared.ValuePlaces.{ValuePlaces}

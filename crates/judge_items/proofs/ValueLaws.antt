@@ -7,7 +7,7 @@ use Rattle.base.specs.Pick.{pick}
 use Rattle.megaco.specs.Keywords.{meaningOf}
 use Rattle.megaco.proofs.Meanings.{spells-means, spells-none}
 use Rattle.megaco.specs.Items.{modeGiven, stateGiven}
-use Rattle.types.specs.Types.{Token, InactiveToken, SendonlyToken, RecvonlyToken, SendrecvToken, LoopbackToken, InSvcToken, OutOfSvcToken, TestToken, Given, Keep}
+use Rattle.protocol.specs.Types.{Token, InactiveToken, SendonlyToken, RecvonlyToken, SendrecvToken, LoopbackToken, InSvcToken, OutOfSvcToken, TestToken, Given, Keep}
 use Rattle.keywords.specs.Page.{tokenOf}
 use Rattle.keywords.proofs.RowLaws.{token-some, token-none}
 use Rattle.keywords.specs.declared.Meaning.{Meaning}

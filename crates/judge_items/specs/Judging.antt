@@ -10,7 +10,7 @@ use Rattle.megaco.specs.Bytes.{rightBrace}
 use Rattle.megaco.specs.Keywords.{isToken, spells}
 use Rattle.megaco.specs.Tree.{plain}
 use Rattle.megaco.specs.Items.{propertyToken, valueGiven, setValue, propertyItems, mediaItems, auditing, auditedItems}
-use Rattle.types.specs.Types.{Token, AuditToken, MediaToken, LocalControlToken, TerminationStateToken, InactiveToken, SendonlyToken, RecvonlyToken, SendrecvToken, LoopbackToken, InSvcToken, OutOfSvcToken, TestToken, Given, Keep, To, Judged, Wrong, Right, Checked, Passes, Fails, Kind, InControl, InState, Values}
+use Rattle.protocol.specs.Types.{Token, AuditToken, MediaToken, LocalControlToken, TerminationStateToken, InactiveToken, SendonlyToken, RecvonlyToken, SendrecvToken, LoopbackToken, InSvcToken, OutOfSvcToken, TestToken, Given, Keep, To, Judged, Wrong, Right, Checked, Passes, Fails, Kind, InControl, InState, Values}
 use Rattle.read_command.specs.Production.{pastSign}
 use Rattle.read_command.specs.Places.{orNoneAt, itemsAt}
 use Rattle.command_places.specs.declared.ItemPlaces.{ItemPlaces}

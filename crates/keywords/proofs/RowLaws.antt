@@ -14,7 +14,7 @@ use Rattle.base.specs.Lists.{same, every, has}
 use Rattle.base.proofs.TestLaws.{clash, and-both, same-is, not-holds}
 use Rattle.megaco.specs.Bytes.{capitals}
 use Rattle.megaco.specs.Keywords.{Row as Keyword, row, page, Forms, forms, formsOf, spelt, spells, meaningIn, meaningOf}
-use Rattle.types.specs.Types.{Token, AddToken}
+use Rattle.protocol.specs.Types.{Token, AddToken}
 use Rattle.megaco.proofs.Token.{enum}
 use Rattle.megaco.proofs.Variants.{everyChoice, everyCase}
 use Rattle.megaco.proofs.Meanings.{every-token}

@@ -11,7 +11,7 @@ use Rattle.base.specs.Pick.{pick}
 use Rattle.base.specs.Lists.{same, every}
 use Rattle.megaco.specs.Bytes.{capitals}
 use Rattle.megaco.specs.Keywords.{Row as Keyword, row, page, Forms, forms, formsOf}
-use Rattle.types.specs.Types.{Token, AddToken}
+use Rattle.protocol.specs.Types.{Token, AddToken}
 use Rattle.keywords.specs.declared.Row.{Row}
 use Rattle.keywords.specs.declared.Meaning.{Meaning}
 use Rattle.keywords.specs.declared.Meaning.the-variants.{Of, Nothing}

@@ -8,7 +8,7 @@ use lib.Dec.{ltb, leb, eqb}
 use borrow.Author.Tests.{eqb-true, eqb-false, eq-eqb, ltb-true, lt-ltb, leb-true, leb-false, le-leb, not-true, not-false}
 use native.Mathlib.Omega.{arith}
 use Rattle.base.specs.Pick.{pick}
-use Rattle.types.specs.Types.{Context, Numbered, Choose, Op, Add, Modify, Subtract, Move, AuditValue, Checked, Values, View}
+use Rattle.protocol.specs.Types.{Context, Numbered, Choose, Op, Add, Modify, Subtract, Move, AuditValue, Checked, Values, View}
 use Rattle.megaco.specs.Table.{lineTerminations, terminations, contexts, fitted, most, prop, rec, ctx, cell, get, Write, write, apply, recordWords, isEphemeral, exists, known, members, freeContext}
 use Rattle.megaco.specs.Square.{Square, joined as joinedSquare, parted}
 use Rattle.megaco.proofs.Squares.{shape-joined, shape-parted}
@@ -25,7 +25,7 @@ use Rattle.laws.proofs.Counting.{member, place-low, lowest}
 use Rattle.laws.proofs.Flows.{fit-joined, fit-parted}
 use Rattle.laws.proofs.Sound.{alive, record-words, record-at}
 use Rattle.laws.proofs.Moved.{Moves, Streams, Fitting, Goes, low-low, high-high, low-high, high-low, moved-sound, moved-here, modified-place, modified-sound}
-use Rattle.types.specs.Ranges.{InRange}
+use Rattle.protocol.specs.Ranges.{InRange}
 use Rattle.laws.proofs.Values.{update-sound}
 use Rattle.laws.proofs.Meant.{Meant, Each, more, each-on}
 

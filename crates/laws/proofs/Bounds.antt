@@ -12,7 +12,7 @@ use Rattle.base.proofs.PickLaws.{pick-ind}
 use Rattle.base.proofs.TestLaws.{or-neither}
 use Rattle.base.proofs.TextLaws.{length-then, length-decimal}
 use Rattle.base.proofs.OutLaws.{length-put, take-front, take-put, drop-put}
-use Rattle.types.specs.Types.{Parsed, Next, Fault, Number, Got, Bad}
+use Rattle.protocol.specs.Types.{Parsed, Next, Fault, Number, Got, Bad}
 use Rattle.megaco.specs.Tokens.{numberAt, numberFrom, numberEnd, isMid}
 use Rattle.megaco.specs.Tree.{Action, Transaction, transaction, Message, wellFormed, fault400, fault403, fault406}
 use Rattle.megaco.specs.Reading.{Read, got, fault, elsewhere, numbered, inside, followed, endOr, bracesThen, transactionsR, messageR}

@@ -10,7 +10,7 @@ use borrow.Author.Tests.{eqb-true, eqb-false, ne-eqb, ltb-true, ltb-false, lt-lt
 use native.Mathlib.Omega.{arith}
 use Rattle.base.specs.Pick.{pick}
 use Rattle.base.proofs.TestLaws.{clash, and-both, both-and, and-false, pick-both, both-pick, pick-other, other-pick}
-use Rattle.types.specs.Types.{Direction, Isolate, Oneway, Bothway}
+use Rattle.protocol.specs.Types.{Direction, Isolate, Oneway, Bothway}
 use Rattle.megaco.specs.Square.{Square, squareOf, lowOf, highOf, flowAt, mayFlow, rowIsSound, rowsAreSound, squareIsSound, paired, directed, joinedFlow, joined, partedFlow, parted}
 use Rattle.megaco.proofs.Squares.{AllEight, Shape, square-back, low-below, high-below, shape-of, flow-in, flow-within, shape-paired, flow-paired, flow-joined, flow-parted}
 use Rattle.laws.specs.Sound.{Fit, SoundFlows}

@@ -14,7 +14,7 @@ use Rattle.megaco.specs.Topology.{triplesOf, anyTopology, Link, linksOf, setLin
 use Rattle.megaco.specs.Attempt.{Check, check, judge, seen, flowsOf, flowing, numberOf}
 use Rattle.megaco.specs.Action.{over15, anyGiven, startChecks, newRecord, setProperties, flowWrites, startWrites, startReports, Start, startedBy, started}
 use Rattle.megaco.specs.Transaction.{start, commandSteps, noCommands, steps, Course, begin, proceed, step, run, ran, runTransaction}
-use Rattle.types.specs.Types.{Context, Null, Numbered, Choose, All, Fails, Seen}
+use Rattle.protocol.specs.Types.{Context, Null, Numbered, Choose, All, Fails, Seen}
 use Rattle.megaco.proofs.Squares.{shape-of}
 use Rattle.laws.specs.Passed.{Passed}
 use Rattle.laws.specs.Sound.{Whole}

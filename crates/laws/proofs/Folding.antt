@@ -17,7 +17,7 @@ use Rattle.megaco.specs.Names.{nameOf}
 use Rattle.megaco.specs.Square.{Square, directed}
 use Rattle.megaco.specs.Topology.{party, linkOf, linksOf, placeOf, setLink, setLinks}
 use Rattle.megaco.specs.Action.{linkChecks}
-use Rattle.types.specs.Types.{Direction}
+use Rattle.protocol.specs.Types.{Direction}
 use Rattle.megaco.proofs.Squares.{Shape}
 use Rattle.laws.specs.Passed.{Passed}
 use Rattle.laws.specs.Hears.{forth, back}

@@ -13,7 +13,7 @@ use Rattle.megaco.specs.Square.{Square, squareOf, lowOf, highOf, flowAt, direct
 use Rattle.megaco.specs.Topology.{triplesOf, anyTopology, party, linkOf, linksOf, placeOf, setLink, setLinks}
 use Rattle.megaco.specs.Attempt.{seen, flowsOf, flowing}
 use Rattle.megaco.specs.Action.{startChecks, setProperties, flowWrites, startWrites, startedBy, started}
-use Rattle.types.specs.Types.{Numbered, Direction}
+use Rattle.protocol.specs.Types.{Numbered, Direction}
 use Rattle.megaco.proofs.Squares.{Shape, square-back, shape-of}
 use Rattle.laws.specs.Passed.{Passed}
 use Rattle.laws.specs.Sound.{Whole}

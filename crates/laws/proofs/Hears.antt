@@ -6,7 +6,7 @@ use mathlib.Core.Bool.{Bool, true, false, _&&_}
 use lib.Dec.{eqb}
 use borrow.Author.Tests.{eqb-true, eq-eqb, ne-eqb}
 use Rattle.base.specs.Pick.{pick}
-use Rattle.types.specs.Types.{Direction, Isolate, Oneway, Bothway}
+use Rattle.protocol.specs.Types.{Direction, Isolate, Oneway, Bothway}
 use Rattle.megaco.specs.Square.{Square, flowAt, paired, directed}
 use Rattle.megaco.proofs.Squares.{Shape, flow-paired}
 use Rattle.laws.specs.Hears.{forth, back, OtherPair}

@@ -7,7 +7,7 @@ use mathlib.Core.List.{List}
 use lib.Dec.{eqb}
 use borrow.Author.Tests.{eqb-false}
 use native.Mathlib.Omega.{arith}
-use Rattle.types.specs.Types.{Context, Null, Numbered, Choose, All, Op, Add, Modify, Subtract, Move, AuditValue, Values}
+use Rattle.protocol.specs.Types.{Context, Null, Numbered, Choose, All, Op, Add, Modify, Subtract, Move, AuditValue, Values}
 use Rattle.megaco.specs.Tree.{Command, Transaction, Message}
 use Rattle.megaco.specs.Table.{contexts, fitted, rec, cell, get, sound}
 use Rattle.megaco.specs.State.{State}
@@ -19,7 +19,7 @@ use Rattle.megaco.specs.Call.{call}
 use Rattle.base.proofs.TestLaws.{clash}
 use Rattle.laws.specs.Sound.{Whole}
 use Rattle.laws.proofs.Sound.{sound-whole, whole-sound}
-use Rattle.types.specs.Ranges.{InRange}
+use Rattle.protocol.specs.Ranges.{InRange}
 use Rattle.laws.proofs.Meant.{name-low, MeansTerminations, some-targets, targets-meant}
 use Rattle.laws.proofs.Attempts.{seen-there, Joins, anew, there, Stands, stands, MayAttempt, Present, attempts-sound}
 use Rattle.laws.proofs.Starts.{start-sound, start-given}

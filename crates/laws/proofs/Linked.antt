@@ -18,7 +18,7 @@ use Rattle.megaco.specs.Names.{nameOf}
 use Rattle.megaco.specs.Square.{Square, directed}
 use Rattle.megaco.specs.Topology.{meant, party, linkOf, linksOf, isUnfit, isAbsent, isOutside, placeOf, setLink, setLinks}
 use Rattle.megaco.specs.Action.{linkChecks}
-use Rattle.types.specs.Types.{Name, Termination, Root, Chosen, Unchosen, Wildcard, Unmatched, Unknown, Party, Absent, Outside, Member}
+use Rattle.protocol.specs.Types.{Name, Termination, Root, Chosen, Unchosen, Wildcard, Unmatched, Unknown, Party, Absent, Outside, Member}
 use Rattle.megaco.proofs.Squares.{Shape}
 use Rattle.laws.specs.Passed.{Passed}
 use Rattle.laws.specs.Sound.{Fit}

@@ -9,7 +9,7 @@ use borrow.Author.Tests.{eqb-false, ltb-true, leb-true}
 use native.Mathlib.Nat.{add-zero, zero-add}
 use native.Mathlib.Omega.{arith}
 use Rattle.base.specs.Lists.{lowestAbsent}
-use Rattle.types.specs.Types.{Context, Op, Add, Modify, Subtract, Move, AuditValue, Range, Name, Termination, Root, Chosen, Unchosen, Wildcard, Unmatched, Unknown}
+use Rattle.protocol.specs.Types.{Context, Op, Add, Modify, Subtract, Move, AuditValue, Range, Name, Termination, Root, Chosen, Unchosen, Wildcard, Unmatched, Unknown}
 use Rattle.megaco.specs.Table.{channels, ephemerals, terminations, words, fitted, ctx, get, contextWords, places, exists, freeEphemeral}
 use Rattle.megaco.specs.Names.{within, lineName, ephemeralName, plainName, lineRange, wildcardName, capitalName, nameOf, inRange}
 use Rattle.megaco.specs.Command.{wanted, matchesFrom, matches, Targets, noTarget, gateway, targets, isAdd, inPlace, rootTargets, freeTargets, matchTargets, targetsOf}

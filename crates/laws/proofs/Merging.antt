@@ -7,7 +7,7 @@ use lib.Dec.{eqb}
 use borrow.Author.Tests.{eqb-true}
 use Rattle.base.specs.Pick.{pick}
 use Rattle.base.proofs.TestLaws.{clash, and-both}
-use Rattle.types.specs.Types.{Direction, Isolate, Oneway, Bothway}
+use Rattle.protocol.specs.Types.{Direction, Isolate, Oneway, Bothway}
 use Rattle.megaco.specs.Square.{Square, bits, rows, squareOf, flowAt, flowSet, paired, directed}
 use Rattle.megaco.proofs.Squares.{Shape, squares-same}
 use Rattle.laws.specs.Hears.{forth, back, OtherPair}

@@ -11,7 +11,7 @@ use Rattle.megaco.specs.Tree.{Transaction}
 use Rattle.megaco.specs.Table.{fitted, sound}
 use Rattle.megaco.specs.State.{state}
 use Rattle.megaco.specs.Transaction.{runTransaction}
-use Rattle.types.specs.Types.{Numbered}
+use Rattle.protocol.specs.Types.{Numbered}
 use Rattle.base.proofs.TestLaws.{clash, and-left, and-right}
 use Rattle.laws.specs.Membership.{_∈_, all?, onlyZeroShared?}
 use Rattle.laws.specs.Apart.{contextsOf, namesOf, TerminationsApart, ContextsApart, Apart}

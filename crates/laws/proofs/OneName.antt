@@ -13,7 +13,7 @@ use Rattle.base.proofs.TestLaws.{clash, and-both, same-is, pick-of}
 use Rattle.megaco.specs.Bytes.{slash, isDigit, capitals}
 use Rattle.megaco.specs.Table.{channels, lineTerminations, ephemerals}
 use Rattle.megaco.specs.Names.{numeral, within, lineName, ephemeralName, plainName, lineRange, wildcardName, capitalName, nameOf}
-use Rattle.types.specs.Types.{Name, Termination, Root, Chosen, Unchosen, Wildcard, Unmatched, Unknown}
+use Rattle.protocol.specs.Types.{Name, Termination, Root, Chosen, Unchosen, Wildcard, Unmatched, Unknown}
 
 -- ---- a number has one numeral
 

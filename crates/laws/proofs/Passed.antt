@@ -5,7 +5,7 @@ use mathlib.Core.Bool.{true, false}
 use mathlib.Core.List.{List, [], _∷_}
 use Rattle.base.specs.Pick.{pick}
 use Rattle.megaco.specs.Attempt.{Check, check, judge}
-use Rattle.types.specs.Types.{Checked, Passes, Fails}
+use Rattle.protocol.specs.Types.{Checked, Passes, Fails}
 use Rattle.laws.specs.Passed.{Passed}
 
 -- what holds where a test fails, and where every test is passed, holds of what the tests come to

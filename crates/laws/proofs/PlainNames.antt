@@ -11,7 +11,7 @@ use Rattle.base.specs.Lists.{has}
 use Rattle.megaco.specs.Bytes.{star, dollar, capital, capitals}
 use Rattle.megaco.specs.Table.{terminations, channels, ephemerals}
 use Rattle.megaco.specs.Names.{within, lineName, ephemeralName, plainName, capitalName, nameOf}
-use Rattle.types.specs.Types.{Name, Termination, Root, Unknown}
+use Rattle.protocol.specs.Types.{Name, Termination, Root, Unknown}
 use Rattle.base.proofs.TestLaws.{clash, and-left, and-right}
 
 pub data Plain (lines : ℕ) : Name → Type 0 where

@@ -10,7 +10,7 @@ use Rattle.megaco.specs.Table.{terminations, contexts, fitted, sound}
 use Rattle.megaco.specs.State.{State}
 use Rattle.megaco.specs.Names.{nameOf}
 use Rattle.megaco.specs.Transaction.{Step, commandSteps, steps}
-use Rattle.types.specs.Types.{Context, Name}
+use Rattle.protocol.specs.Types.{Context, Name}
 use Rattle.laws.specs.Membership.{_∈_}
 use Rattle.laws.specs.Apart.{contextsIn, namesThen, triplesThen, namesIn, namesOf, ByNumberOrNull, by-number, null-one, ContextsPlain, NamesPlain, Names, Reaches, writes, stands, Apart}
 use Rattle.laws.specs.Mix.{Mixture, mixed, stepsOf, bothFresh}

@@ -5,7 +5,7 @@ use mathlib.Core.Bool.{Bool, false}
 use mathlib.Core.List.{List, [], _∷_}
 use mathlib.Core.Option.{Option, none, some}
 use lib.ListN.{length}
-use Rattle.types.specs.Types.{Context, Op, Judged, Wrong, Right, Seen, Values}
+use Rattle.protocol.specs.Types.{Context, Op, Judged, Wrong, Right, Seen, Values}
 use Rattle.megaco.specs.Topology.{triplesOf, Link, linksOf}
 use Rattle.megaco.specs.Tree.{Items, Command, command, Property, Transaction, transaction, Message, wellFormed, fault400, fault403, fault406}
 use Rattle.megaco.specs.Table.{fitted}
@@ -21,7 +21,7 @@ use Rattle.megaco.specs.Reading.{messageR}
 use Rattle.megaco.specs.Call.{Called, written, replied, taken, call}
 use Rattle.base.proofs.TestLaws.{pick-of}
 use Rattle.laws.proofs.Slots.{length-apply}
-use Rattle.types.specs.Ranges.{InRange, JudgedInRange, right}
+use Rattle.protocol.specs.Ranges.{InRange, JudgedInRange, right}
 use Rattle.laws.proofs.Values.{items-in-range}
 
 -- P is kept of the state, and G holds of the record that the running action gives to `$`

@@ -13,7 +13,7 @@ use Rattle.megaco.specs.Table.{contexts, words, fitted, known, members}
 use Rattle.megaco.specs.Square.{Square, flowAt}
 use Rattle.megaco.specs.Topology.{party, linkOf, linksOf, placeOf, setLink, setLinks}
 use Rattle.megaco.specs.Attempt.{seen, flowsOf}
-use Rattle.types.specs.Types.{Direction, Isolate, Bothway}
+use Rattle.protocol.specs.Types.{Direction, Isolate, Bothway}
 use Rattle.megaco.proofs.Squares.{Shape, shape-of}
 use Rattle.laws.specs.Membership.{_∈_}
 use Rattle.laws.specs.Sound.{Fit, Whole}

@@ -6,7 +6,7 @@ use mathlib.Core.List.{List, [], _∷_}
 use lib.Dec.{ltb, eqb}
 use borrow.Author.Tests.{eqb-false, ltb-false}
 use native.Mathlib.Omega.{arith}
-use Rattle.types.specs.Types.{Context, Null, Numbered, Choose, All, Checked, Seen}
+use Rattle.protocol.specs.Types.{Context, Null, Numbered, Choose, All, Checked, Seen}
 use Rattle.megaco.specs.Tree.{Property, priority, emergency, topology}
 use Rattle.megaco.specs.Table.{contexts, rec, cell, members, Write, write, apply, priorityOf, emergencyOf}
 use Rattle.megaco.specs.Topology.{triplesOf, anyTopology, Link, linksOf, setLinks}

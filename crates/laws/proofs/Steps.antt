@@ -19,7 +19,7 @@ use Rattle.megaco.specs.Attempt.{seen, numberOf, look, Effect, effect}
 use Rattle.megaco.specs.Command.{Outcome, outcome, attempts, commandError, actionError, Targets, noTarget, gateway, targets, rootTargets, targetsOf, runTargets, opOf, forbiddenInNull, noContext, notForRoot, fromTest4, fromTest2, unlessOptional, fromTest1, runCommand}
 use Rattle.megaco.specs.Action.{started}
 use Rattle.megaco.specs.Transaction.{Step, start, commandStep, Progress, progress, Course, course, begin, advance, proceed, step}
-use Rattle.types.specs.Types.{Context, Op, Name, Termination, Root, Chosen, Unchosen, Wildcard, Unmatched, Unknown, Judged, Wrong, Right, Values, Seen, Absent, Outside, Member}
+use Rattle.protocol.specs.Types.{Context, Op, Name, Termination, Root, Chosen, Unchosen, Wildcard, Unmatched, Unknown, Judged, Wrong, Right, Values, Seen, Absent, Outside, Member}
 use Rattle.megaco.proofs.Sizes.{fitted-is, fitted-same}
 use Rattle.laws.proofs.Frame.{AllOurs, nothing, Foot, Closed, Agree}
 use Rattle.laws.proofs.Views.{Seat, seat-known, seat-same, place-same, look-same}

@@ -7,7 +7,7 @@ use Rattle.megaco.specs.Tree.{Triple, triple}
 use Rattle.megaco.specs.Table.{contexts, known, members}
 use Rattle.megaco.specs.Square.{Square, squareOf, lowOf, highOf}
 use Rattle.megaco.specs.Topology.{linksOf, setLinks}
-use Rattle.types.specs.Types.{Isolate, Bothway}
+use Rattle.protocol.specs.Types.{Isolate, Bothway}
 use Rattle.megaco.proofs.Squares.{Shape, square-back, shape-of}
 use Rattle.laws.specs.Slots.{SlotsApart}
 use Rattle.laws.specs.Sound.{Fit, SoundFlows, Whole, Soundness}

@@ -4,11 +4,11 @@ use mathlib.Core.Bool.{Bool, true, false}
 use mathlib.Core.List.{List, [], _∷_}
 use mathlib.Core.Option.{Option, none, some}
 use native.Mathlib.Omega.{arith}
-use Rattle.types.specs.Types.{Given, Keep, To, Judged, Wrong, Right, Kind, InControl, InState, Op, Add, Modify, Subtract, Move, AuditValue, Values}
+use Rattle.protocol.specs.Types.{Given, Keep, To, Judged, Wrong, Right, Kind, InControl, InState, Op, Add, Modify, Subtract, Move, AuditValue, Values}
 use Rattle.megaco.specs.Tree.{Value, plain, quoted, ItemOf, item, Items}
 use Rattle.megaco.specs.Table.{modeOf, stateOf}
 use Rattle.megaco.specs.Items.{change, update, onward, modeGiven, stateGiven, valueGiven, setValue, propertyItems, itemsIn, mediaItems, topItems, auditing, auditedItems, auditItems, auditGiven, unchanged, mediaGiven, noItems, judgeItems}
-use Rattle.types.specs.Ranges.{InRange, JudgedInRange, wrong, right}
+use Rattle.protocol.specs.Ranges.{InRange, JudgedInRange, wrong, right}
 use Rattle.base.proofs.TestLaws.{pick-of}
 use Rattle.laws.specs.Sound.{SoundWord}
 

@@ -9,7 +9,7 @@ use borrow.Author.Tests.{leb-true, ltb-true}
 use Rattle.base.specs.Pick.{pick}
 use Rattle.megaco.specs.Table.{terminations, contexts, fitted, prop, rec, flow, lowFlow, highFlow, ctx, cell, get, known, members, placeIn}
 use Rattle.megaco.specs.Attempt.{unseen, seenIn, seen, numberOf, freeAt, look}
-use Rattle.types.specs.Types.{Context, Null, Numbered, Choose, All, Seen}
+use Rattle.protocol.specs.Types.{Context, Null, Numbered, Choose, All, Seen}
 use Rattle.base.proofs.TestLaws.{clash, and-left, and-right}
 use Rattle.megaco.proofs.Sizes.{fitted-same}
 use Rattle.megaco.proofs.Regions.{members-first, place-first}

@@ -14,7 +14,7 @@ use Rattle.megaco.specs.Topology.{anyTopology, Link}
 use Rattle.megaco.specs.Attempt.{seen, numberOf, isChoose, target, checks, flowing, joining, leaving, placed, marking, changes, settled, Effect, concluded, effect}
 use Rattle.megaco.specs.Command.{isNull, inPlace, forbiddenInNull, noContext}
 use Rattle.megaco.specs.Action.{anyGiven, startChecks, flowWrites, startWrites, Start, startedBy, started}
-use Rattle.types.specs.Types.{Context, Null, Numbered, Choose, All, Op, Add, Modify, Subtract, Move, AuditValue, Checked, Values, Seen, View}
+use Rattle.protocol.specs.Types.{Context, Null, Numbered, Choose, All, Op, Add, Modify, Subtract, Move, AuditValue, Checked, Values, Seen, View}
 use Rattle.base.proofs.TestLaws.{clash, and-false}
 use Rattle.laws.specs.Passed.{Passed}
 use Rattle.laws.proofs.Passed.{judged}

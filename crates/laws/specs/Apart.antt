@@ -7,7 +7,7 @@ use Rattle.megaco.specs.Topology.{triplesOf}
 use Rattle.megaco.specs.Tree.{Command, command, Triple, triple, Action, action, Transaction, transaction}
 use Rattle.megaco.specs.Table.{fitted, ctx, get}
 use Rattle.megaco.specs.Names.{nameOf}
-use Rattle.types.specs.Types.{Context, Null, Numbered, Termination}
+use Rattle.protocol.specs.Types.{Context, Null, Numbered, Termination}
 use Rattle.laws.specs.Membership.{_∈_}
 
 -- ---- what is written in a transaction

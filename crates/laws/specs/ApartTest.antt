@@ -8,7 +8,7 @@ use Rattle.megaco.specs.Bytes.{star, dollar}
 use Rattle.megaco.specs.Tree.{Transaction}
 use Rattle.megaco.specs.Table.{fitted, ctx, get}
 use Rattle.megaco.specs.Names.{nameOf}
-use Rattle.types.specs.Types.{Context, Null, Numbered, Choose, All, Name, Termination, Root, Chosen, Unchosen, Wildcard, Unmatched, Unknown}
+use Rattle.protocol.specs.Types.{Context, Null, Numbered, Choose, All, Name, Termination, Root, Chosen, Unchosen, Wildcard, Unmatched, Unknown}
 use Rattle.laws.specs.Membership.{all?, noneShared?, onlyZeroShared?, collect}
 use Rattle.laws.specs.Apart.{contextsOf, namesOf}
 

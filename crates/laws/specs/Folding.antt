@@ -17,7 +17,7 @@ use Rattle.megaco.specs.Reply.{Acted}
 use Rattle.megaco.specs.Topology.{triplesOf, anyTopology, linksOf, setLinks}
 use Rattle.megaco.specs.Action.{linkChecks}
 use Rattle.megaco.specs.Transaction.{start, noCommands, proceed, runTransaction}
-use Rattle.types.specs.Types.{Context, Numbered, Isolate, Bothway}
+use Rattle.protocol.specs.Types.{Context, Numbered, Isolate, Bothway}
 use Rattle.laws.specs.Passed.{Passed}
 use Rattle.laws.specs.Sound.{SoundFlows, Whole}
 use Rattle.laws.specs.Hears.{StartPasses}

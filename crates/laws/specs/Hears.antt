@@ -10,7 +10,7 @@ use Rattle.megaco.specs.Table.{apply}
 use Rattle.megaco.specs.Topology.{triplesOf, anyTopology, party, linksOf, placeOf, setLinks}
 use Rattle.megaco.specs.Attempt.{seen, flowsOf}
 use Rattle.megaco.specs.Action.{startChecks, started}
-use Rattle.types.specs.Types.{Direction, Isolate, Oneway, Bothway, Numbered}
+use Rattle.protocol.specs.Types.{Direction, Isolate, Oneway, Bothway, Numbered}
 use Rattle.laws.specs.Passed.{Passed}
 use Rattle.laws.specs.Sound.{Whole}
 

@@ -8,7 +8,7 @@ use Rattle.megaco.specs.Bytes.{star, dollar}
 use Rattle.megaco.specs.Tree.{Action, action, Transaction, transaction}
 use Rattle.megaco.specs.Table.{fitted, sound}
 use Rattle.megaco.specs.State.{State}
-use Rattle.types.specs.Types.{Numbered}
+use Rattle.protocol.specs.Types.{Numbered}
 use Rattle.laws.specs.Membership.{_∈_}
 use Rattle.laws.specs.Apart.{contextsOf, namesOf, ContextsPlain, NamesPlain, TerminationsApart, ContextsApart, Apart}
 use Rattle.laws.specs.Demand.{EitherOrder}

@@ -19,7 +19,7 @@ use Rattle.megaco.specs.Bytes.{capital}
 use Rattle.megaco.specs.White.{whiteAt}
 use Rattle.megaco.specs.Tokens.{wholeAt}
 use Rattle.megaco.specs.Reading.{Read, got, fault, bind, skip}
-use Rattle.types.specs.Types.{Parsed, Next, Fault}
+use Rattle.protocol.specs.Types.{Parsed, Next, Fault}
 use Rattle.text.proofs.TextLaws.{within, reads}
 use Rattle.digits.specs.Symbols.{symbolAt, spanOf}
 use Rattle.digits.specs.DigitMap.{taken, spaced, lettersF, bracketAt, isX, positionAt, elementAt, elementThen, stringF, someOf, stringR, alternativeR, endsAt, rightParen}

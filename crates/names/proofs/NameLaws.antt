@@ -17,7 +17,7 @@ use Rattle.base.proofs.PickLaws.{pick-ind}
 use Rattle.megaco.specs.Bytes.{slash, star, dollar, isDigit, capital, capitals}
 use Rattle.megaco.specs.Table.{channels, lineTerminations, ephemerals}
 use Rattle.megaco.specs.Names.{numeral, within, lineName, ephemeralName, plainName, lineRange, wildcardName, capitalName, nameOf}
-use Rattle.types.specs.Types.{ChannelsOf, Name, Termination, Root, Chosen, Unchosen, Wildcard, Unmatched, Unknown}
+use Rattle.protocol.specs.Types.{ChannelsOf, Name, Termination, Root, Chosen, Unchosen, Wildcard, Unmatched, Unknown}
 use Rattle.names.specs.Digits.{oneDigit, twoDigits}
 
 -- ---- loops over bytes

@@ -12,7 +12,7 @@ use Rattle.base.proofs.TestLaws.{below, below-at}
 use Rattle.megaco.specs.Bytes.{isDigit, capital, capitals}
 use Rattle.megaco.specs.Table.{mostLines, terminations, isEphemeral}
 use Rattle.megaco.specs.Names.{numeral, within, lineName, ephemeralName, plainName, capitalName, nameOf, nameText}
-use Rattle.types.specs.Types.{Name, Termination, Root, Chosen, Unchosen, Wildcard, Unmatched, Unknown}
+use Rattle.protocol.specs.Types.{Name, Termination, Root, Chosen, Unchosen, Wildcard, Unmatched, Unknown}
 
 isNumber : ℕ → Name → Bool
 isNumber i (Termination k) = eqb k i

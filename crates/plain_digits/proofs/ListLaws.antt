@@ -15,7 +15,7 @@ use Rattle.base.specs.Lists.{isAt}
 use Rattle.base.proofs.TestLaws.{clash, and-left, and-right}
 use Rattle.megaco.specs.White.{whiteAt}
 use Rattle.megaco.specs.Reading.{Read, got, fault}
-use Rattle.types.specs.Types.{Parsed, Next, Fault}
+use Rattle.protocol.specs.Types.{Parsed, Next, Fault}
 use Rattle.text.proofs.TextLaws.{within}
 use Rattle.digits.specs.Symbols.{symbolsOf}
 use Rattle.digits.specs.DigitMap.{stringR, alternativeR, read, gone, onto, endsAt, listF, bareR, mapR, bar, leftParen}

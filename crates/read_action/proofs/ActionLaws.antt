@@ -10,7 +10,7 @@ use Rattle.base.specs.Lists.{part}
 use Rattle.megaco.specs.Tokens.{rowAt, afterNumber}
 use Rattle.megaco.specs.Keywords.{spells}
 use Rattle.megaco.specs.Reading.{unlimited, isProperty, wordHere}
-use Rattle.types.specs.Types.{Parsed, Next, Fault, Number, Bad, WordByte, Token, IsolateToken, OnewayToken, BothwayToken}
+use Rattle.protocol.specs.Types.{Parsed, Next, Fault, Number, Bad, WordByte, Token, IsolateToken, OnewayToken, BothwayToken}
 use Rattle.read_command.specs.declared.Piece.{Piece}
 use Rattle.read_command.specs.declared.Following.{Following}
 use Rattle.read_command.specs.declared.Following.the-variants.{Another, Ends}

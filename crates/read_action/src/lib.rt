@@ -3,7 +3,7 @@ ghost use mathlib.Core.Path.{_≡_};
 ghost use Rattle.megaco.specs.Keywords.{spells};
 ghost use Rattle.megaco.specs.Tokens.{afterNumber};
 ghost use Rattle.megaco.specs.Reading.{keyAt, wordHere, isProperty, unlimited};
-ghost use Rattle.types.specs.Types.{Next};
+ghost use Rattle.protocol.specs.Types.{Next};
 ghost use Rattle.read_command.specs.Places.{contextAt, isDirection, directionOf, directionAt, partyAt, tripleAt, triplesAt, topologyAt, priorityAt, propertyAt, bodyAt, openingAt, actionAt, actionsAt};
 use megaco::Class;
 use megaco::Direction;

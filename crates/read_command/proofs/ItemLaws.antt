@@ -15,7 +15,7 @@ use Rattle.megaco.specs.Keywords.{spells}
 use Rattle.megaco.specs.Items.{called}
 use Rattle.megaco.specs.Tokens.{signAt, rowAt}
 use Rattle.megaco.specs.Reading.{unlimited}
-use Rattle.types.specs.Types.{WordByte, AuditToken, Parsed, Next, Fault}
+use Rattle.protocol.specs.Types.{WordByte, AuditToken, Parsed, Next, Fault}
 use Rattle.read_command.specs.declared.Piece.{Piece}
 use Rattle.read_command.specs.declared.Following.{Following}
 use Rattle.read_command.specs.declared.Following.the-variants.{Another}

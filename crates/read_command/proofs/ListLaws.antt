@@ -11,7 +11,7 @@ use Rattle.base.specs.Lists.{isAt}
 use Rattle.megaco.specs.Bytes.{comma}
 use Rattle.megaco.specs.White.{after, whiteAt}
 use Rattle.megaco.specs.Tokens.{markAt, signAt}
-use Rattle.types.specs.Types.{Parsed, Next, Fault}
+use Rattle.protocol.specs.Types.{Parsed, Next, Fault}
 use Rattle.read_command.specs.declared.Following.{Following}
 use Rattle.read_command.specs.declared.Following.the-variants.{Another, Ends}
 use Rattle.read_command.specs.Production.{spacedAt, joinedAt, behindComma, followingOf, listAt}

@@ -14,7 +14,7 @@ use Rattle.megaco.specs.White.{after, goesOn, insideAfter, stopAt, whiteFrom, w
 use Rattle.megaco.specs.Keywords.{spells}
 use Rattle.megaco.specs.Tokens.{markAt, signAt, rowAt, upTo64, letterAt, wordAt, keywordAt, pathStart, pathNameAt, terminationAt, numberEnd, numberFrom, numberAt, afterNumber, quotedAt, plainAt, valueAt}
 use Rattle.megaco.specs.Reading.{Read, unlimited, keyAt, wordHere}
-use Rattle.types.specs.Types.{Parsed, Next, Fault, Number, Got, Bad, Class, WordByte, NameByte, SafeByte, QuotedByte, Token, PriorityToken, EmergencyToken, TopologyToken}
+use Rattle.protocol.specs.Types.{Parsed, Next, Fault, Number, Got, Bad, Class, WordByte, NameByte, SafeByte, QuotedByte, Token, PriorityToken, EmergencyToken, TopologyToken}
 use Rattle.tokens.proofs.TokenLaws.{pick-ind, row-ahead}
 use Rattle.read_command.specs.Production.{Production, numberAfter, spacedAt, joinedAt, listAt}
 use Rattle.read_command.specs.Places.{secondAt, valueItemAt, bracesAt, headAt, emptyAt, orNoneAt, itemAt, itemsAt, priorityAt, propertyAt, isDirection, directionAt, partyAt, tripleAt, triplesAt, topologyAt}

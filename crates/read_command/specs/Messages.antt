@@ -14,7 +14,7 @@ use Rattle.megaco.specs.White.{after, whiteAt}
 use Rattle.megaco.specs.Tokens.{markAt, keywordAt, numberAt}
 use Rattle.megaco.specs.Tree.{Action, Transaction, transaction, Message, wellFormed, fault400, fault403, fault406}
 use Rattle.megaco.specs.Reading.{Read, reading, keyAt, actionsR, elsewhere, numbered, inside, followed, endOr, bracesThen, transactionsR, startAt, senderAt, messageR}
-use Rattle.types.specs.Types.{Parsed, Next, Fault, Number, Got, Bad, MegacopToken, TransToken}
+use Rattle.protocol.specs.Types.{Parsed, Next, Fault, Number, Got, Bad, MegacopToken, TransToken}
 use Rattle.read_command.specs.Production.{endOf, valueIn, nextIn, numberAfter, pastWhite, found, Production}
 use Rattle.read_command.specs.Places.{actionsAt, bracedAt}
 use Rattle.read_command.specs.declared.Braces.{Braces}

@@ -16,7 +16,7 @@ use Rattle.megaco.specs.Items.{called}
 use Rattle.megaco.specs.Tokens.{markAt, signAt, wordAt, terminationAt, numberAt, valueAt}
 use Rattle.megaco.specs.Tree.{item, Command, command, triple, Property, priority, emergency, topology}
 use Rattle.megaco.specs.Reading.{Read, got, listR, unlimited, keyAt, secondR, valueOf, valueR, bracesR, mayBeEmpty, orNoneR, itemR, itemsR, prefixAt, prefixEnd, isProperty, orderR, commandR, contextR, wordHere, propertyR, Body, body, withProperty, propertyThen, bodyR, actionOf, actionR, actionsR, fault, directionR, partyR, tripleR, topologyR}
-use Rattle.types.specs.Types.{Parsed, Next, Fault, Number, Null, Numbered, Choose, All, AuditToken, CtxToken, PriorityToken, EmergencyToken, TopologyToken, IsolateToken, OnewayToken, BothwayToken, Direction, Isolate, Oneway, Bothway}
+use Rattle.protocol.specs.Types.{Parsed, Next, Fault, Number, Null, Numbered, Choose, All, AuditToken, CtxToken, PriorityToken, EmergencyToken, TopologyToken, IsolateToken, OnewayToken, BothwayToken, Direction, Isolate, Oneway, Bothway}
 use Rattle.read_command.specs.Production.{endOf, numberAfter, pastWhite, pastSign, wordEnd, spacedAt, joinedAt, Reads, Production, fault-reads, got-reads, bind-reads, map-reads, skip-reads, word-reads, after-assoc, faultP, gotP, tokenP, numberP, pickP, unlessP, bindP, mapP, skipP, signP, lastP, closeP, spacedP, behindP, placedP, keywordP, wordP, wordThenP, listP, pastWordP}
 use Rattle.read_command.specs.declared.Rest.{Rest}
 

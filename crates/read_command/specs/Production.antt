@@ -11,7 +11,7 @@ use Rattle.megaco.specs.Bytes.{comma}
 use Rattle.megaco.specs.White.{after, whiteAt}
 use Rattle.megaco.specs.Tokens.{signAt, upTo64, rowAt, wordAt, letterAt, afterNumber}
 use Rattle.megaco.specs.Reading.{Read, got, fault, bind, skip, reading, readNumber, spaced, listR, wordR}
-use Rattle.types.specs.Types.{Parsed, Next, Fault, Number, Got, Bad, WordByte}
+use Rattle.protocol.specs.Types.{Parsed, Next, Fault, Number, Got, Bad, WordByte}
 use Rattle.read_command.specs.declared.Following.{Following}
 use Rattle.read_command.specs.declared.Following.the-variants.{Another, Ends}
 

@@ -2,7 +2,7 @@
 ghost use mathlib.Core.Path.{_≡_};
 ghost use mathlib.Core.Bool.{_&&_, _||_};
 ghost use Prim.Native.Nat.{suc};
-ghost use Rattle.types.specs.Types.{TopologyToken};
+ghost use Rattle.protocol.specs.Types.{TopologyToken};
 ghost use Rattle.megaco.specs.Reading.{prefixEnd, isProperty};
 ghost use Rattle.read_command.specs.Pieces.{Holds};
 ghost use Rattle.read_command.specs.Production.{spacedAt, followingOf};

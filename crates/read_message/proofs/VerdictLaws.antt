@@ -7,7 +7,7 @@ use lib.Dec.{ltb, eqb}
 use lib.ListN.{length}
 use borrow.Author.Tests.{lt-ltb, le-ltb, eq-eqb, ne-eqb}
 use Rattle.base.specs.Pick.{pick}
-use Rattle.types.specs.Types.{Parsed, Next, Fault, Number, Got, Bad}
+use Rattle.protocol.specs.Types.{Parsed, Next, Fault, Number, Got, Bad}
 use Rattle.read_command.specs.declared.Braces.{Braces}
 use Rattle.read_command.specs.declared.Braces.the-variants.{Past, Outside, Within}
 use Rattle.read_command.specs.declared.Verdict.{Verdict}

@@ -13,7 +13,7 @@ use Rattle.base.specs.Bytes.{text, _then_}
 use Rattle.base.specs.Out.{Appended}
 use Rattle.base.proofs.TextLaws.{then-assoc}
 use Rattle.base.proofs.OutLaws.{_▸_, length-put, take-put}
-use Rattle.types.specs.Types.{Context}
+use Rattle.protocol.specs.Types.{Context}
 use Rattle.megaco.specs.Reply.{Report, errorText, reportsText, actionText, replyText, limited}
 use Rattle.reply.specs.Texts.{replyOpen, actionOpen, limitedFrom}
 

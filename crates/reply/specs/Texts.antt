@@ -6,7 +6,7 @@ use lib.Dec.{ltb}
 use Rattle.base.specs.Pick.{pick}
 use Rattle.base.specs.Bytes.{text, decimal, _then_}
 use Rattle.megaco.specs.Reply.{errorText, contextText, replyText}
-use Rattle.types.specs.Types.{Context}
+use Rattle.protocol.specs.Types.{Context}
 
 -- `P=id{`
 unfoldable pub replyOpen : ℕ → List ℕ

@@ -14,7 +14,7 @@ use Rattle.base.specs.Pick.{pick}
 use Rattle.base.proofs.OutLaws.{none}
 use Rattle.megaco.specs.Table.{modeOf, stateOf, priorityOf, emergencyOf}
 use Rattle.megaco.specs.Attempt.{detailOf}
-use Rattle.types.specs.Types.{Op}
+use Rattle.protocol.specs.Types.{Op}
 use Rattle.megaco.specs.Reply.{Detail, nothing, media, Report, done, refused, standing, triedText, detailText, codeText, reportText, separator, reportsText}
 use Rattle.report.specs.Rows.{emergencyText, firstAfter}
 

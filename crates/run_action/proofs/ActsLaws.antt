@@ -20,7 +20,7 @@ use Rattle.megaco.specs.Reply.{reportsText, separator, actionText, replyText}
 use Rattle.megaco.specs.State.{State, state}
 use Rattle.megaco.specs.Command.{Outcome}
 use Rattle.megaco.specs.Transaction.{Ran, ran, runTransaction, runTransactions}
-use Rattle.types.specs.Types.{Context, Parsed, Next, Fault}
+use Rattle.protocol.specs.Types.{Context, Parsed, Next, Fault}
 use Rattle.read_command.specs.Production.{pastSign, listOf, listP}
 use Rattle.read_command.specs.Places.{commandsIn, restOf, restIn, actionAt}
 use Rattle.read_command.specs.Messages.{transactionOf, transactionEnd, transactionsAt}

@@ -14,7 +14,7 @@ use Rattle.megaco.specs.Attempt.{seen, numberOf}
 use Rattle.megaco.specs.Command.{Outcome, outcome, runCommand}
 use Rattle.megaco.specs.Action.{Start, started}
 use Rattle.megaco.specs.Transaction.{noCommands, Step, commandSteps, steps, progress, Course, course, begin, advance, proceed, step, run, fresh, Ran, ran, runTransaction}
-use Rattle.types.specs.Types.{Context}
+use Rattle.protocol.specs.Types.{Context}
 use Rattle.run_action.specs.Fold.{runCommands, afterStart, runAction, outcomeText, runActions}
 
 -- a transaction that has stopped stays as it is

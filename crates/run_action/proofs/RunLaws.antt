@@ -15,7 +15,7 @@ use Rattle.megaco.specs.Names.{nameOf}
 use Rattle.megaco.specs.Tree.{Items, Command, command}
 use Rattle.megaco.specs.State.{State}
 use Rattle.megaco.specs.Command.{Outcome, outcome, Targets, noTarget, gateway, targets, attempts, commandError, actionError, rootTargets, freeTargets, matchTargets, matches, notForRoot, targetsOf, runTargets, fromTest4, fromTest2, unlessOptional, fromTest1, opOf, runCommand}
-use Rattle.types.specs.Types.{Context, Parsed, Next, Fault, Op, Values, Judged, Wrong, Right, Name, Termination, Root, Chosen, Unchosen, Wildcard, Unmatched, Unknown}
+use Rattle.protocol.specs.Types.{Context, Parsed, Next, Fault, Op, Values, Judged, Wrong, Right, Name, Termination, Root, Chosen, Unchosen, Wildcard, Unmatched, Unknown}
 use Rattle.read_command.specs.Production.{pastSign, listOf, listP}
 use Rattle.read_command.specs.Places.{commandAt}
 use Rattle.command_places.specs.Found.{nextAt}

@@ -20,7 +20,7 @@ use Rattle.megaco.specs.Attempt.{judge, seen, numberOf}
 use Rattle.megaco.specs.Command.{Outcome, outcome}
 use Rattle.megaco.specs.Action.{anyGiven, over15, newRecord, setProperties, startChecks, startWrites, startReports, startedBy, started}
 use Rattle.megaco.specs.Transaction.{noCommands}
-use Rattle.types.specs.Types.{Context, Checked, Passes, Fails}
+use Rattle.protocol.specs.Types.{Context, Checked, Passes, Fails}
 use Rattle.read_command.specs.Production.{listOf}
 use Rattle.read_command.specs.Places.{commandsAt, commandsIn, bodyEnd}
 use Rattle.read_command.specs.declared.Rest.{Rest}

@@ -13,7 +13,7 @@ use Rattle.megaco.specs.Attempt.{seen, numberOf}
 use Rattle.megaco.specs.Command.{Outcome, outcome, runCommand}
 use Rattle.megaco.specs.Action.{Start, started}
 use Rattle.megaco.specs.Transaction.{noCommands, Ran, ran}
-use Rattle.types.specs.Types.{Context}
+use Rattle.protocol.specs.Types.{Context}
 
 -- commands in order, until one stops the transaction
 unfoldable pub runCommands : List Command → ℕ → Context → State → Outcome

@@ -7,7 +7,7 @@ use Rattle.base.specs.Bytes.{text, _then_}
 use Rattle.megaco.specs.State.{State}
 use Rattle.megaco.specs.Reply.{separator}
 use Rattle.reply.specs.Texts.{actionOpen}
-use Rattle.types.specs.Types.{Context}
+use Rattle.protocol.specs.Types.{Context}
 use Rattle.base.specs.Out.{Appended}
 use Rattle.megaco.specs.Command.{Outcome}
 use Rattle.megaco.specs.Transaction.{Ran}

@@ -27,7 +27,7 @@ use Rattle.attempt_view.specs.Noted.{Matched}
 use Rattle.targets.specs.Targets.{targetsIn}
 use Rattle.targets.specs.declared.Target.{Target}
 use Rattle.targets.specs.declared.Target.the-variants.{NoTarget, Gateway, One, Many}
-use Rattle.types.specs.Types.{Range, View, Checked, Passes, Fails, Context, Op, Values}
+use Rattle.protocol.specs.Types.{Range, View, Checked, Passes, Fails, Context, Op, Values}
 use Rattle.run_attempts.specs.Contract.{RunsTo, joined, shown, CommandFailed}
 use Rattle.run_attempts.specs.declared.Turn.{Turn}
 use Rattle.run_attempts.specs.declared.CommandOutcome.{CommandOutcome}

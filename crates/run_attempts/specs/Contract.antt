@@ -9,7 +9,7 @@ use Rattle.megaco.specs.Reply.{refused, reportsText}
 use Rattle.megaco.specs.State.{State}
 use Rattle.megaco.specs.Names.{nameText}
 use Rattle.megaco.specs.Command.{Outcome, outcome}
-use Rattle.types.specs.Types.{Op}
+use Rattle.protocol.specs.Types.{Op}
 use Rattle.run_attempts.specs.declared.Turn.{Turn}
 use Rattle.run_attempts.specs.declared.CommandOutcome.{CommandOutcome}
 

@@ -11,7 +11,7 @@ ghost use Rattle.megaco.specs.Names.{nameText};
 ghost use Rattle.base.specs.Bytes.{_then_};
 ghost use Rattle.megaco.specs.Reply.{refused, triedText, separator, reportsText};
 ghost use Rattle.megaco.specs.Command.{attempts, runTargets};
-ghost use Rattle.types.specs.Ranges.{InRange};
+ghost use Rattle.protocol.specs.Ranges.{InRange};
 ghost use Rattle.targets.specs.Targets.{targetsIn};
 ghost use Rattle.targets.specs.declared.Target.the-variants.{Many};
 ghost use Rattle.run_attempts.specs.Contract.{RunsTo, shown, CommandFailed};

@@ -12,8 +12,8 @@ use Rattle.megaco.specs.State.{State}
 use Rattle.megaco.specs.Tree.{Items}
 use Rattle.megaco.specs.Attempt.{seen, numberOf}
 use Rattle.megaco.specs.Command.{Outcome, opOf, noContext, forbiddenInNull, commandError, actionError, fromTest4, fromTest2, unlessOptional, fromTest1, runCommand}
-use Rattle.types.specs.Types.{Op, Judged, Wrong, Right}
-use Rattle.types.specs.Ranges.{JudgedInRange}
+use Rattle.protocol.specs.Types.{Op, Judged, Wrong, Right}
+use Rattle.protocol.specs.Ranges.{JudgedInRange}
 use Rattle.laws.proofs.Values.{items-in-range}
 use Rattle.read_command.specs.Places.{commandAt}
 use Rattle.command_places.specs.Found.{itemsFrom, commandFrom, OfCommand}

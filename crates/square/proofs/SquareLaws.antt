@@ -11,7 +11,7 @@ use borrow.Author.Tests.{lt-ltb, le-ltb, eq-eqb, ne-eqb, eqb-true, eqb-false}
 use mir.Val.{boolByte}
 use Rattle.base.specs.Pick.{pick}
 use Rattle.megaco.specs.Square.{Square, bits, ofBits, rows, ofRows, squareOf, lowOf, highOf, flowAt, paired, directed, joinedFlow, joinedRow, upTo}
-use Rattle.types.specs.Types.{Direction, Isolate, Oneway, Bothway}
+use Rattle.protocol.specs.Types.{Direction, Isolate, Oneway, Bothway}
 
 -- ---- the code's returns
 pub unpacked : (low high : ℕ) (a b c d e f g h : List Bool) → a ≡ bits 8 (low % 256) → b ≡ bits 8 (low / 256 % 256) → c ≡ bits 8 (low / 256 / 256 % 256) → d ≡ bits 8 (low / 256 / 256 / 256 % 256)

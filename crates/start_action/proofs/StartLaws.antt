@@ -19,7 +19,7 @@ use Rattle.megaco.specs.Square.{Square}
 use Rattle.megaco.specs.Topology.{triplesOf, anyTopology, Link, linksOf, setLinks}
 use Rattle.megaco.specs.Attempt.{check, judge, numberOf, seen, flowing, flowsOf}
 use Rattle.megaco.specs.Action.{linkChecks, flowWrites, newRecord, anyGiven, over15, setProperties, startChecks, startWrites}
-use Rattle.types.specs.Types.{Context, Null, Numbered, Choose, All, Checked, Passes, Fails, Parsed, Next, Fault, Seen, Property, Priority, Emergency, Topology}
+use Rattle.protocol.specs.Types.{Context, Null, Numbered, Choose, All, Checked, Passes, Fails, Parsed, Next, Fault, Seen, Property, Priority, Emergency, Topology}
 use Rattle.read_command.specs.Production.{pastSign}
 use Rattle.read_command.specs.Places.{propertyAt, propertiesOf}
 use Rattle.command_places.specs.Found.{nextAt}

@@ -12,7 +12,7 @@ use Rattle.megaco.specs.Square.{Square}
 use Rattle.megaco.specs.Topology.{triplesOf, anyTopology, linksOf}
 use Rattle.megaco.specs.Attempt.{judge, numberOf, flowing}
 use Rattle.megaco.specs.Action.{linkChecks, newRecord, over15, setProperties}
-use Rattle.types.specs.Types.{Checked, Passes, Fails, Context, Null, Numbered, Choose, All, Property, Priority, Emergency, Topology}
+use Rattle.protocol.specs.Types.{Checked, Passes, Fails, Context, Null, Numbered, Choose, All, Property, Priority, Emergency, Topology}
 use Rattle.read_command.specs.Places.{propertiesOf}
 use Rattle.start_action.specs.declared.PropertiesRead.{PropertiesRead}
 use Rattle.start_action.specs.declared.Tested.{Tested}

@@ -8,7 +8,7 @@ use borrow.Author.Tests.{ne-eqb}
 use Rattle.base.specs.Pick.{pick}
 use Rattle.megaco.specs.Table.{lineTerminations, fitted, ctx, get, exists, freeEphemeral}
 use Rattle.megaco.specs.Command.{noTarget, rootTargets, freeTargets, targetsOf, isAdd, inPlace, isNull}
-use Rattle.types.specs.Types.{Context, Op, Name, Termination, Root, Chosen, Unchosen, Wildcard, Unmatched, Unknown, Range}
+use Rattle.protocol.specs.Types.{Context, Op, Name, Termination, Root, Chosen, Unchosen, Wildcard, Unmatched, Unknown, Range}
 use Rattle.targets.specs.declared.Target.{Target}
 use Rattle.targets.specs.declared.Target.the-variants.{NoTarget, One, Many}
 use Rattle.targets.specs.Targets.{rootTarget, freeTarget, unchosenTarget, oneTarget, targetOf, targetsIn}

@@ -6,7 +6,7 @@ use lib.Dec.{eqb}
 use Rattle.base.specs.Pick.{pick}
 use Rattle.megaco.specs.Table.{fitted, ctx, get, lineTerminations, exists, freeEphemeral}
 use Rattle.megaco.specs.Command.{Targets, noTarget, gateway, targets, matchTargets, matches, isAdd, inPlace, isNull}
-use Rattle.types.specs.Types.{Context, Op, Name, Termination, Root, Chosen, Unchosen, Wildcard, Unmatched, Unknown}
+use Rattle.protocol.specs.Types.{Context, Op, Name, Termination, Root, Chosen, Unchosen, Wildcard, Unmatched, Unknown}
 use Rattle.targets.specs.declared.Target.{Target}
 use Rattle.targets.specs.declared.Target.the-variants.{NoTarget, Gateway, One, Many}
 

@@ -7,7 +7,7 @@ use borrow.Author.Tests.{eqb-true, eqb-false}
 use lib.Dec.{eqb}
 use Rattle.base.specs.Pick.{pick}
 use Rattle.megaco.specs.Bytes.{isLetter, isDigit, isWord, isName, isSafe, isRest, isQuoted, isDomain, inClass}
-use Rattle.types.specs.Types.{Class, WordByte, NameByte, SafeByte, QuotedByte, DomainByte}
+use Rattle.protocol.specs.Types.{Class, WordByte, NameByte, SafeByte, QuotedByte, DomainByte}
 use Rattle.text.specs.Classes.{lowOf, highOf, halfOf, OfMaps}
 
 agree : Bool → Bool → Bool

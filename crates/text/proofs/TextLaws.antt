@@ -14,7 +14,7 @@ use lib.Dec.{eqb, leb, lit<}
 use borrow.Author.Tests.{eqb-true, leb-true}
 use Rattle.base.specs.Pick.{pick, picks}
 use Rattle.base.specs.Lists.{isAt}
-use Rattle.types.specs.Types.{Parsed, Next, Fault, Class}
+use Rattle.protocol.specs.Types.{Parsed, Next, Fault, Class}
 use Rattle.megaco.specs.Bytes.{semicolon, isLetter, isWhite, isLineEnd, isComment}
 use Rattle.megaco.specs.White.{after, goesOn, insideAfter, stopAt, whiteFrom, whiteAt}
 use Rattle.megaco.specs.Tokens.{letterAt, rowFrom, rowAt}

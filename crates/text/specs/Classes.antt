@@ -6,7 +6,7 @@ use mathlib.Core.Bool.{Bool}
 use lib.Dec.{ltb}
 use Rattle.base.specs.Pick.{pick}
 use Rattle.megaco.specs.Bytes.{inClass}
-use Rattle.types.specs.Types.{Class, WordByte, NameByte, SafeByte, QuotedByte, DomainByte}
+use Rattle.protocol.specs.Types.{Class, WordByte, NameByte, SafeByte, QuotedByte, DomainByte}
 
 abbrev pub lowOf : Class → ℕ
 lowOf WordByte = 0x03ff_0000_0000_0000

@@ -9,7 +9,7 @@ use lib.ListN.{length, getD, drop, drop-of-length-le}
 use lib.Seq.{drop-cons}
 use borrow.Author.Tests.{lt-ltb, le-ltb, le-leb, lt-leb}
 use Rattle.base.specs.Pick.{pick}
-use Rattle.types.specs.Types.{Number, Bad}
+use Rattle.protocol.specs.Types.{Number, Bad}
 use Rattle.megaco.specs.Bytes.{isDigit}
 use Rattle.megaco.specs.Tokens.{numberFrom, numberEnd}
 

@@ -10,7 +10,7 @@ use borrow.Author.Tests.{lt-ltb, le-ltb, le-leb, lt-leb}
 use lib.ListN.{length, getD, drop, length-drop, List·getD-eq-default}
 use Rattle.base.specs.Pick.{pick}
 use Rattle.base.specs.Lists.{isAt}
-use Rattle.types.specs.Types.{Class, WordByte, NameByte, Parsed, Next, Fault, Number, Got, Bad}
+use Rattle.protocol.specs.Types.{Class, WordByte, NameByte, Parsed, Next, Fault, Number, Got, Bad}
 use Rattle.megaco.specs.Bytes.{star, dollar, isDigit, inClass}
 use Rattle.megaco.specs.Tokens.{letterAt, rowFrom, rowAt, upTo64, wordAt, pathStart, pathNameAt, terminationAt, markAt, afterNumber, mIdAt, wholeAt, isMid}
 use Rattle.megaco.specs.White.{after}

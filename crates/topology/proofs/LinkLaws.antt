@@ -16,7 +16,7 @@ use Rattle.megaco.specs.Table.{cell, flow, get, lowFlow, highFlow, known}
 use Rattle.megaco.specs.Topology.{triplesOf, party, Link, link, linkOf, linksOf, isUnfit, isAbsent, isOutside, placeOf, setLink, setLinks}
 use Rattle.megaco.specs.Attempt.{seen, flowsOf, judge}
 use Rattle.megaco.specs.Action.{linkChecks}
-use Rattle.types.specs.Types.{Checked, Passes, Fails, Party, Member, Property, Priority, Emergency, Topology}
+use Rattle.protocol.specs.Types.{Checked, Passes, Fails, Party, Member, Property, Priority, Emergency, Topology}
 use Rattle.read_command.specs.Places.{tripleAt, triplesStart, triplesAt, propertyAt}
 use Rattle.action_places.specs.ActionPlaces.{OfTriple, tripleFrom, kindOf}
 use Rattle.action_places.specs.declared.TriplePlaces.{TriplePlaces}

@@ -14,7 +14,7 @@ use Rattle.megaco.specs.Square.{Square}
 use Rattle.megaco.specs.Topology.{triplesOf, linkOf, linksOf, setLinks}
 use Rattle.megaco.specs.Attempt.{judge}
 use Rattle.megaco.specs.Action.{linkChecks}
-use Rattle.types.specs.Types.{Checked, Passes, Fails, Parsed, Next, Fault}
+use Rattle.protocol.specs.Types.{Checked, Passes, Fails, Parsed, Next, Fault}
 use Rattle.read_command.specs.Production.{pastSign, listOf}
 use Rattle.read_command.specs.Places.{tripleAt, triplesAt, propertyAt, propertiesOf}
 use Rattle.command_places.specs.Found.{nextAt}

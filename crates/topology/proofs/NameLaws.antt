@@ -15,7 +15,7 @@ use Rattle.megaco.specs.Bytes.{capital, capitals}
 use Rattle.megaco.specs.Table.{ctx, get, fitted, exists, placeIn}
 use Rattle.megaco.specs.Names.{nameOf}
 use Rattle.megaco.specs.Topology.{meant, party}
-use Rattle.types.specs.Types.{Name, Termination, Root, Chosen, Unchosen, Wildcard, Unmatched, Unknown, Range, Party, Unfit, Absent, Outside, Member}
+use Rattle.protocol.specs.Types.{Name, Termination, Root, Chosen, Unchosen, Wildcard, Unmatched, Unknown, Range, Party, Unfit, Absent, Outside, Member}
 
 -- ---- a termination
 module _ (t : List ℕ) (c i here lines : ℕ) (x : Bool) (e : here ≡ get t (ctx i)) (f : lines ≡ fitted t) (g : x ≡ exists lines i here) where

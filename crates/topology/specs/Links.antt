@@ -7,7 +7,7 @@ use Rattle.megaco.specs.Tree as tree
 use Rattle.megaco.specs.Square.{Square}
 use Rattle.megaco.specs.Topology.{triplesOf, Link, link, linkOf, linksOf, setLinks}
 use Rattle.megaco.specs.Attempt.{seen, flowsOf}
-use Rattle.types.specs.Types.{Property, Priority, Emergency, Topology}
+use Rattle.protocol.specs.Types.{Property, Priority, Emergency, Topology}
 use Rattle.read_command.specs.Places.{tripleAt}
 use Rattle.topology.specs.declared.Looked.{Looked}
 

@@ -9,7 +9,7 @@ ghost use Rattle.megaco.specs.Table.{Sized};
 ghost use Rattle.megaco.specs.Topology.{triplesOf, meant, party, linksOf, isUnfit, isAbsent, isOutside, placeOf, setLinks};
 ghost use Rattle.megaco.specs.Attempt.{seen, flowsOf, judge};
 ghost use Rattle.megaco.specs.Action.{linkChecks};
-ghost use Rattle.types.specs.Types.{Termination};
+ghost use Rattle.protocol.specs.Types.{Termination};
 ghost use Rattle.read_command.specs.Places.{tripleAt, triplesAt, propertyAt, propertiesOf};
 ghost use Rattle.action_places.specs.ActionPlaces.{kindOf};
 ghost use Rattle.topology.specs.Links.{linkFrom, Links, isTopology, flowsAfter};

@@ -5,7 +5,7 @@ use mathlib.Core.List.{List}
 use Rattle.base.specs.Pick.{pick, pick-yes-by, pick-no-by}
 use Rattle.megaco.specs.Table.{freeContext}
 use Rattle.megaco.specs.Attempt.{freeAt, isChoose}
-use Rattle.types.specs.Types.{Context, Null, Numbered, Choose, All}
+use Rattle.protocol.specs.Types.{Context, Null, Numbered, Choose, All}
 use Rattle.attempt_view.proofs.free_at.Statement.{statement}
 use Rattle.attempt_view.proofs.free_at.Tie as tie
 

@@ -1,7 +1,7 @@
 -- The values that a command's items can give.
 use Prim.Native.Nat.{ℕ, _≤_}
 use Rattle.megaco.specs.Items.{change}
-use Rattle.types.specs.Types.{Values, Judged, Wrong, Right}
+use Rattle.protocol.specs.Types.{Values, Judged, Wrong, Right}
 
 -- modes 0..4, states 0..2, where they are given
 pub record InRange (vs : Values) : Type 0 where
