@@ -1,6 +1,7 @@
 /*
- * The Megaco trunk gateway, for C99 and C++: the call, the contexts as text, two
- * questions about the ephemerals in use, who hears whom, and digit maps.
+ * The Megaco trunk gateway, for C99 and C++: the call, the contexts as text, the
+ * texts of Local and Remote in a message, two questions about the ephemerals in use,
+ * who hears whom, and digit maps.
  *
  * A call takes the count of lines that the shelf has, one H.248.1 (Megaco) text
  * message and a table that the caller lends, runs the message on the table, and
@@ -35,14 +36,14 @@
  * by a program that was compiled with an older header. All zero stays the fresh
  * table.
  */
-#define CORDAFINA_VERSION 4
+#define CORDAFINA_VERSION 5
 
 /*
  * Stack that a call of any function here uses at most, but for the plain digit
  * matcher. Measured and rounded up: tests/stack.c runs each function on a painted
  * stack, on some 2,700 messages, and fails if one takes more. The deepest was
- * 8,848 bytes. It does not grow with a message: items nest 8 levels, a number is
- * written in 10 digits, and nothing else calls itself.
+ * 8,848 bytes before CR 11. It does not grow with a message: items nest 8 levels, a
+ * number is written in 10 digits, and nothing else calls itself.
  */
 #define CORDAFINA_STACK_BYTES 12288
 
@@ -70,6 +71,9 @@
  *   2N + 130 .. 2N + 385        the flows of contexts 1..128, two words each, low half first:
  *                               bit 8i + j is set when member i flows to member j (j hears i),
  *                               the members counted from 0 in ascending number; all others 0
+ *   2N + 386 .. 2N + 897        where the speech of R/1..R/64 goes, eight words each: 1, the address
+ *                               (first number highest), the port and the payload type of Local,
+ *                               or four zeros, then the same of Remote; of an absent one all are 0
  *
  * Modes: 0 Inactive, 1 SendOnly, 2 ReceiveOnly, 3 SendReceive, 4 Loopback.
  * States: 0 InService, 1 OutOfService, 2 Test.
@@ -87,8 +91,11 @@
 #define CORDAFINA_MAP(n) (CORDAFINA_RECORDS(n) + 128)
 /* Where the flows start, by twice the context number less 1. */
 #define CORDAFINA_FLOWS(n) (CORDAFINA_MAP(n) + 2)
-/* Words of a table: exactly so many, 1010 for eight lines. */
-#define CORDAFINA_TABLE_WORDS(n) (CORDAFINA_FLOWS(n) + 256)
+/* Where the first of the four words of R/k's Local stands, and of its Remote. */
+#define CORDAFINA_LOCAL(n, k) (CORDAFINA_FLOWS(n) + 256 + 8 * ((size_t)(k) - 1))
+#define CORDAFINA_REMOTE(n, k) (CORDAFINA_LOCAL(n, k) + 4)
+/* Words of a table: exactly so many, 1522 for eight lines. */
+#define CORDAFINA_TABLE_WORDS(n) (CORDAFINA_FLOWS(n) + 768)
 
 /* A termination's mode and state, from its properties. */
 #define CORDAFINA_MODE(properties) ((properties) % 8)
@@ -128,6 +135,11 @@
 #define CORDAFINA_MID_UNFIT 4         /* own mId not an mId, or over 64 bytes */
 #define CORDAFINA_LINES_UNFIT 8       /* count of lines outside 1 to 16 */
 #define CORDAFINA_OUTPUT_TOO_SHORT 11 /* output under 8,192 bytes */
+
+/* What cordafina_text_side gives. */
+#define CORDAFINA_TEXT_NONE 0
+#define CORDAFINA_TEXT_LOCAL 1
+#define CORDAFINA_TEXT_REMOTE 2
 
 #ifdef __cplusplus
 extern "C" {
@@ -198,6 +210,34 @@ uint64_t cordafina_contexts(uint32_t lines,
                             uint8_t *out, size_t out_len);
 
 /*
+ * The texts in the braces of Local and Remote, for the card that sends and takes
+ * the speech: the text number k of a message, in reading order and from 0.
+ *
+ *   message, message_len   the message's bytes; read only
+ *   k                      the number; any is answered
+ *
+ * cordafina_text_side: whether it is Local's or Remote's; CORDAFINA_TEXT_NONE where
+ * the message has no more than k texts, does not read, or is longer than a call
+ * takes. cordafina_text: the part of the message that holds it, up to the closing
+ * brace; it may be empty. cordafina_text_name: the part that is the name of its
+ * command's termination, as written.
+ *
+ * A part is one number, its place in the message in the high 32 bits and its
+ * length in the low 32: cordafina_place and cordafina_length take it apart. Where
+ * there is no text both parts are 0. Nothing is copied, and no zero byte ends a
+ * part.
+ *
+ * The message alone is asked, before or after its call, and no table is read. So a
+ * text of a command that failed is given too; what was taken stands in the table,
+ * at CORDAFINA_LOCAL and CORDAFINA_REMOTE. A name is `$` or has `*` in it where the
+ * message says so; the reply says which terminations these were. Pointers,
+ * ownership and threads are as above.
+ */
+uint32_t cordafina_text_side(const uint8_t *message, size_t message_len, size_t k);
+uint64_t cordafina_text(const uint8_t *message, size_t message_len, size_t k);
+uint64_t cordafina_text_name(const uint8_t *message, size_t message_len, size_t k);
+
+/*
  * Asked of the map alone, given as one number; no table is read. Any map is
  * answered.
  *
@@ -252,13 +292,19 @@ static inline int cordafina_hears(uint32_t lines, const uint32_t *table, size_t 
            && CORDAFINA_FLOW(cordafina_flows(lines, table, table[speaker]), i, j);
 }
 
-/* The length in a result of cordafina_answer or cordafina_contexts; 0 for a call turned down. */
+/* The length in a result of cordafina_answer or cordafina_contexts, 0 for a call turned down; that of a part. */
 static inline size_t cordafina_length(uint64_t answer)
 {
     return (size_t)(answer & 0xFFFFFFFFu);
 }
 
-/* The refusal in such a result: CORDAFINA_TAKEN or one of those above. */
+/* Where a part that cordafina_text or cordafina_text_name gives begins in its message. */
+static inline size_t cordafina_place(uint64_t part)
+{
+    return (size_t)(part >> 32);
+}
+
+/* The refusal in a result of cordafina_answer or cordafina_contexts: CORDAFINA_TAKEN or one of those above. */
 static inline int cordafina_refusal(uint64_t answer)
 {
     return (int)(answer >> 32);

@@ -66,6 +66,13 @@ static void contexts(void)
     cordafina_contexts(lines, table, CORDAFINA_TABLE_WORDS(lines), out, sizeof out);
 }
 
+static void texts(void)
+{
+    cordafina_text_side((const uint8_t *)text, length, 1);
+    cordafina_text((const uint8_t *)text, length, 1);
+    cordafina_text_name((const uint8_t *)text, length, 1);
+}
+
 static void questions(void)
 {
     cordafina_lowest_absent(cordafina_map(lines, table));
@@ -103,6 +110,7 @@ static const char *const messages[] = {
     "!/1 [10.0.0.1] T=1{C=-{MF=L/1/1{M{O{a{a{a{a{a{a/b=\"c\"}}}}}}}}}}",
     "!/1 [10.0.0.1] T=1{C=1{MV=*,S=*}}",
     "!/1 [10.0.0.1] T=1{C=1{O-S=*,O-S=ROOT,O-A=$,O-MV=R/*}}T=2{C=1{PR=3,EG}}T=3{C=2{W-A=$}}",
+    "!/1 [10.0.0.1] T=1{C=${A=${M{O{MO=SR},L{v=0\nc=IN IP4 10.0.0.9\nm=audio 4000 RTP/AVP 8\n},R{}}},A=L/1/1}}",
     ";a comment\r\n MEGACO / 1",
     "noise",
 };
@@ -119,8 +127,8 @@ static size_t most(size_t a, size_t b)
     return a < b ? b : a;
 }
 
-/* The most that was used by the call, the contexts and the questions about the map, and how many messages were answered. */
-static size_t by_call, by_contexts, by_questions, calls;
+/* The most that was used by the call, the contexts, the texts and the questions about the map, and how many messages were answered. */
+static size_t by_call, by_contexts, by_texts, by_questions, calls;
 
 static void message(const char *bytes, size_t count)
 {
@@ -128,6 +136,7 @@ static void message(const char *bytes, size_t count)
     length = count;
     by_call = most(by_call, used(answer));
     by_contexts = most(by_contexts, used(contexts));
+    by_texts = most(by_texts, used(texts));
     by_questions = most(by_questions, used(questions));
     calls++;
 }
@@ -171,16 +180,16 @@ int main(int count, char **files)
             second = most(second, used(plain));
         }
     }
-    printf("stack: of %zu calls the deepest %zu bytes, contexts %zu, the map %zu, digit maps %zu, the plain matcher %zu;", calls,
-           by_call, by_contexts, by_questions, first, second);
+    printf("stack: of %zu calls the deepest %zu bytes, contexts %zu, texts %zu, the map %zu, digit maps %zu, the plain matcher %zu;",
+           calls, by_call, by_contexts, by_texts, by_questions, first, second);
     printf(" %zu of each are this test's\n", base);
-    if (most(most(by_call, by_contexts), most(by_questions, first)) > CORDAFINA_STACK_BYTES || second > CORDAFINA_PLAIN_STACK_BYTES) {
+    if (most(most(by_call, by_contexts), most(most(by_texts, by_questions), first)) > CORDAFINA_STACK_BYTES || second > CORDAFINA_PLAIN_STACK_BYTES) {
         printf("stack: FAILED, more than the %d bytes, for the plain matcher %d, that the headers say\n", CORDAFINA_STACK_BYTES,
                CORDAFINA_PLAIN_STACK_BYTES);
         return 1;
     }
     /* A test that sees nothing would pass. */
-    if (by_call < base + 2049 || calls < 2672) {
+    if (by_call < base + 2049 || calls < 2688) {
         printf("stack: FAILED, an action's buffer of 2,049 bytes was not seen, or some messages were not\n");
         return 1;
     }

@@ -21,7 +21,7 @@ sys.dont_write_bytecode = True
 import command
 
 OWN, HEAD = b"[10.0.0.9]", b"!/1 [10.0.0.1] "
-LINES, WORDS, BUFFER = 8, 1010, 16640
+LINES, WORDS, BUFFER = 8, 1522, 16640
 FEW = 12          # how many rows are to show the same thing
 LONGEST = 300     # bytes of a message, boundaries aside
 ROOM = 800000     # bytes of the input

@@ -49,7 +49,7 @@ def copied(crate, work):
         # the examples refuse most of these edits by themselves: here it is the theorems that must
         os.remove(f'{work}/crates/megaco/proofs/Examples.antt')
         library = f'{work}/crates/megaco/proofs/Lib.antt'
-        lines = [line for line in open(library) if 'Examples' not in line]
+        lines = [line for line in open(library) if line.split()[-1:] != ['Examples']]
         with open(library, 'w') as f:
             f.writelines(lines)
 

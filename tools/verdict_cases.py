@@ -230,6 +230,18 @@ put(f403(1), item, b"AT/x{}", b"Audit/AT{}", b"m{AT{}}", b"AT{AT{}}", b"AT{M{}}"
 put(GOOD, inside, b"AV=${AT{}}", b"MF=L/1/1{AT{}}", b"MV=*{AT{}},S=${at{}}", b"O-W-Q=ROOT{Audit{}}")
 put(f403(1), inside, b"AV=${}", b"AT=${}", b"AV=${ }", b"AV{AT{}}")
 put(f403(1), message, *[("AT{} at level %d" % n, nested(n, b"AT{}")) for n in range(2, 10)])
+
+# ---- Local and Remote with a text (document 02, CR 11), written down from its sentences
+def media(x):
+    return item(b"M{" + x + b"}")
+
+
+put(GOOD, media, b"L{}", b"R{}", b"local{ }", b"Remote ;c\n{\tv=0\r\n}", b"L{v=0}", b"L{{}", b"L{,=;\"}", b"L{\\}}", b"L{\\\\}}", b"L{\x01\x7f\x80\xff}", b"L{x} , R{y}",
+    b"L{a},L{b}", b"R,L=5", b"L=5{a}", b"L/x{a}", b"O{L{a}}", b"L{;c\nx}", b"LOCAL\r\n{ }")
+put(f403(1), media, b"L{", b"L{x", b"L{x\\}", b"L{a\x00b}", b"L{\x00", b"L{;c}", b"L=5{}", b"L/x{}", b"LL{}", b"O{L{}}", b"L{}{}", b"L{}=1", b"L{},", b"L {} x", b"L;{}")
+put(GOOD, item, b"m=1{L{}}", b"MEDIA{R{v=0}}", b"x{L{a}}", b"L{a}", b"M/x{L{a}}", b"AT{M{L{a}}}", b"M{O{x},L{{{},R{}}")
+put(f403(1), item, b"L{}", b"R{}", b"M/x{L{}}", b"AT{M{L{}}}", b"x{L{}}", b"MM{L{}}")
+put(GOOD, inside, b"S=${M{L{}}}", b"AV=${M{R{\\}}}}", b"Q=ROOT{M{L{}}}")
 put(f403(1), message, ("8 levels, a brace short", nested(8)[:-1]))
 put(f403(1), message, ("8 levels, two braces short", nested(8)[:-2]))
 put(F400, message, ("8 levels, a brace more", nested(8) + b"}"))

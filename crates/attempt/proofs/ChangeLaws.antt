@@ -2,7 +2,7 @@
 use Prim.Native.Nat.{ℕ, zero, suc, _+_, _*_, _/_, _%_, _<_, _≤_, max}
 use mathlib.Core.Path.{_≡_, refl, sym, ap, _∙_}
 use mathlib.Core.List.{List, [], _∷_}
-use mathlib.Core.Bool.{Bool, true, false, _&&_}
+use mathlib.Core.Bool.{Bool, true, false, _&&_, _||_, false≢true}
 use native.Mathlib.Omega.{arith}
 use mir.Syntax.{w32}
 use mir.Val.{Fits}
@@ -13,8 +13,8 @@ use Rattle.base.proofs.TestLaws.{and-both}
 use Rattle.megaco.specs.Square.{Square, squareOf, ofBits, ofRows, lowOf, highOf, upTo, joinedFlow, joinedRow, joined, parted}
 use Rattle.megaco.specs.Table.{Write, write, ctx, cell, prop, rec, used, flow, lowFlow, highFlow, most, isEphemeral, store, apply}
 use Rattle.megaco.specs.Items.{update}
-use Rattle.megaco.specs.Attempt.{numberOf, isChoose, target, flowsOf, flowing, joining, leaving, placed, marking, added, subtracted, changes}
-use Rattle.protocol.specs.Types.{Op, Add, Modify, Subtract, Move, AuditValue, Context, Given, Keep, To, Values, Seen, View}
+use Rattle.megaco.specs.Attempt.{numberOf, isChoose, target, speaks, flowsOf, flowing, joining, leaving, placed, marking, added, subtracted, sideWrites, speaking, spoken, forgetting, changes}
+use Rattle.protocol.specs.Types.{Op, Add, Modify, Subtract, Move, AuditValue, Context, Given, Keep, To, Speech, Kept, Released, Session, Values, Seen, View}
 use Rattle.protocol.specs.Ranges.{InRange}
 use Rattle.attempt.specs.Judging.{valueOr}
 
@@ -143,6 +143,71 @@ module _ (n i m : ℕ) (t : List ℕ) (x : Bool) (e : x ≡ isEphemeral n i) whe
   unfolding marking apply pick
   mark-no h = rw (← e, h)
 
+-- what is given for Local and Remote
+module _ (i side : ℕ) (s : Speech) (t : List ℕ) where
+  pub speak-kept : s ≡ Kept → t ≡ apply (speaking i side s []) t
+  unfolding speaking apply
+  speak-kept e = rw e
+
+  pub speak-released : (t′ : List ℕ) → s ≡ Released → t′ ≡ apply (sideWrites i side 0 0 0 0 []) t → t′ ≡ apply (speaking i side s []) t
+  unfolding speaking
+  speak-released t′ e p = rw e p
+
+  pub speak-session : (t′ : List ℕ) (a p k : ℕ) → s ≡ Session a p k → t′ ≡ apply (sideWrites i side 1 a p k []) t → t′ ≡ apply (speaking i side s []) t
+  unfolding speaking
+  speak-session t′ a p k e q = rw e q
+
+speaking-first : (i side : ℕ) (s : Speech) (ws : List Write) (t : List ℕ) → apply (speaking i side s ws) t ≡ apply ws (apply (speaking i side s []) t)
+unfolding speaking sideWrites apply
+speaking-first i side Kept ws t = refl
+speaking-first i side Released ws t = refl
+speaking-first i side (Session a p k) ws t = refl
+
+pub both-spoken : (i : ℕ) (vs : Values) (t t₁ t₂ : List ℕ) → t₁ ≡ apply (speaking i 0 (vs .local) []) t → t₂ ≡ apply (speaking i 1 (vs .remote) []) t₁ → t₂ ≡ apply (spoken i vs []) t
+unfolding spoken
+both-spoken i vs t t₁ t₂ e f = f ∙ rw e (sym (speaking-first i 0 (vs .local) (speaking i 1 (vs .remote) []) t))
+
+-- neither is given
+kept-writes : (i side : ℕ) (s : Speech) (ws : List Write) → speaks s ≡ false → speaking i side s ws ≡ ws
+unfolding speaking speaks
+kept-writes i side Kept ws e = refl
+kept-writes i side Released ws e = absurd (false≢true (sym e))
+kept-writes i side (Session a p k) ws e = absurd (false≢true (sym e))
+
+pub none-spoken : (i : ℕ) (vs : Values) (t : List ℕ) (x y : Bool) → x ≡ speaks (vs .local) → y ≡ speaks (vs .remote) → (x || y) ≡ false → t ≡ apply (spoken i vs []) t
+unfolding spoken apply
+none-spoken i vs t x y e f n =
+    let b : (x ≡ false) × (y ≡ false) = or-none x y n in
+    sym (rw (kept-writes i 0 (vs .local) (speaking i 1 (vs .remote) []) (sym e ∙ b .0), kept-writes i 1 (vs .remote) [] (sym f ∙ b .1)))
+  where
+    or-none : (x y : Bool) → (x || y) ≡ false → (x ≡ false) × (y ≡ false)
+    or-none true y n = absurd (false≢true (sym n))
+    or-none false y n = (refl, n)
+
+spoken-first : (i : ℕ) (vs : Values) (ws : List Write) (t : List ℕ) → apply (spoken i vs ws) t ≡ apply ws (apply (spoken i vs []) t)
+unfolding spoken
+spoken-first i vs ws t =
+    speaking-first i 0 (vs .local) (speaking i 1 (vs .remote) ws) t
+    ∙ speaking-first i 1 (vs .remote) ws (apply (speaking i 0 (vs .local) []) t)
+    ∙ ap (apply ws) (sym (speaking-first i 0 (vs .local) (speaking i 1 (vs .remote) []) t))
+
+module _ (n i : ℕ) (t : List ℕ) (x : Bool) (e : x ≡ isEphemeral n i) where
+  pub forget-yes : (t₁ t₂ : List ℕ) → x ≡ true → t₁ ≡ apply (speaking i 0 Released []) t → t₂ ≡ apply (speaking i 1 Released []) t₁ → t₂ ≡ apply (forgetting n i []) t
+  unfolding forgetting pick
+  forget-yes t₁ t₂ h p q = rw (← e, h) (q ∙ rw p (sym (speaking-first i 0 Released (speaking i 1 Released []) t)))
+
+  pub forget-no : x ≡ false → t ≡ apply (forgetting n i []) t
+  unfolding forgetting apply pick
+  forget-no h = rw (← e, h)
+
+forgetting-first : (n i : ℕ) (ws : List Write) (t : List ℕ) → apply (forgetting n i ws) t ≡ apply ws (apply (forgetting n i []) t)
+unfolding forgetting
+forgetting-first n i ws t = by (isEphemeral n i)
+  where
+    by : (b : Bool) → apply (pick b (speaking i 0 Released (speaking i 1 Released ws)) ws) t ≡ apply ws (apply (pick b (speaking i 0 Released (speaking i 1 Released [])) []) t)
+    by true = unfold pick speaking sideWrites apply in refl
+    by false = unfold pick apply in refl
+
 pub place-by : (i c word : ℕ) (t t₁ t₂ : List ℕ) → t₁ ≡ store (write (ctx i) c) t → t₂ ≡ store (write (cell (prop i)) word) t₁ → t₂ ≡ apply (placed i c word) t
 unfolding placed apply
 place-by i c word t t₁ t₂ e f = f ∙ rw e
@@ -160,33 +225,38 @@ marked-first : (b : Bool) (w w′ : Write) (ws : List Write) (t : List ℕ) → 
 marked-first b w w′ ws t e = first-write b w ws t ∙ ap (λ (x : Write). apply ws (apply (pick b (x ∷ []) []) t)) e
 
 module _ (op : Op) (at : Context) (given i : ℕ) (vs : Values) (v : View) (t : List ℕ) where
-  pub change-add : (t₁ t₂ t₃ : List ℕ) (c u w : ℕ) → op ≡ Add → t₁ ≡ apply (joining at given v []) t → t₂ ≡ apply (marking (v .lines) i (pick true 1 0) []) t₁
-      → c ≡ target at v → w ≡ added (v .lines) i (v .word) → u ≡ update vs w → t₃ ≡ apply (placed i c u) t₂ → t₃ ≡ apply (changes op at given i vs v) t
+  pub change-add : (t₁ t₂ t₃ t₄ : List ℕ) (c u w : ℕ) → op ≡ Add → t₁ ≡ apply (joining at given v []) t → t₂ ≡ apply (marking (v .lines) i (pick true 1 0) []) t₁
+      → t₃ ≡ apply (spoken i vs []) t₂
+      → c ≡ target at v → w ≡ added (v .lines) i (v .word) → u ≡ update vs w → t₄ ≡ apply (placed i c u) t₃ → t₄ ≡ apply (changes op at given i vs v) t
   unfolding changes joining marking
-  change-add t₁ t₂ t₃ c u w o e m f g h k =
-      k ∙ rw (m, e, h, f, g, o) (sym (first-writes (isChoose at) _ _ _ _ t ∙ marked-first (isEphemeral (v .lines) i) (write (cell (used i)) 1) (write (cell (used i)) (pick true 1 0)) _ _ as-written))
+  change-add t₁ t₂ t₃ t₄ c u w o e m d f g h k =
+      k ∙ rw (d, m, e, h, f, g, o)
+      (sym (first-writes (isChoose at) _ _ _ _ t ∙ marked-first (isEphemeral (v .lines) i) (write (cell (used i)) 1) (write (cell (used i)) (pick true 1 0)) _ _ as-written ∙ spoken-first i vs _ _))
     where
       as-written : write (cell (used i)) 1 ≡ write (cell (used i)) (pick true 1 0)
       as-written = ap (λ (n : ℕ). write (cell (used i)) n) one-is
 
-  pub change-modify : (t₁ : List ℕ) (u : ℕ) → op ≡ Modify → u ≡ update vs (v .word) → t₁ ≡ store (write (cell (prop i)) u) t → t₁ ≡ apply (changes op at given i vs v) t
+  pub change-modify : (t₁ t₂ : List ℕ) (u : ℕ) → op ≡ Modify → t₁ ≡ apply (spoken i vs []) t → u ≡ update vs (v .word) → t₂ ≡ store (write (cell (prop i)) u) t₁
+      → t₂ ≡ apply (changes op at given i vs v) t
   unfolding changes apply
-  change-modify t₁ u o h k = k ∙ rw (o, h)
+  change-modify t₁ t₂ u o d h k = k ∙ rw (d, o, h) (sym (spoken-first i vs _ t))
 
-  pub change-subtract : (t₁ t₂ t₃ : List ℕ) (w : ℕ) → op ≡ Subtract → t₁ ≡ apply (leaving v []) t → t₂ ≡ apply (marking (v .lines) i (pick false 1 0) []) t₁
-      → w ≡ subtracted (v .lines) i (v .word) → t₃ ≡ apply (placed i 0 w) t₂ → t₃ ≡ apply (changes op at given i vs v) t
+  pub change-subtract : (t₁ t₂ t₃ t₄ : List ℕ) (w : ℕ) → op ≡ Subtract → t₁ ≡ apply (leaving v []) t → t₂ ≡ apply (marking (v .lines) i (pick false 1 0) []) t₁
+      → t₃ ≡ apply (forgetting (v .lines) i []) t₂
+      → w ≡ subtracted (v .lines) i (v .word) → t₄ ≡ apply (placed i 0 w) t₃ → t₄ ≡ apply (changes op at given i vs v) t
   unfolding changes leaving marking
-  change-subtract t₁ t₂ t₃ w o e m g k =
-      k ∙ rw (m, e, g, o) (sym (first-writes _ _ _ _ _ t ∙ marked-first (isEphemeral (v .lines) i) (write (cell (used i)) 0) (write (cell (used i)) (pick false 1 0)) _ _ as-written))
+  change-subtract t₁ t₂ t₃ t₄ w o e m d g k =
+      k ∙ rw (d, m, e, g, o)
+      (sym (first-writes _ _ _ _ _ t ∙ marked-first (isEphemeral (v .lines) i) (write (cell (used i)) 0) (write (cell (used i)) (pick false 1 0)) _ _ as-written ∙ forgetting-first (v .lines) i _ _))
     where
       as-written : write (cell (used i)) 0 ≡ write (cell (used i)) (pick false 1 0)
       as-written = ap (λ (n : ℕ). write (cell (used i)) n) zero-is
 
-  pub change-move : (t₁ t₂ t₃ : List ℕ) (c u : ℕ) → op ≡ Move → t₁ ≡ apply (leaving v []) t → t₂ ≡ apply (joining at given v []) t₁ → c ≡ target at v
-      → u ≡ update vs (v .word) → t₃ ≡ apply (placed i c u) t₂ → t₃ ≡ apply (changes op at given i vs v) t
+  pub change-move : (t₁ t₂ t₃ t₄ : List ℕ) (c u : ℕ) → op ≡ Move → t₁ ≡ apply (leaving v []) t → t₂ ≡ apply (joining at given v []) t₁ → t₃ ≡ apply (spoken i vs []) t₂
+      → c ≡ target at v → u ≡ update vs (v .word) → t₄ ≡ apply (placed i c u) t₃ → t₄ ≡ apply (changes op at given i vs v) t
   unfolding changes leaving joining
-  change-move t₁ t₂ t₃ c u o e d f h k =
-      k ∙ rw (d, e, h, f, o) (sym (first-writes _ _ _ _ _ t ∙ first-writes (isChoose at) _ _ _ _ (apply (leaving v []) t)))
+  change-move t₁ t₂ t₃ t₄ c u o e d g f h k =
+      k ∙ rw (g, d, e, h, f, o) (sym (first-writes _ _ _ _ _ t ∙ first-writes (isChoose at) _ _ _ _ (apply (leaving v []) t) ∙ spoken-first i vs _ _))
 
   pub change-audit : op ≡ AuditValue → t ≡ apply (changes op at given i vs v) t
   unfolding changes apply

@@ -4,17 +4,18 @@ use megaco::Context;
 use megaco::Given;
 use megaco::Op;
 use megaco::Seen;
+use megaco::Speech;
 use megaco::Values;
 use megaco::View;
 ghost use mathlib.Core.Path.{_≡_};
 ghost use mathlib.Core.List.{[]};
 ghost use Rattle.base.specs.Pick.{pick};
-ghost use Prim.Native.Nat.{_+_};
+ghost use Prim.Native.Nat.{_+_, _<_};
 ghost use lib.Dec.{ltb};
 ghost use Rattle.megaco.specs.Square.{joined, parted};
 ghost use Rattle.megaco.specs.Table.{most, apply};
 ghost use Rattle.megaco.specs.Items.{update};
-ghost use Rattle.megaco.specs.Attempt.{judge, target, roomChecks, checks, flowsOf, flowing, joining, leaving, placed, marking, added, subtracted, changes, settled};
+ghost use Rattle.megaco.specs.Attempt.{judge, target, speaks, onLine, roomChecks, checks, flowsOf, flowing, joining, leaving, placed, marking, added, subtracted, speaking, spoken, forgetting, changes, settled};
 ghost use Rattle.protocol.specs.Ranges.{InRange};
 ghost use Rattle.attempt.specs.Judging.{valueOr};
 
@@ -37,9 +38,28 @@ fn judge_room(at: Context, view: View) -> Checked
     Checked::Passes
 }
 
+fn speaks(s: Speech) -> bool
+    ensures { λ r. ⌜ r ≡ speaks s ⌝ }
+{
+    match s {
+        Speech::Kept => false,
+        Speech::Released => true,
+        Speech::Session(_address, _port, _payload) => true,
+    }
+}
+
+// Whether Local or Remote is given to a line.
+fn on_line(lines: u32, i: usize, values: Values) -> bool
+    ensures { λ r. ⌜ r ≡ onLine lines i values ⌝ }
+{
+    let local = values.local;
+    let remote = values.remote;
+    !table::is_ephemeral(lines, i) & (speaks(local) | speaks(remote))
+}
+
 // Tests 5 and 6.
-pub fn judge_attempt(op: Op, at: Context, view: View) -> Checked
-    ensures { λ r. ⌜ r ≡ judge (checks op at view) ⌝ }
+pub fn judge_attempt(op: Op, at: Context, i: usize, values: Values, view: View) -> Checked
+    ensures { λ r. ⌜ r ≡ judge (checks op at i values view) ⌝ }
 {
     let c = at.number();
     match op {
@@ -47,11 +67,17 @@ pub fn judge_attempt(op: Op, at: Context, view: View) -> Checked
             if view.here != 0 {
                 return Checked::Fails(433);
             }
+            if on_line(view.lines, i, values) {
+                return Checked::Fails(447);
+            }
             judge_room(at, view)
         }
         Op::Modify => {
             if view.here != c {
                 return Checked::Fails(435);
+            }
+            if on_line(view.lines, i, values) {
+                return Checked::Fails(447);
             }
             Checked::Passes
         }
@@ -70,6 +96,9 @@ pub fn judge_attempt(op: Op, at: Context, view: View) -> Checked
             }
             if view.word / 8 == OUT_OF_SERVICE {
                 return Checked::Fails(503);
+            }
+            if on_line(view.lines, i, values) {
+                return Checked::Fails(447);
             }
             judge_room(at, view)
         }
@@ -245,6 +274,43 @@ fn place(table: &mut [u32], i: usize, c: u32, word: u32)
     table::set_property(table, i, word);
 }
 
+// What is given for Local, side 0, or Remote, side 1.
+fn speak(table: &mut [u32], i: usize, side: usize, s: Speech)
+    requires { ⌜ side < 2 ⌝ }
+    ensures { λ _. ⌜ now (table .exit) ≡ apply (speaking i side s []) (now (table .entry)) ⌝ }
+{
+    match s {
+        Speech::Kept => {}
+        Speech::Released => {
+            table::set_side(table, i, side, 0, 0, 0, 0);
+        }
+        Speech::Session(address, port, payload) => {
+            table::set_side(table, i, side, 1, address, port, payload);
+        }
+    }
+}
+
+fn speak_both(table: &mut [u32], i: usize, values: Values)
+    ensures { λ _. ⌜ now (table .exit) ≡ apply (spoken i values []) (now (table .entry)) ⌝ }
+{
+    let local = values.local;
+    let remote = values.remote;
+    if speaks(local) | speaks(remote) {
+        speak(table, i, 0, local);
+        speak(table, i, 1, remote);
+    }
+}
+
+// An ephemeral that ends: where its speech went is forgotten.
+fn forget(table: &mut [u32], lines: u32, i: usize)
+    ensures { λ _. ⌜ now (table .exit) ≡ apply (forgetting lines i []) (now (table .entry)) ⌝ }
+{
+    if table::is_ephemeral(lines, i) {
+        speak(table, i, 0, Speech::Released);
+        speak(table, i, 1, Speech::Released);
+    }
+}
+
 // What an attempt that is done writes.
 pub fn change(
     table: &mut [u32],
@@ -262,6 +328,7 @@ pub fn change(
         Op::Add => {
             join(table, at, given, view);
             mark(table, view.lines, i, true);
+            speak_both(table, i, values);
             place(
                 table,
                 i,
@@ -270,16 +337,19 @@ pub fn change(
             );
         }
         Op::Modify => {
+            speak_both(table, i, values);
             table::set_property(table, i, update(values, view.word));
         }
         Op::Subtract => {
             leave(table, view);
             mark(table, view.lines, i, false);
+            forget(table, view.lines, i);
             place(table, i, 0, subtracted(view.lines, i, view.word));
         }
         Op::Move => {
             leave(table, view);
             join(table, at, given, view);
+            speak_both(table, i, values);
             place(table, i, target(at, view), update(values, view.word));
         }
         Op::AuditValue => {}

@@ -23,7 +23,7 @@ use Rattle.audits.specs.Audits.{IsAudit, Stays, Audits, OnlyAudits, Tran
 module _ (wild : Bool) (name : List ℕ) (given : ℕ) (vs : Values) where
   no-writes : (i : ℕ) (at : Context) (v : View) → effect AuditValue wild name given vs i at v .writes ≡ []
   unfolding effect concluded changes
-  no-writes i at v = by (judge (checks AuditValue at v))
+  no-writes i at v = by (judge (checks AuditValue at i vs v))
     where
       by : (x : Checked) → concluded AuditValue wild name given vs i at v x .writes ≡ []
       by Passes = refl

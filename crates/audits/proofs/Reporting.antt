@@ -46,7 +46,7 @@ module _ (wild : Bool) (name : List ℕ) (given : ℕ) (vs : Values) where
 
   effect-at : (i : ℕ) (at : Context) (t : List ℕ) → isChoose at ≡ false → effect AuditValue wild name given vs i at (look at i t) .at ≡ at
   unfolding effect
-  effect-at i at t n = by (judge (checks AuditValue at (look at i t)))
+  effect-at i at t n = by (judge (checks AuditValue at i vs (look at i t)))
     where
       by : (x : Checked) → concluded AuditValue wild name given vs i at (look at i t) x .at ≡ at
       by Passes = unfold concluded settled pick in rw n

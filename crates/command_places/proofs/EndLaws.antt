@@ -7,7 +7,7 @@ use lib.ListN.{length}
 use Rattle.megaco.specs.Reading.{unlimited}
 use Rattle.protocol.specs.Types.{Parsed, Next, Fault}
 use Rattle.read_command.specs.Production.{listEnd, listAfter}
-use Rattle.read_command.specs.Places.{itemAt, itemsAt}
+use Rattle.read_command.specs.Places.{itemAt, itemsAt, mediaItemAt, mediaAt, topItemAt, topAt}
 use Rattle.command_places.specs.Found.{nextAt}
 use Rattle.command_places.proofs.NextLaws.{part-last, part-more}
 
@@ -78,6 +78,14 @@ items-end-start s k at h = let z : k ≡ suc (k - 1) = omega arith in by k (k - 
   where
     by : (a b : ℕ) → a ≡ suc b → itemsAt a s at .end ≡ listEnd (λ j. itemAt b (itemsAt b s) s j .end) s (length s + 1 - 0) at
     by a b e = let z : length s + 1 - 0 ≡ length s + 1 = omega arith in rw (e, z)
+
+pub media-end-start : (s : List ℕ) (at : ℕ) → mediaAt s at .end ≡ listEnd (λ j. mediaItemAt s j .end) s (length s + 1 - 0) at
+unfolding mediaAt unlimited
+media-end-start s at = let z : length s + 1 - 0 ≡ length s + 1 = omega arith in rw z
+
+pub top-end-start : (s : List ℕ) (at : ℕ) → topAt s at .end ≡ listEnd (λ j. topItemAt s j .end) s (length s + 1 - 0) at
+unfolding topAt unlimited
+top-end-start s at = let z : length s + 1 - 0 ≡ length s + 1 = omega arith in rw z
 
 -- levels left fall
 pub item-falls : (left m : ℕ) → 2 * left + 1 ≡ m → 2 * left < m

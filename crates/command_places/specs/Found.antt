@@ -8,15 +8,16 @@ use lib.ListN.{length}
 use Rattle.base.specs.Pick.{pick}
 use Rattle.base.specs.Lists.{isAt, part}
 use Rattle.megaco.specs.Bytes.{comma, equal, leftBrace, rightBrace, slash, quote}
-use Rattle.megaco.specs.Tree.{Value, plain, quoted, ItemOf, item, Items, Command, command}
+use Rattle.megaco.specs.Tree.{Value, plain, quoted, octets, ItemOf, item, Item, Items, Command, command}
 use Rattle.megaco.specs.Reading.{prefixAt, prefixEnd}
 use Rattle.protocol.specs.Types.{Parsed, Next, Fault}
 use Rattle.read_command.specs.declared.Piece.{Piece}
-use Rattle.read_command.specs.Places.{orderStart, equalPlace, valueEnd, valueItemAt, headEnd, itemsAt, orderEnd, nameStart, nameEnd, commandHeadEnd}
+use Rattle.read_command.specs.Places.{orderStart, equalPlace, valueEnd, valueItemAt, headEnd, octetsStart, octetsEnd, topAt, orderEnd, nameStart, nameEnd, commandHeadEnd}
 use Rattle.read_command.specs.Pieces.{pieceOf, Holds}
 use Rattle.read_command.specs.Production.{pastWhite, pastSign, wordEnd}
 use Rattle.command_places.specs.declared.ValuePlaces.{ValuePlaces}
 use Rattle.command_places.specs.declared.ItemPlaces.{ItemPlaces}
+use Rattle.command_places.specs.declared.SpeechPlaces.{SpeechPlaces}
 use Rattle.command_places.specs.declared.Marks.{Marks}
 use Rattle.command_places.specs.declared.CommandPlaces.{CommandPlaces}
 
@@ -64,6 +65,28 @@ itemFrom inner s at r =
     item (bytesOf s (r .word)) (pick (r .second) (some (part s (wordEnd s at + 1) (wordEnd s (wordEnd s at + 1)))) none)
     (valueFrom s (equalPlace s at) (r .value)) (pick (r .braces) (some (inner (r .inside))) none)
 
+-- ---- Local and Remote in a level 1 Media
+
+pub record OfSpeech (s : List ℕ) (at : ℕ) (r : SpeechPlaces) : Type 0 where
+  pub word : Holds s at (wordEnd s at) (r .word)
+  pub text : Holds s (octetsStart s at) (octetsEnd s at) (r .text)
+  pub end : r .end ≡ pastSign rightBrace s (octetsEnd s at)
+
+-- "the part of the message that holds the text": its bytes, and where it begins in the message
+unfoldable pub textAt : List ℕ → ℕ → List ℕ
+textAt s at = part s (octetsStart s at) (octetsEnd s at)
+
+unfoldable pub textPlace : List ℕ → ℕ → ℕ
+textPlace s at = pieceOf s (octetsStart s at) (octetsEnd s at) .from
+
+pub record TextWithin (s : List ℕ) (r : SpeechPlaces) : Type 0 where
+  pub ordered : r .text .from ≤ r .text .to
+  pub inside : r .text .to ≤ length s
+
+-- as its parts tell it
+unfoldable pub speechFrom : List ℕ → SpeechPlaces → Item 7
+speechFrom s r = item (bytesOf s (r .word)) none (some (octets (bytesOf s (r .text)))) none
+
 -- ---- commands
 
 unfoldable pub marksOf : List ℕ → ℕ → Marks
@@ -80,10 +103,10 @@ pub record OfCommand (s : List ℕ) (at : ℕ) (r : CommandPlaces) : Type 0 wher
 
 -- a command as its parts tell it
 unfoldable pub itemsFrom : List ℕ → CommandPlaces → Items
-itemsFrom s r = pick (r .braces) (some (itemsAt 8 s (r .inside) .tree)) none
+itemsFrom s r = pick (r .braces) (some (topAt s (r .inside) .tree)) none
 
 unfoldable pub commandFrom : List ℕ → CommandPlaces → Command
 commandFrom s r = command (r .optional) (r .wild) (bytesOf s (r .word)) (bytesOf s (r .name)) (itemsFrom s r)
 
 unfoldable pub commandEndFrom : List ℕ → CommandPlaces → ℕ
-commandEndFrom s r = pick (r .braces) (pastSign rightBrace s (itemsAt 8 s (r .inside) .end)) (r .end)
+commandEndFrom s r = pick (r .braces) (pastSign rightBrace s (topAt s (r .inside) .end)) (r .end)

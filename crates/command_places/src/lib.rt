@@ -1,11 +1,11 @@
 // The parts of a command and of an item in a well-formed message: where each stands, found once. Nothing can fail here: where no such part
 // stands, what is found has no meaning.
 ghost use mathlib.Core.Path.{_≡_};
-ghost use Prim.Native.Nat.{_<_};
+ghost use Prim.Native.Nat.{_+_, _<_};
 ghost use Rattle.megaco.specs.Bytes.{comma, leftBrace, rightBrace};
 ghost use Rattle.read_command.specs.Production.{endOf, pastWhite, pastSign};
-ghost use Rattle.read_command.specs.Places.{secondAt, itemAt, itemsAt};
-ghost use Rattle.command_places.specs.Found.{nextAt, OfValue, OfItem, marksOf, OfCommand, commandEndFrom};
+ghost use Rattle.read_command.specs.Places.{secondAt, itemAt, itemsAt, mediaItemAt, mediaAt, topItemAt, topAt};
+ghost use Rattle.command_places.specs.Found.{nextAt, OfValue, OfItem, OfSpeech, bytesOf, TextWithin, textAt, textPlace, marksOf, OfCommand, commandEndFrom};
 use megaco::Class;
 use megaco::Parsed;
 use read_command::Piece;
@@ -25,6 +25,13 @@ pub struct ItemPlaces {
     pub value: ValuePlaces,
     pub braces: bool,
     pub inside: usize,
+}
+
+// Local or Remote with a text in its braces: its word, the text, and the place behind the closing brace.
+pub struct SpeechPlaces {
+    pub word: Piece,
+    pub text: Piece,
+    pub end: usize,
 }
 
 // Whether `O-` and `W-` stand before a command's word, and where that begins.
@@ -194,6 +201,117 @@ fn items_end(s: &[u8], left: usize, at: usize) -> usize
     i
 }
 
+// ---- Local and Remote in a level 1 Media
+
+// Local or Remote with a text.
+pub fn speech_places(s: &[u8], at: usize) -> SpeechPlaces
+    ensures { λ r. ⌜ OfSpeech (now (s .entry)) at r ⌝ }
+{
+    let w = text::row(s, at, Class::WordByte);
+    let word = read_command::piece_of(s, at, w);
+    let a = past_opening(s, past_white(s, w));
+    let e = end_of(text::octets(s, a));
+    let held = read_command::piece_of(s, a, e);
+    let end = past_closing(s, e);
+    SpeechPlaces {
+        word: word,
+        text: held,
+        end: end,
+    }
+}
+
+// The text of Local or Remote whose parts are found: the part of the message that holds it, in the message's own memory.
+pub fn text_of<'a>(s: &'a [u8], p: SpeechPlaces) -> &'a [u8]
+    requires { ⌜ TextWithin (now s) p ⌝ }
+    ensures { λ r. ⌜ now r ≡ bytesOf (now (s .entry)) (p .text) ⌝ }
+    ensures { λ r. ⌜ r .ptr ≡ (s .entry .ptr .0, p .text .from + s .entry .ptr .1) ⌝ }
+{
+    let held = p.text;
+    let a = held.from;
+    let e = held.to;
+    &s[a..e]
+}
+
+// The same of Local or Remote that begins here, for the RTP card: up to the first brace that has no backslash before it.
+pub fn speech_text<'a>(s: &'a [u8], at: usize) -> &'a [u8]
+    ensures { λ r. ⌜ now r ≡ textAt (now (s .entry)) at ⌝ }
+    ensures { λ r. ⌜ r .ptr ≡ (s .entry .ptr .0, textPlace (now (s .entry)) at + s .entry .ptr .1) ⌝ }
+{
+    let p = speech_places(s, at);
+    text_of(s, p)
+}
+
+// The end of what stands in a level 1 Media.
+pub fn media_item_end(s: &[u8], at: usize) -> usize
+    ensures { λ r. ⌜ r ≡ mediaItemAt (now (s .entry)) at .end ⌝ }
+{
+    if read_command::speech_here(s, at) {
+        let p = speech_places(s, at);
+        return p.end;
+    }
+    item_end(s, 6, at)
+}
+
+fn media_end(s: &[u8], at: usize) -> usize
+    ensures { λ r. ⌜ r ≡ mediaAt (now (s .entry)) at .end ⌝ }
+{
+    let mut i = at;
+    let mut n = 0;
+    while n <= s.len() {
+        let e = media_item_end(s, i);
+        let x = next_part(s, e);
+        let Parsed::Next(u) = x else {
+            return e;
+        };
+        i = u;
+        n += 1;
+    }
+    i
+}
+
+// The end of a level 1 Media.
+fn whole_media_end(s: &[u8], at: usize) -> usize
+    ensures { λ r. ⌜ r ≡ itemAt 7 (mediaAt (now (s .entry))) (now (s .entry)) at .end ⌝ }
+{
+    let p = item_places(s, at);
+    if p.braces {
+        let inside = p.inside;
+        if read_command::empty_here(s, 7, at, inside) {
+            return past_closing(s, inside);
+        }
+        return past_closing(s, media_end(s, inside));
+    }
+    let v = p.value;
+    v.end
+}
+
+// The end of an item of level 1.
+pub fn top_item_end(s: &[u8], at: usize) -> usize
+    ensures { λ r. ⌜ r ≡ topItemAt (now (s .entry)) at .end ⌝ }
+{
+    if read_command::media_here(s, at) {
+        return whole_media_end(s, at);
+    }
+    item_end(s, 7, at)
+}
+
+fn top_end(s: &[u8], at: usize) -> usize
+    ensures { λ r. ⌜ r ≡ topAt (now (s .entry)) at .end ⌝ }
+{
+    let mut i = at;
+    let mut n = 0;
+    while n <= s.len() {
+        let e = top_item_end(s, i);
+        let x = next_part(s, e);
+        let Parsed::Next(u) = x else {
+            return e;
+        };
+        i = u;
+        n += 1;
+    }
+    i
+}
+
 // ---- commands
 
 fn prefixes(s: &[u8], at: usize) -> Marks
@@ -239,7 +357,7 @@ pub fn command_end(s: &[u8], p: CommandPlaces) -> usize
 {
     if p.braces {
         let inside = p.inside;
-        return past_closing(s, items_end(s, 8, inside));
+        return past_closing(s, top_end(s, inside));
     }
     p.end
 }

@@ -50,7 +50,7 @@ pub fn are_fitted(lines: u32) -> bool
 pub fn words_of(lines: u32) -> usize
     ensures { λ r. ⌜ r ≡ words lines ⌝ }
 {
-    table::start_by_lines(lines, 5)
+    table::start_by_lines(lines, 6)
 }
 
 // A call with a good count of lines.

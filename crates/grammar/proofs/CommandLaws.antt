@@ -16,11 +16,11 @@ use Rattle.megaco.specs.White.{goesOn}
 use Rattle.megaco.specs.Keywords.{spells}
 use Rattle.megaco.specs.Tokens.{signAt, terminationAt}
 use Rattle.megaco.specs.Tree.{Command}
-use Rattle.megaco.specs.Reading.{got, reading, spaced, wordR, bracesR, itemsR, prefixAt, prefixEnd, isProperty, orderR, commandR}
+use Rattle.megaco.specs.Reading.{got, reading, spaced, wordR, bracesR, topR, prefixAt, prefixEnd, isProperty, orderR, commandR}
 use Rattle.protocol.specs.Types.{Token, PriorityToken, EmergencyToken, TopologyToken, WordByte}
 use Rattle.base.proofs.TestLaws.{or-neither}
 use Rattle.grammar.specs.Characters.{Keyword, noMore, andThen}
-use Rattle.grammar.specs.Grammar.{LWSP, around, EQUAL, NAME, name, TerminationID, root, named, chooseOne, allOf, ammParameters, Prefix, noPrefix, withPrefix, commandRequest, ammRequest}
+use Rattle.grammar.specs.Grammar.{LWSP, around, EQUAL, NAME, name, TerminationID, root, named, chooseOne, allOf, Commas, topParameter, Prefix, noPrefix, withPrefix, commandRequest, ammRequest}
 use Rattle.grammar.proofs.Classes.{and-no, and-parts, test-not, letter-passes, word-tests}
 use Rattle.grammar.proofs.Places.{regroup6, head, at-head, Gets, gets-here, gets-skip, gets-bind, gets-part, behind, isAt-head, whether, given, fault-got, got-same, skip-got, bind-got, reading-got}
 use Rattle.grammar.proofs.WhiteLaws.{Solid, white-sound}
@@ -29,7 +29,8 @@ use Rattle.grammar.proofs.FollowLaws.{Follow, ends, closing, follow-not
 use Rattle.grammar.proofs.WordLaws.{capital-letter, letters-name, keyword-spells, spells-keyword}
 use Rattle.grammar.proofs.NameLaws.{path-first, termination-exact, termination-sound}
 use Rattle.grammar.proofs.ListLaws.{gets-spaced, spaced-got, gets-word, word-got, Complete, Sound}
-use Rattle.grammar.proofs.ItemLaws.{name-solid, braces-led, led-ends, items-complete, braces-sound, items-sound}
+use Rattle.grammar.proofs.ItemLaws.{name-solid, braces-led, led-ends, braces-sound}
+use Rattle.grammar.proofs.SpeechLaws.{top-complete, top-sound}
 
 -- ---- `O-` and `W-`
 
@@ -141,13 +142,13 @@ module _ (s : List ℕ) where
       let m : Follow ends t₁ = white-ends j (record { first = refl }) in
       given (prefix-complete 0x4f s (b ++ (c ++ t₁)) at o (prefix-bare (c ++ t₁) i (name-bare 0x4f t₁ n m)) q) (λ q₁.
       given (prefix-complete 0x57 s (c ++ t₁) (prefixEnd 0x4f s at) i (name-bare 0x57 t₁ n m) (q₁ .1)) (λ q₂.
-      given (braces-led s (items-complete s 8) z g y) (λ l. rw (q₁ .0, q₂ .0) (
+      given (braces-led s (top-complete s) z g y) (λ l. rw (q₁ .0, q₂ .0) (
       gets-bind s c _ _ (gets-spaced s {w = u} _ (order-gets t₁ _ n (no-property c np ne nt) m (q₂ .1)) j refl) (λ p r.
       gets-skip s (signAt equal s p) _ (sign-complete s p equal t₂ k (termination-solid t₃ t) r) (λ p r.
       gets-bind s e _ _ (gets-spaced s {w = l .white} _
       (rw (← l .split) (gets-part s e t₃ p (terminationAt s p) (λ x. x) r (termination-exact s t₃ p t (ends-name (led-ends s refl l)) r)))
       (l .isWhite) (signs-solid (follow-in signs refl (l .sign)))) (λ p r.
-      gets-bind s is (bracesR (itemsR 8 s) s p) _ (l .reads p r) (λ p r. gets-here s _ p rest r))))))))
+      gets-bind s is (bracesR (topR s) s p) _ (l .reads p r) (λ p r. gets-here s _ p rest r))))))))
 
   prefix-solid : {letter : ℕ} {a : List ℕ} {x : Bool} (t : List ℕ) → isLetter letter ≡ true → Prefix letter a x → Solid t → Solid (a ++ t)
   prefix-solid t l noPrefix k = k
@@ -181,14 +182,14 @@ module _ (s : List ℕ) where
   command-sound = record {
     finds = λ x at e h.
         bind-got x e _ _ h (λ c p m l. skip-got x e (signAt equal s p) _ l
-        (λ q n l. bind-got x e _ _ l (λ t r k l. bind-got x e (bracesR (itemsR 8 s) s r) _ l (λ is f g l.
+        (λ q n l. bind-got x e _ _ l (λ t r k l. bind-got x e (bracesR (topR s) s r) _ l (λ is f g l.
         given (got-same x e l) (λ z.
         given (prefix-sound 0x4f s at) (λ y₁.
         given (prefix-sound 0x57 s (prefixEnd 0x4f s at)) (λ y₂.
         given (order-spaced c _ p m) (λ y₃.
         given (sign-sound s p equal q (omega arith) n) (λ y₄.
         given (termination-spaced t q r k) (λ y₅.
-        given (braces-sound s (ammParameters 8) (itemsR 8 s) (items-sound s 8) is r e (y₅ .2) (g ∙ ap (got is) (z .1))) (λ y₆. record {
+        given (braces-sound s (Commas topParameter) (topR s) (top-sound s) is r e (y₅ .2) (g ∙ ap (got is) (z .1))) (λ y₆. record {
           bytes = y₁ .0 ++ y₂ .0 ++ c ++ (y₃ .0 ++ y₄ .bytes) ++ t ++ y₆ .bytes;
           white = y₆ .white;
           derives =

@@ -171,12 +171,12 @@ module _ (s : List ℕ) where
   second-stops (itemID n) l = refl
 
   -- an item begins with a word
-  item-first : {A : Type 0} {left : ℕ} {X : List ℕ → List A → Type 0} {a : List ℕ} {x : ItemOf A} (t : List ℕ) → ammParameter left X a x
+  pub item-first : {A : Type 0} {left : ℕ} {X : List ℕ → List A → Type 0} {a : List ℕ} {x : ItemOf A} (t : List ℕ) → ammParameter left X a x
       → isLetter (head (a ++ t)) ≡ true
   item-first t (parameter {a} {b} {c} {d} n i p z) = rw (regroup4 a b c d t) (name-letter (b ++ (c ++ (d ++ t))) n)
   item-first t (audit l (emptyAudit {a} {b} {c} {d} k v o p)) = rw (regroup4 a b c d t) (name-letter (b ++ (c ++ (d ++ t))) (audit-name k))
 
-  items-filled : (k : ℕ) → Filled (ammParameters (suc k))
+  pub items-filled : (k : ℕ) → Filled (ammParameters (suc k))
   unfolding isLetter
   items-filled k = record { first = λ a t xs y. test-not isLetter (head (a ++ t)) rightBrace refl (go t y) }
     where

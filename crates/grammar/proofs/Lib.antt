@@ -8,6 +8,7 @@ pub mod NameLaws
 pub mod MidLaws
 pub mod ListLaws
 pub mod ItemLaws
+pub mod SpeechLaws
 pub mod CommandLaws
 pub mod TopologyLaws
 pub mod PropertyLaws

@@ -16,9 +16,9 @@ use Rattle.megaco.specs.Tokens.{markAt, numberAt}
 use Rattle.megaco.specs.Tree.{Action, Transaction, transaction, Message, wellFormed, fault400, fault403}
 use Rattle.megaco.specs.Reading.{Read, got, fault, keyAt, actionsR, elsewhere, numbered, inside, followed, endOr, bracesThen, transactionsR}
 use Rattle.protocol.specs.Types.{TransToken, Parsed, Next, Fault, Number, Got, Bad}
-use Rattle.grammar.specs.Characters.{Keyword}
+use Rattle.grammar.specs.Characters.{Keyword, Without, ended, begun}
 use Rattle.grammar.specs.Grammar.{LWSP, around, EQUAL, TransactionID, identifier, transactionRequest, withActions, transactionList, lastRequest, nextRequest}
-use Rattle.grammar.specs.Faults.{Without, ended, begun, Whole, noneWhole, oneMore, Closed, closed, BadTransaction, unclosed, zeroIdentifier}
+use Rattle.grammar.specs.Faults.{Whole, noneWhole, oneMore, Closed, closed, BadTransaction, unclosed, zeroIdentifier}
 use Rattle.grammar.proofs.Classes.{digit-has}
 use Rattle.grammar.proofs.Places.{regroup4, regroup-request, Stands, given, fault-got, after-next}
 use Rattle.grammar.proofs.WhiteLaws.{Solid, white-sound}

@@ -4,7 +4,7 @@ use mathlib.Core.Bool.{true, false}
 use mathlib.Core.List.{[], _∷_}
 use mathlib.Core.Option.{none, some}
 use Rattle.base.specs.Bytes.{text}
-use Rattle.megaco.specs.Tree.{plain, quoted, item, command, action, transaction, triple, priority, emergency, topology}
+use Rattle.megaco.specs.Tree.{plain, quoted, octets, item, command, action, transaction, triple, priority, emergency, topology}
 use Rattle.protocol.specs.Types.{Null, Numbered, Choose, Oneway, Bothway}
 use Rattle.megaco.proofs.Opened.{opened}
 use Rattle.grammar.specs.Grammar.{megacoMessage}
@@ -41,6 +41,30 @@ inner-audit = fault-403 _ 1 .0 refl
 empty-media : Fault403 (text "!/1 [10.0.0.1] T=1{C=-{MF=L/1/1{M{}}}}") 1
 unfolding opened
 empty-media = fault-403 _ 1 .0 refl
+
+-- Local and Remote with their texts: white space before a text is the brace's; a brace behind a backslash and an opening brace are the text's
+speech-line : megacoMessage (text "!/1 [10.0.0.1] T=1{C=1{MF=R/1{M{L{ \r\ns={\\}\n} , Remote ;r\n{},O{x{L{y}}}}}}}") 1
+    (transaction 1 (action (Numbered 1) [] (command false false (text "MF") (text "R/1") (some (
+    item (text "M") none none (some (
+    item (text "L") none (some (octets (text "s={\\}\n"))) none
+    ∷ item (text "Remote") none (some (octets [])) none
+    ∷ item (text "O") none none (some (item (text "x") none none (some (item (text "L") none none (some (item (text "y") none none none ∷ [])) ∷ [])) ∷ []))
+    ∷ [])) ∷ [])) ∷ []) ∷ []) ∷ [])
+unfolding opened
+speech-line = read-derives _ _ refl
+
+-- the brace behind the backslash does not end the text, so one is missing; empty braces behind a value, and outside Media
+open-text : Fault403 (text "!/1 [10.0.0.1] T=1{C=1{MF=R/1{M{L{v=0\\}}}}}") 1
+unfolding opened
+open-text = fault-403 _ 1 .0 refl
+
+valued-text : Fault403 (text "!/1 [10.0.0.1] T=1{C=1{MF=R/1{M{L=1{}}}}}") 1
+unfolding opened
+valued-text = fault-403 _ 1 .0 refl
+
+outer-text : Fault403 (text "!/1 [10.0.0.1] T=1{C=1{MF=R/1{L{}}}}") 1
+unfolding opened
+outer-text = fault-403 _ 1 .0 refl
 
 -- two triples in one topology, a property before it and a command behind it
 topology-line : megacoMessage (text "!/1 [10.0.0.1] T=1{C=2{PR=1,TP { L/1/1 , * , oneway, r/3,$,BW },S=*}}") 1

@@ -15,7 +15,7 @@ use Rattle.megaco.specs.Bytes.{isLetter, inClass, capital, capitals}
 use Rattle.megaco.specs.White.{after}
 use Rattle.megaco.specs.Keywords.{Forms, forms, formsOf, spelt, spells}
 use Rattle.megaco.specs.Tokens.{letterAt, rowAt, wordAt, keywordAt}
-use Rattle.protocol.specs.Types.{Token, AuditToken, TransToken, CtxToken, PriorityToken, EmergencyToken, TopologyToken, IsolateToken, OnewayToken, BothwayToken, Class, WordByte, Next}
+use Rattle.protocol.specs.Types.{Token, AuditToken, TransToken, CtxToken, PriorityToken, EmergencyToken, TopologyToken, IsolateToken, OnewayToken, BothwayToken, LocalToken, RemoteToken, Class, WordByte, Next}
 use Rattle.base.proofs.TestLaws.{same-is, pick-both}
 use Rattle.grammar.specs.Characters.{Spelling, long, short, Keyword, ALPHA, lower, AlphaDigitOr, orAlpha, Many, noMore, andThen}
 use Rattle.grammar.specs.Grammar.{NAME, name}
@@ -210,3 +210,11 @@ oneway-name x = spelling-name x refl
 pub bothway-name : {a : List ℕ} → Keyword BothwayToken a → NAME a
 unfolding formsOf every pick isLetter
 bothway-name x = spelling-name x refl
+
+pub local-name : {a : List ℕ} → Keyword LocalToken a → NAME a
+unfolding formsOf every pick isLetter
+local-name x = spelling-name x refl
+
+pub remote-name : {a : List ℕ} → Keyword RemoteToken a → NAME a
+unfolding formsOf every pick isLetter
+remote-name x = spelling-name x refl

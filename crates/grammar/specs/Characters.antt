@@ -1,7 +1,7 @@
 -- Characters and keywords of the grammar (Annex B.2 of RFC 3525), each as Annex B writes it.
 use Prim.Native.Nat.{ℕ, _≤_}
 use mathlib.Core.Path.{_≡_}
-use mathlib.Core.Bool.{true}
+use mathlib.Core.Bool.{true, false}
 use mathlib.Core.List.{List, [], _∷_}
 use Rattle.base.specs.Lists.{has}
 use Rattle.base.specs.Bytes.{text}
@@ -64,3 +64,8 @@ pub data CommentChar : ℕ → Type 0 where
 pub data Many (X : ℕ → Type 0) : List ℕ → Type 0 where
   noMore : Many X []
   andThen : {b : ℕ} {bs : List ℕ} → X b → Many X bs → Many X (b ∷ bs)
+
+-- a text that begins with none of these bytes
+pub data Without (bytes : List ℕ) : List ℕ → Type 0 where
+  ended : Without bytes []
+  begun : {b : ℕ} {a : List ℕ} → has b bytes ≡ false → Without bytes (b ∷ a)

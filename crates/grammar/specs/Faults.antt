@@ -1,20 +1,13 @@
 -- What the grammar says of a message that it does not admit with version 1 (document 01, 'The text'): 406, 403 with its identifier; all else is 400.
 use Prim.Native.Nat.{ℕ, zero, suc, _≤_}
 use mathlib.Core.Path.{_≡_}
-use mathlib.Core.Bool.{false}
 use mathlib.Core.List.{List, [], _∷_, _++_}
-use Rattle.base.specs.Lists.{has}
 use Rattle.base.specs.Bytes.{text}
 use Rattle.megaco.specs.Bytes.{leftBrace, rightBrace}
 use Rattle.megaco.specs.Tree.{Action, Transaction}
 use Rattle.protocol.specs.Types.{TransToken}
-use Rattle.grammar.specs.Characters.{Keyword}
+use Rattle.grammar.specs.Characters.{Keyword, Without}
 use Rattle.grammar.specs.Grammar.{LWSP, EQUAL, Commas, AtMost, UINT32, actionRequest, TransactionID, transactionRequest, Header}
-
--- a text that begins with none of these bytes
-pub data Without (bytes : List ℕ) : List ℕ → Type 0 where
-  ended : Without bytes []
-  begun : {b : ℕ} {a : List ℕ} → has b bytes ≡ false → Without bytes (b ∷ a)
 
 -- "A header (through all the white space after the mId) that reads well with a version other than 1: ER=406{}, whatever follows"
 pub data Fault406 : List ℕ → Type 0 where

@@ -3,17 +3,18 @@
 -- A rule is a relation over the bytes that it derives, under Annex B's name and with a constructor for each alternative. A rule that leaves
 -- something in the tree has that beside the bytes. ABNF's `X Y` is `x ++ y`, `*X` is `Many X`, `X *(COMMA X)` is `Commas X`. Annex B's words
 -- stand before each rule in ABNF, document 01's between quotes. A rule stands behind those that it uses: Annex B from its end to its start.
-use Prim.Native.Nat.{ℕ, zero, suc, _+_, _*_, _-_, _≤_}
+use Prim.Native.Nat.{ℕ, zero, suc, _+_, _*_, _-_, _<_, _≤_}
 use mathlib.Core.Path.{_≡_}
 use mathlib.Core.Bool.{Bool, true, false}
 use mathlib.Core.List.{List, [], _∷_, _++_}
 use mathlib.Core.Option.{Option, none, some}
 use lib.ListN.{length}
+use lib.Dec.{eqb}
 use Rattle.base.specs.Bytes.{text}
 use Rattle.megaco.specs.Bytes.{equal, comma, leftBrace, rightBrace, slash, colon, dot, quote, semicolon, dash, dollar, star, capital, capitals}
-use Rattle.grammar.specs.Characters.{Keyword, ALPHA, DIGIT, AlphaDigitOr, SafeChar, WSP, QuotedChar, CommentChar, Many}
-use Rattle.megaco.specs.Tree.{Value, plain, quoted, ItemOf, item, Item, Items, Command, command, Action, action, Transaction, transaction, Triple, triple, Property, priority, emergency, topology}
-use Rattle.protocol.specs.Types.{AuditToken, MegacopToken, TransToken, CtxToken, PriorityToken, EmergencyToken, TopologyToken, IsolateToken, OnewayToken, BothwayToken, Context, Null, Numbered, Choose, All, Direction, Isolate, Oneway, Bothway}
+use Rattle.grammar.specs.Characters.{Keyword, ALPHA, DIGIT, AlphaDigitOr, SafeChar, WSP, QuotedChar, CommentChar, Many, Without}
+use Rattle.megaco.specs.Tree.{Value, plain, quoted, octets, ItemOf, item, Item, Items, Command, command, Action, action, Transaction, transaction, Triple, triple, Property, priority, emergency, topology}
+use Rattle.protocol.specs.Types.{Token, AuditToken, MediaToken, LocalToken, RemoteToken, MegacopToken, TransToken, CtxToken, PriorityToken, EmergencyToken, TopologyToken, IsolateToken, OnewayToken, BothwayToken, Context, Null, Numbered, Choose, All, Direction, Isolate, Oneway, Bothway}
 
 -- ---- white space
 
@@ -175,6 +176,38 @@ abbrev pub ammParameters : (k : ℕ) → List ℕ → List (Item k) → Type 0
 ammParameters zero a is = ⊥
 ammParameters (suc k) a is = Commas (ammParameter k (ammParameters k)) a is
 
+-- octetString = *(nonEscapeChar), nonEscapeChar = ( "\}" / %x01-7C / %x7E-FF ): "up to the first `}` that has no backslash before it, byte 0 being a
+-- fault", so that no backslash stands at its end. `escaped`: a backslash stands before
+pub data octetString : Bool → List ℕ → Type 0 where
+  noOctet : octetString false []
+  octet : {escaped : Bool} {b : ℕ} {bs : List ℕ} → 0 < b → (b ≡ rightBrace → escaped ≡ true) → octetString (eqb b 0x5c) bs → octetString escaped (b ∷ bs)
+
+-- localDescriptor = LocalToken LBRKT octetString RBRKT, remoteDescriptor = RemoteToken LBRKT octetString RBRKT: "text runs from after its white space", so
+-- that white space before it is the brace's, and white space at its end its own
+pub data textDescriptor (k : Token) : List ℕ → List ℕ → List ℕ → Type 0 where
+  withText : {a b c d : List ℕ} → Keyword k a → LBRKT b → octetString false c → Without (text " \t\r\n;") c → LWSP d
+      → textDescriptor k (a ++ b ++ c ++ rightBrace ∷ d) a c
+
+-- Local or Remote, where a brace comes next after the word
+pub data HoldsText {A : Type 0} : ItemOf A → Type 0 where
+  asLocal : {w : List ℕ} {is : List A} → Keyword LocalToken w → HoldsText (item w none none (some is))
+  asRemote : {w : List ℕ} {is : List A} → Keyword RemoteToken w → HoldsText (item w none none (some is))
+
+-- mediaParm, in a Media of level 1
+pub data mediaParm : List ℕ → Item 7 → Type 0 where
+  localDescriptor : {a w t : List ℕ} → textDescriptor LocalToken a w t → mediaParm a (item w none (some (octets t)) none)
+  remoteDescriptor : {a w t : List ℕ} → textDescriptor RemoteToken a w t → mediaParm a (item w none (some (octets t)) none)
+  otherParm : {a : List ℕ} {x : Item 7} → ammParameter 6 (ammParameters 6) a x → ¬ HoldsText x → mediaParm a x
+
+-- called Media
+pub data CalledMedia {A : Type 0} : ItemOf A → Type 0 where
+  asMedia : {w : List ℕ} {v : Option Value} {is : Option (List A)} → Keyword MediaToken w → CalledMedia (item w none v is)
+
+-- ammParameter at level 1: "Accept Local/L and Remote/R in a level 1 Media"
+pub data topParameter : List ℕ → Item 8 → Type 0 where
+  mediaDescriptor : {a : List ℕ} {x : Item 8} → ammParameter 7 (Commas mediaParm) a x → CalledMedia x → topParameter a x
+  otherParameter : {a : List ℕ} {x : Item 8} → ammParameter 7 (ammParameters 7) a x → ¬ CalledMedia x → topParameter a x
+
 -- ["O-"], ["W-"]: "`O-`, `W-` .. ignore letter case"
 pub data Prefix (letter : ℕ) : List ℕ → Bool → Type 0 where
   noPrefix : Prefix letter [] false
@@ -184,7 +217,7 @@ pub data Prefix (letter : ℕ) : List ℕ → Bool → Type 0 where
 -- any word, but "PR .. EG; these words are never commands", nor is TP
 pub data commandRequest : List ℕ → Command → Type 0 where
   ammRequest : {a b c d e f : List ℕ} {optional wild : Bool} {is : Items} → Prefix 0x4f a optional → Prefix 0x57 b wild
-      → NAME c → ¬ Keyword PriorityToken c → ¬ Keyword EmergencyToken c → ¬ Keyword TopologyToken c → EQUAL d → TerminationID e → Braces (ammParameters 8) f is
+      → NAME c → ¬ Keyword PriorityToken c → ¬ Keyword EmergencyToken c → ¬ Keyword TopologyToken c → EQUAL d → TerminationID e → Braces (Commas topParameter) f is
       → commandRequest (a ++ b ++ c ++ d ++ e ++ f) (command optional wild c e is)
 
 -- "At most 64 commands an action"

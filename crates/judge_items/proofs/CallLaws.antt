@@ -8,16 +8,16 @@ use native.Mathlib.Omega.{arith}
 use Rattle.base.specs.Pick.{pick}
 use Rattle.megaco.specs.Bytes.{rightBrace}
 use Rattle.megaco.specs.Tree.{plain, ItemOf}
-use Rattle.megaco.specs.Items.{modeGiven, stateGiven, propertyToken, valueGiven, setValue, propertyItems, itemsIn, topItems, auditItems, auditGiven, unchanged, mediaGiven, noItems, judgeItems}
-use Rattle.protocol.specs.Types.{Token, Given, Keep, To, Judged, Wrong, Right, Checked, Passes, Fails, Op, Add, Modify, Subtract, Move, AuditValue, Kind, InControl, InState, Values}
+use Rattle.megaco.specs.Items.{modeGiven, stateGiven, propertyToken, valueGiven, setValue, propertyItems, itemsIn, setSpeech, speechGiven, topItems, auditItems, auditGiven, unchanged, mediaGiven, noItems, judgeItems}
+use Rattle.protocol.specs.Types.{Token, Given, Keep, To, Judged, Wrong, Right, Checked, Passes, Fails, Op, Add, Modify, Subtract, Move, AuditValue, Kind, InControl, InState, Side, OfLocal, OfRemote, Speech, Released, Session, SdpText, EmptyText, Described, NotInSubset, Values}
 use Rattle.read_command.specs.Production.{pastSign}
-use Rattle.read_command.specs.Places.{itemsAt}
+use Rattle.read_command.specs.Places.{topAt}
 use Rattle.command_places.specs.declared.ItemPlaces.{ItemPlaces}
 use Rattle.command_places.specs.declared.CommandPlaces.{CommandPlaces}
 use Rattle.command_places.specs.Found.{itemsFrom, commandEndFrom}
 use Rattle.judge_items.specs.declared.JudgedItems.{JudgedItems}
 use Rattle.judge_items.proofs.ListLaws.{audit-given}
-use Rattle.judge_items.specs.Judging.{calledBy, valueBy, itemChecked, judgedBy, kindOf, Known, closedBy}
+use Rattle.judge_items.specs.Judging.{calledBy, valueBy, itemChecked, judgedBy, kindOf, sideOf, Known, closedBy}
 
 -- ---- values
 
@@ -35,13 +35,41 @@ module _ (k : Kind) (g : Given) (vs : Values) where
   unfolding setValue
   set-none e = rw e
 
-  pub set-mode : (x : ℕ) → g ≡ To x → k ≡ InControl → Right (record { mode = g; state = vs .state; audited = vs .audited }) ≡ setValue k g vs
+  pub set-mode : (x : ℕ) → g ≡ To x → k ≡ InControl → Right (record { mode = g; state = vs .state; audited = vs .audited; local = vs .local; remote = vs .remote }) ≡ setValue k g vs
   unfolding setValue
   set-mode x e h = rw (e, h)
 
-  pub set-state : (x : ℕ) → g ≡ To x → k ≡ InState → Right (record { mode = vs .mode; state = g; audited = vs .audited }) ≡ setValue k g vs
+  pub set-state : (x : ℕ) → g ≡ To x → k ≡ InState → Right (record { mode = vs .mode; state = g; audited = vs .audited; local = vs .local; remote = vs .remote }) ≡ setValue k g vs
   unfolding setValue
   set-state x e h = rw (e, h)
+
+-- ---- Local and Remote
+
+module _ (d : Side) (x : Speech) (vs : Values) where
+  pub set-local : d ≡ OfLocal → record { mode = vs .mode; state = vs .state; audited = vs .audited; local = x; remote = vs .remote } ≡ setSpeech d x vs
+  unfolding setSpeech
+  set-local e = rw e
+
+  pub set-remote : d ≡ OfRemote → record { mode = vs .mode; state = vs .state; audited = vs .audited; local = vs .local; remote = x } ≡ setSpeech d x vs
+  unfolding setSpeech
+  set-remote e = rw e
+
+module _ (d : Side) (x : SdpText) (vs us : Values) where
+  pub speech-none : x ≡ EmptyText → us ≡ setSpeech d Released vs → Right us ≡ speechGiven d x vs
+  unfolding speechGiven
+  speech-none e h = rw (e, h)
+
+  pub speech-some : (a p k : ℕ) → x ≡ Described a p k → us ≡ setSpeech d (Session a p k) vs → Right us ≡ speechGiven d x vs
+  unfolding speechGiven
+  speech-some a p k e h = rw (e, h)
+
+pub speech-wrong : (d : Side) (x : SdpText) (vs : Values) → x ≡ NotInSubset → Wrong 449 ≡ speechGiven d x vs
+unfolding speechGiven
+speech-wrong d x vs e = rw e
+
+-- what the side and the text are told by
+pub speech-by : (d : Side) (x y : SdpText) (vs : Values) (l : Bool) (r : Judged) → d ≡ sideOf l → x ≡ y → r ≡ speechGiven d x vs → r ≡ speechGiven (sideOf l) y vs
+speech-by d x y vs l r e f h = rw (← e, ← f) h
 
 -- ---- what calls tell
 
@@ -53,6 +81,9 @@ module _ (c : Checked) (code : ℕ) (b r g : Bool) (e : c ≡ itemChecked code b
   pub judged-wrong : (k : ℕ) → c ≡ Fails k → Wrong k ≡ judgedBy (itemChecked code b r g) y
   unfolding judgedBy
   judged-wrong k z = rw (← e, z)
+
+pub code-both : (c : Checked) (code : ℕ) (b x r y g : Bool) → x ≡ b → y ≡ r → c ≡ itemChecked code x y g → c ≡ itemChecked code b r g
+code-both c code b x r y g e f h = rw (← e, ← f) h
 
 pub code-by : (c : Checked) (code : ℕ) (b x r g : Bool) → x ≡ b → c ≡ itemChecked code x r g → c ≡ itemChecked code b r g
 code-by c code b x r g e h = rw (← e) h
@@ -92,7 +123,7 @@ module _ (s : List ℕ) (x y : JudgedItems) (h : y ≡ closedBy s x) where
 -- ---- a command's items
 
 module _ (s : List ℕ) (p : CommandPlaces) where
-  pub media-all : (vs : Values) (r : Judged) → p .braces ≡ true → vs ≡ unchanged → r ≡ topItems (itemsAt 8 s (p .inside) .tree) false vs → r ≡ mediaGiven (itemsFrom s p)
+  pub media-all : (vs : Values) (r : Judged) → p .braces ≡ true → vs ≡ unchanged → r ≡ topItems (topAt s (p .inside) .tree) false vs → r ≡ mediaGiven (itemsFrom s p)
   unfolding mediaGiven itemsFrom pick
   media-all vs r b u e = rw b (e ∙ rw u)
 
@@ -112,9 +143,9 @@ module _ (s : List ℕ) (p : CommandPlaces) where
   unfolding auditGiven itemsIn itemsFrom pick
   audit-none b = rw b
 
-  pub audit-all : (vs : Values) (r : Judged) → p .braces ≡ true → vs ≡ unchanged → r ≡ auditItems (itemsAt 8 s (p .inside) .tree) false vs → r ≡ auditGiven (itemsIn (itemsFrom s p))
+  pub audit-all : (vs : Values) (r : Judged) → p .braces ≡ true → vs ≡ unchanged → r ≡ auditItems (topAt s (p .inside) .tree) false vs → r ≡ auditGiven (itemsIn (itemsFrom s p))
   unfolding itemsIn itemsFrom pick
-  audit-all vs r b u e = rw b (e ∙ ap (λ (us : Values). auditItems (itemsAt 8 s (p .inside) .tree) false us) u ∙ sym (audit-given s (p .inside)))
+  audit-all vs r b u e = rw b (e ∙ ap (λ (us : Values). auditItems (topAt s (p .inside) .tree) false us) u ∙ sym (audit-given s (p .inside)))
 
   module _ (op : Op) (r : Judged) where
     pub of-add : op ≡ Add → r ≡ mediaGiven (itemsFrom s p) → r ≡ judgeItems op (itemsFrom s p)
@@ -137,7 +168,7 @@ module _ (s : List ℕ) (p : CommandPlaces) where
     unfolding judgeItems
     of-audit e h = rw e h
 
-  pub judge-known : (y : JudgedItems) → p .braces ≡ true → Known (pastSign rightBrace s (itemsAt 8 s (p .inside) .end)) y → Known (commandEndFrom s p) y
+  pub judge-known : (y : JudgedItems) → p .braces ≡ true → Known (pastSign rightBrace s (topAt s (p .inside) .end)) y → Known (commandEndFrom s p) y
   unfolding commandEndFrom pick
   judge-known y b k = rw b k
 

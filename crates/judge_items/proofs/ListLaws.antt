@@ -1,7 +1,7 @@
 -- Items in reading order: the items of a list judged one after another, from the place that was reached.
 use Prim.Native.Nat.{ℕ, suc, _+_, _-_, _<_, _≤_}
 use mathlib.Core.Path.{_≡_, refl, sym, ap, _∙_}
-use mathlib.Core.Bool.{Bool, true, false, not, _||_}
+use mathlib.Core.Bool.{Bool, true, false, not}
 use mathlib.Core.List.{List, [], _∷_}
 use native.Mathlib.Omega.{arith}
 use lib.ListN.{length}
@@ -10,15 +10,13 @@ use Rattle.base.specs.Lists.{isAt}
 use Rattle.megaco.specs.Bytes.{comma}
 use Rattle.megaco.specs.Tree.{ItemOf, item, Item}
 use Rattle.megaco.specs.Reading.{unlimited}
-use Rattle.megaco.specs.Items.{onward, called, descriptorShape, propertyShape, propertyToken, valueGiven, setValue, propertyItems, itemsIn, mediaItems, topItems, auditing, bareShape, auditedItems, auditItems, auditGiven, unchanged}
-use Rattle.protocol.specs.Types.{Parsed, Next, Fault, AuditToken, MediaToken, LocalControlToken, Judged, Wrong, Right, Kind, Values}
+use Rattle.megaco.specs.Items.{onward, called, descriptorShape, propertyShape, propertyToken, valueGiven, setValue, propertyItems, itemsIn, calledIn, both, either, noDescriptors, descriptorItem, mediaItems, topItems, auditing, bareShape, auditedItems, auditItems, auditGiven, unchanged}
+use Rattle.protocol.specs.Types.{Parsed, Next, Fault, AuditToken, MediaToken, Judged, Wrong, Right, Kind, Descriptors, Values}
 use Rattle.read_command.specs.Production.{pastSign, listOf, listEnd}
-use Rattle.read_command.specs.Places.{itemAt, itemsAt}
+use Rattle.read_command.specs.Places.{itemAt, itemsAt, mediaItemAt, mediaAt, topItemAt, topAt}
 use Rattle.command_places.specs.Found.{nextAt}
 use Rattle.command_places.proofs.NextLaws.{part-last, part-more}
-use Rattle.judge_items.specs.declared.Descriptors.{Descriptors}
-use Rattle.judge_items.specs.Judging.{kindOf, stoodAfter}
-use Rattle.judge_items.proofs.OneLaws.{by-kind, mediaAll, stoodNext}
+use Rattle.judge_items.specs.Judging.{stoodNext}
 
 -- ---- a list as its items one by one: `f` judges a list, `next` tells what stood before the item after this one
 
@@ -60,17 +58,13 @@ property-turn k (item w x v is) xs seen vs = turn-by 445 (not (called (propertyT
 
 top-turn : {A : Type 0} (x : ItemOf (ItemOf (ItemOf A))) (xs : List (ItemOf (ItemOf (ItemOf A)))) (seen : Bool) (vs : Values) → topItems (x ∷ xs) seen vs ≡ onward (topItems (x ∷ []) seen vs) (λ us. topItems xs true us)
 unfolding topItems
-top-turn (item w x v is) xs seen vs = turn-by 444 (not (called MediaToken w x)) seen (descriptorShape v is) (mediaItems (itemsIn is) false false vs) _
+top-turn (item w x v is) xs seen vs = turn-by 444 (not (called MediaToken w x)) seen (descriptorShape v is) (mediaItems (itemsIn is) noDescriptors vs) _
 
-media-turn : {A : Type 0} (x : ItemOf (ItemOf A)) (xs : List (ItemOf (ItemOf A))) (stood : Descriptors) (vs : Values) → mediaAll (x ∷ xs) stood vs ≡ onward (mediaAll (x ∷ []) stood vs) (λ us. mediaAll xs (stoodNext x stood) us)
-unfolding mediaAll mediaItems stoodNext stoodAfter
+media-turn : {A : Type 0} (x : ItemOf (ItemOf A)) (xs : List (ItemOf (ItemOf A))) (stood : Descriptors) (vs : Values)
+    → mediaItems (x ∷ xs) stood vs ≡ onward (mediaItems (x ∷ []) stood vs) (λ us. mediaItems xs (stoodNext x stood) us)
+unfolding mediaItems stoodNext pick
 media-turn (item w x v is) xs stood vs =
-    let inside : Kind → Judged = λ k. propertyItems k (itemsIn is) false vs in
-    let c = called LocalControlToken w x in
-    let more : Bool → Bool → Values → Judged = λ o t us. mediaItems xs o t us in
-    let stop : Bool → Bool → Values → Judged = λ o t us. Right us in
-    rw (by-kind c (stood .control) (stood .state) inside more, by-kind c (stood .control) (stood .state) inside stop)
-    (turn-by 444 _ _ (descriptorShape v is) (inside (kindOf c)) (more (c || stood .control) (not c || stood .state)))
+    let c : Descriptors = calledIn w x in turn-by 444 (not (both c c)) (both c stood) true (descriptorItem c v is vs) (λ us. mediaItems xs (either c stood) us)
 
 audited-turn : {A : Type 0} (x : ItemOf A) (xs : List (ItemOf A)) (seen : Bool) (vs : Values) → auditedItems (x ∷ xs) seen vs ≡ onward (auditedItems (x ∷ []) seen vs) (λ us. auditedItems xs true us)
 unfolding auditedItems onward
@@ -87,6 +81,13 @@ itemsLeft one end s n i = listOf one end s (length s + 1 - n) i
 
 abbrev pub levelLeft : (k : ℕ) → List ℕ → ℕ → ℕ → List (Item (suc k))
 levelLeft k s n i = itemsLeft (λ j. itemAt k (itemsAt k s) s j .tree) (λ j. itemAt k (itemsAt k s) s j .end) s n i
+
+-- what a level 1 Media holds, and level 1
+abbrev pub mediaLeft : List ℕ → ℕ → ℕ → List (Item 7)
+mediaLeft s n i = itemsLeft (λ j. mediaItemAt s j .tree) (λ j. mediaItemAt s j .end) s n i
+
+abbrev pub topLeft : List ℕ → ℕ → ℕ → List (Item 8)
+topLeft s n i = itemsLeft (λ j. topItemAt s j .tree) (λ j. topItemAt s j .end) s n i
 
 module _ {A : Type 0} (one : ℕ → A) (end : ℕ → ℕ) (s : List ℕ) (n i : ℕ) where
   left-none : length s < n → itemsLeft one end s n i ≡ []
@@ -116,38 +117,42 @@ module _ {S : Type 0} (k : ℕ) (f : List (Item (suc k)) → S → Values → Ju
   unfolding itemsAt itemsLeft unlimited
   starts s at stood vs = let z : length s + 1 - 0 ≡ length s + 1 = omega arith in rw z (one-by-one f next none turn _ stood vs)
 
+media-left : (s : List ℕ) (at : ℕ) → mediaAt s at .tree ≡ mediaLeft s 0 at
+unfolding mediaAt itemsLeft unlimited
+media-left s at = let z : length s + 1 - 0 ≡ length s + 1 = omega arith in rw z
+
+top-left : (s : List ℕ) (at : ℕ) → topAt s at .tree ≡ topLeft s 0 at
+unfolding topAt itemsLeft unlimited
+top-left s at = let z : length s + 1 - 0 ≡ length s + 1 = omega arith in rw z
+
 module _ (s : List ℕ) (at : ℕ) (vs : Values) where
   pub property-starts : (k : Kind) → propertyItems k (itemsAt 6 s at .tree) false vs ≡ judgeAll (propertyItems k) stands (levelLeft 5 s 0 at) false vs
   unfolding propertyItems
   property-starts k = starts 5 (propertyItems k) stands (λ seen vs. refl) (property-turn k) s at false vs
 
-  pub media-starts : mediaItems (itemsAt 7 s at .tree) false false vs ≡ judgeAll mediaAll stoodNext (levelLeft 6 s 0 at) (record { control = false; state = false }) vs
-  unfolding mediaAll mediaItems
-  media-starts = starts 6 mediaAll stoodNext (λ stood vs. refl) media-turn s at (record { control = false; state = false }) vs
+  pub media-starts : mediaItems (mediaAt s at .tree) noDescriptors vs ≡ judgeAll mediaItems stoodNext (mediaLeft s 0 at) noDescriptors vs
+  unfolding mediaItems
+  media-starts = ap (λ (l : List (Item 7)). mediaItems l noDescriptors vs) (media-left s at) ∙ one-by-one mediaItems stoodNext (λ stood vs. refl) media-turn _ noDescriptors vs
 
-  pub top-starts : topItems (itemsAt 8 s at .tree) false vs ≡ judgeAll topItems stands (levelLeft 7 s 0 at) false vs
+  pub top-starts : topItems (topAt s at .tree) false vs ≡ judgeAll topItems stands (topLeft s 0 at) false vs
   unfolding topItems
-  top-starts = starts 7 topItems stands (λ seen vs. refl) top-turn s at false vs
+  top-starts = ap (λ (l : List (Item 8)). topItems l false vs) (top-left s at) ∙ one-by-one topItems stands (λ seen vs. refl) top-turn _ false vs
 
   pub audited-starts : auditedItems (itemsAt 7 s at .tree) false vs ≡ judgeAll auditedItems stands (levelLeft 6 s 0 at) false vs
   unfolding auditedItems
   audited-starts = starts 6 auditedItems stands (λ seen vs. refl) audited-turn s at false vs
 
-  pub audit-starts : auditItems (itemsAt 8 s at .tree) false vs ≡ judgeAll auditItems stands (levelLeft 7 s 0 at) false vs
+  pub audit-starts : auditItems (topAt s at .tree) false vs ≡ judgeAll auditItems stands (topLeft s 0 at) false vs
   unfolding auditItems
-  audit-starts = starts 7 auditItems stands (λ seen vs. refl) audit-turn s at false vs
+  audit-starts = ap (λ (l : List (Item 8)). auditItems l false vs) (top-left s at) ∙ one-by-one auditItems stands (λ seen vs. refl) audit-turn _ false vs
 
 -- braces hold an item at least
-items-left : (k : ℕ) (s : List ℕ) (at : ℕ) → itemsAt (suc k) s at .tree ≡ levelLeft k s 0 at
-unfolding itemsAt itemsLeft unlimited
-items-left k s at = let z : length s + 1 - 0 ≡ length s + 1 = omega arith in rw z
-
 given-some : {A : Type 0} (l : List (ItemOf (ItemOf A))) (x : ItemOf (ItemOf A)) (xs : List (ItemOf (ItemOf A))) → l ≡ x ∷ xs → auditGiven l ≡ auditItems l false unchanged
 unfolding auditGiven
 given-some l x xs e = rw e
 
-pub audit-given : (s : List ℕ) (at : ℕ) → auditGiven (itemsAt 8 s at .tree) ≡ auditItems (itemsAt 8 s at .tree) false unchanged
-audit-given s at = given-some (itemsAt 8 s at .tree) _ _ (items-left 7 s at ∙ left-some (λ j. itemAt 7 (itemsAt 7 s) s j .tree) (λ j. itemAt 7 (itemsAt 7 s) s j .end) s 0 at (omega arith))
+pub audit-given : (s : List ℕ) (at : ℕ) → auditGiven (topAt s at .tree) ≡ auditItems (topAt s at .tree) false unchanged
+audit-given s at = given-some (topAt s at .tree) _ _ (top-left s at ∙ left-some (λ j. topItemAt s j .tree) (λ j. topItemAt s j .end) s 0 at (omega arith))
 
 -- ---- a list from the place that was reached: q is the verdict on all
 

@@ -2,20 +2,21 @@
 use Prim.Native.Nat.{ℕ, _≤_}
 use mathlib.Core.Path.{_≡_}
 use mathlib.Core.Bool.{Bool, true, false, not, _&&_, _||_}
-use mathlib.Core.List.{List}
-use mathlib.Core.Option.{some}
+use mathlib.Core.List.{List, [], _∷_}
+use mathlib.Core.Option.{none, some}
 use lib.ListN.{length}
 use Rattle.base.specs.Pick.{pick}
 use Rattle.megaco.specs.Bytes.{rightBrace}
 use Rattle.megaco.specs.Keywords.{isToken, spells}
-use Rattle.megaco.specs.Tree.{plain}
-use Rattle.megaco.specs.Items.{propertyToken, valueGiven, setValue, propertyItems, mediaItems, auditing, auditedItems}
-use Rattle.protocol.specs.Types.{Token, AuditToken, MediaToken, LocalControlToken, TerminationStateToken, InactiveToken, SendonlyToken, RecvonlyToken, SendrecvToken, LoopbackToken, InSvcToken, OutOfSvcToken, TestToken, Given, Keep, To, Judged, Wrong, Right, Checked, Passes, Fails, Kind, InControl, InState, Values}
+use Rattle.megaco.specs.Tree.{plain, ItemOf, item}
+use Rattle.megaco.specs.Items.{propertyToken, valueGiven, setValue, propertyItems, speechGiven, calledIn, both, either, noDescriptors, mediaItems, auditing, auditedItems}
+use Rattle.megaco.specs.Sdp.{readSdp}
+use Rattle.protocol.specs.Types.{Token, AuditToken, MediaToken, LocalToken, RemoteToken, LocalControlToken, TerminationStateToken, InactiveToken, SendonlyToken, RecvonlyToken, SendrecvToken, LoopbackToken, InSvcToken, OutOfSvcToken, TestToken, Given, Keep, To, Judged, Wrong, Right, Checked, Passes, Fails, Kind, InControl, InState, Side, OfLocal, OfRemote, Descriptors, Values}
 use Rattle.read_command.specs.Production.{pastSign}
-use Rattle.read_command.specs.Places.{orNoneAt, itemsAt}
+use Rattle.read_command.specs.Places.{orNoneAt, itemsAt, mediaAt}
 use Rattle.command_places.specs.declared.ItemPlaces.{ItemPlaces}
 use Rattle.command_places.specs.Found.{bytesOf}
-use Rattle.judge_items.specs.declared.Descriptors.{Descriptors}
+use Rattle.judge_items.specs.declared.JudgedPart.{JudgedPart}
 use Rattle.judge_items.specs.declared.JudgedItems.{JudgedItems}
 
 -- an item's word and its plain value lie within the message
@@ -74,26 +75,47 @@ propertyShapeBy p = p .value .given && not (p .braces)
 unfoldable pub propertyBy : Kind → Bool → Values → List ℕ → ItemPlaces → Judged
 propertyBy k seen vs s p = judgedBy (itemChecked 445 (calledBy (propertyToken k) s p) seen (propertyShapeBy p)) (setValue k (valueBy k s p) vs)
 
-unfoldable pub calledIn : List ℕ → ItemPlaces → Descriptors
-calledIn s p = record { control = calledBy LocalControlToken s p; state = calledBy TerminationStateToken s p }
+-- ---- in Media
+
+-- which descriptor an item is called
+unfoldable pub calledAs : List ℕ → ItemPlaces → Descriptors
+calledAs s p = record { control = calledBy LocalControlToken s p; state = calledBy TerminationStateToken s p; local = calledBy LocalToken s p; remote = calledBy RemoteToken s p }
+
+-- by its word alone: a name with `/` is called by none
+unfoldable pub calledUnless : Bool → Descriptors → Descriptors
+calledUnless second c =
+    record { control = not second && c .control; state = not second && c .state; local = not second && c .local; remote = not second && c .remote }
 
 unfoldable pub kindOf : Bool → Kind
 kindOf control = pick control InControl InState
 
--- the descriptors that stood before the item after this one, which is one of the two
-unfoldable pub stoodAfter : Bool → Descriptors → Descriptors
-stoodAfter control stood = record { control = control || stood .control; state = not control || stood .state }
+unfoldable pub sideOf : Bool → Side
+sideOf local = pick local OfLocal OfRemote
 
-abbrev pub repeatedBy : Descriptors → Descriptors → Bool
-repeatedBy called stood = (called .control && stood .control) || (called .state && stood .state)
+-- "442 for either word with a value or without braces": an item without a text is neither
+abbrev pub mediaShapeBy : Descriptors → ItemPlaces → Bool
+mediaShapeBy c p = not (c .local) && not (c .remote) && not (p .value .given) && p .braces
 
 unfoldable pub mediaBy : Descriptors → Descriptors → Values → List ℕ → ItemPlaces → Judged
-mediaBy called stood vs s p =
-    judgedBy (itemChecked 444 (called .control || called .state) (repeatedBy called stood) (descriptorShapeBy p))
-    (propertyItems (kindOf (called .control)) (itemsAt 6 s (p .inside) .tree) false vs)
+mediaBy c stood vs s p =
+    judgedBy (itemChecked 444 (both c c) (both c stood) (mediaShapeBy c p)) (propertyItems (kindOf (c .control)) (itemsAt 6 s (p .inside) .tree) false vs)
+
+-- Local or Remote with a text
+unfoldable pub speechBy : Descriptors → Descriptors → Values → List ℕ → Judged
+speechBy c stood vs t = judgedBy (itemChecked 444 (both c c) (both c stood) (c .local || c .remote)) (speechGiven (sideOf (c .local)) (readSdp t) vs)
+
+-- the descriptors that stood before the item after this one
+unfoldable pub stoodNext : {A : Type 0} → ItemOf A → Descriptors → Descriptors
+stoodNext (item w x v is) stood = either (calledIn w x) stood
+
+-- what is promised of one item of Media, which ends at e
+pub record OfPart {A : Type 0} (x : ItemOf (ItemOf A)) (e : ℕ) (stood : Descriptors) (vs : Values) (r : JudgedPart) : Type 0 where
+  pub judged : r .judged ≡ mediaItems (x ∷ []) stood vs
+  pub end : (us : Values) → r .judged ≡ Right us → r .end ≡ e
+  pub next : r .stood ≡ stoodNext x stood
 
 unfoldable pub topBy : Bool → Values → List ℕ → ItemPlaces → Judged
-topBy seen vs s p = judgedBy (itemChecked 444 (calledBy MediaToken s p) seen (descriptorShapeBy p)) (mediaItems (itemsAt 7 s (p .inside) .tree) false false vs)
+topBy seen vs s p = judgedBy (itemChecked 444 (calledBy MediaToken s p) seen (descriptorShapeBy p)) (mediaItems (mediaAt s (p .inside) .tree) noDescriptors vs)
 
 -- in Audit Media stands bare
 abbrev pub bareShapeBy : ItemPlaces → Bool

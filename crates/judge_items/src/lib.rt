@@ -1,24 +1,30 @@
 // A command's items judged in reading order (document 01, test 3): the first code, or the values given.
 ghost use mathlib.Core.Path.{_≡_};
 ghost use mathlib.Core.Bool.{true, false};
-ghost use mathlib.Core.Option.{some};
+ghost use mathlib.Core.Option.{none, some};
 ghost use Rattle.megaco.specs.Tree.{plain};
-ghost use Rattle.megaco.specs.Items.{modeGiven, stateGiven, propertyToken, valueGiven, setValue, propertyItems, itemsIn, mediaItems, topItems, auditedItems, auditItems, auditGiven, unchanged, mediaGiven, noItems, judgeItems};
+ghost use Rattle.megaco.specs.Items.{modeGiven, stateGiven, propertyToken, valueGiven, setValue, propertyItems, itemsIn, setSpeech, speechGiven, calledIn, both, either, noDescriptors, mediaItems, topItems, auditedItems, auditItems, auditGiven, unchanged, mediaGiven, noItems, judgeItems};
 ghost use Rattle.megaco.specs.Bytes.{rightBrace};
+ghost use Rattle.megaco.specs.Reading.{wordHere, speechHere};
 ghost use Rattle.read_command.specs.Production.{pastSign};
-ghost use Rattle.read_command.specs.Places.{orNoneAt, itemsAt};
+ghost use Rattle.read_command.specs.Places.{orNoneAt, itemAt, itemsAt, speechAt, mediaItemAt, mediaAt, topAt};
 ghost use Rattle.command_places.specs.Found.{itemsFrom, commandEndFrom};
-ghost use Rattle.judge_items.specs.Judging.{InMessage, modeBy, stateBy, calledBy, itemChecked, calledIn, kindOf, stoodAfter, valueBy, propertyBy, mediaBy, topBy, auditedBy, auditBy, Known, closedBy};
+ghost use Rattle.judge_items.specs.Judging.{InMessage, modeBy, stateBy, calledBy, itemChecked, calledUnless, kindOf, sideOf, OfPart, speechBy, valueBy, propertyBy, mediaBy, topBy, auditedBy, auditBy, Known, closedBy};
 use command_places::CommandPlaces;
 use command_places::ItemPlaces;
+use command_places::SpeechPlaces;
 use command_places::ValuePlaces;
 use keywords::Meaning;
 use megaco::Checked;
+use megaco::Descriptors;
 use megaco::Given;
 use megaco::Judged;
 use megaco::Kind;
 use megaco::Op;
 use megaco::Parsed;
+use megaco::SdpText;
+use megaco::Side;
+use megaco::Speech;
 use megaco::Token;
 use megaco::Values;
 
@@ -28,10 +34,11 @@ pub struct JudgedItems {
     pub end: usize,
 }
 
-// A flag for LocalControl and one for TerminationState.
-pub struct Descriptors {
-    pub control: bool,
-    pub state: bool,
+// What an item of Media is judged, where it ends if nothing is wrong with it, and which descriptors stood before the item after it.
+pub struct JudgedPart {
+    pub judged: Judged,
+    pub end: usize,
+    pub stood: Descriptors,
 }
 
 // ---- values
@@ -108,6 +115,8 @@ fn set_value(k: Kind, g: Given, values: Values) -> Judged
 {
     let mode = values.mode;
     let state = values.state;
+    let local = values.local;
+    let remote = values.remote;
     match g {
         Given::Keep => Judged::Wrong(449),
         Given::To(_) => match k {
@@ -115,11 +124,15 @@ fn set_value(k: Kind, g: Given, values: Values) -> Judged
                 mode: g,
                 state: state,
                 audited: values.audited,
+                local: local,
+                remote: remote,
             }),
             Kind::InState => Judged::Right(Values {
                 mode: mode,
                 state: g,
                 audited: values.audited,
+                local: local,
+                remote: remote,
             }),
         },
     }
@@ -220,18 +233,114 @@ fn property_items(s: &[u8], at: usize, k: Kind, values: Values) -> JudgedItems
     }
 }
 
+// ---- Local and Remote
+
+fn side_of(local: bool) -> Side
+    ensures { λ r. ⌜ r ≡ sideOf local ⌝ }
+{
+    if local {
+        return Side::OfLocal;
+    }
+    Side::OfRemote
+}
+
+fn set_speech(side: Side, x: Speech, values: Values) -> Values
+    ensures { λ r. ⌜ r ≡ setSpeech side x values ⌝ }
+{
+    let mode = values.mode;
+    let state = values.state;
+    let local = values.local;
+    let remote = values.remote;
+    match side {
+        Side::OfLocal => Values {
+            mode: mode,
+            state: state,
+            audited: values.audited,
+            local: x,
+            remote: remote,
+        },
+        Side::OfRemote => Values {
+            mode: mode,
+            state: state,
+            audited: values.audited,
+            local: local,
+            remote: x,
+        },
+    }
+}
+
+// What a text gives.
+fn speech_given(side: Side, x: SdpText, values: Values) -> Judged
+    ensures { λ r. ⌜ r ≡ speechGiven side x values ⌝ }
+{
+    match x {
+        SdpText::EmptyText => Judged::Right(set_speech(side, Speech::Released, values)),
+        SdpText::Described {
+            address,
+            port,
+            payload,
+        } => Judged::Right(set_speech(side, Speech::Session(address, port, payload), values)),
+        SdpText::NotInSubset => Judged::Wrong(449),
+    }
+}
+
 // ---- in Media
 
-// Which descriptor an item is called.
-fn media_called(s: &[u8], p: ItemPlaces) -> Descriptors
-    requires { ⌜ InMessage (now s) p ⌝ }
-    ensures { λ r. ⌜ r ≡ calledIn (now (s .entry)) p ⌝ }
+// Which descriptor a word is.
+fn word_called(w: &[u8]) -> Descriptors
+    ensures { λ r. ⌜ r ≡ calledIn (now (w .entry)) none ⌝ }
 {
-    let control = item_called(s, p, Token::LocalControlToken);
-    let state = item_called(s, p, Token::TerminationStateToken);
+    let control = keywords::spells(Token::LocalControlToken, w);
+    let state = keywords::spells(Token::TerminationStateToken, w);
+    let local = keywords::spells(Token::LocalToken, w);
+    let remote = keywords::spells(Token::RemoteToken, w);
     Descriptors {
         control: control,
         state: state,
+        local: local,
+        remote: remote,
+    }
+}
+
+// Which descriptor an item is called by that word: a name with `/` is called by none.
+fn unless(second: bool, a: Descriptors) -> Descriptors
+    ensures { λ r. ⌜ r ≡ calledUnless second a ⌝ }
+{
+    Descriptors {
+        control: !second & a.control,
+        state: !second & a.state,
+        local: !second & a.local,
+        remote: !second & a.remote,
+    }
+}
+
+// Whether Local or Remote stands here and a brace comes next, where the word's meaning is known already.
+fn text_here(s: &[u8], at: usize, word: Descriptors) -> bool
+    requires { ⌜ word ≡ calledIn (wordHere (now s) at) none ⌝ }
+    ensures { λ r. ⌜ r ≡ speechHere (now (s .entry)) at ⌝ }
+{
+    if word.local | word.remote {
+        return read_command::speech_here(s, at);
+    }
+    false
+}
+
+// Whether both have a descriptor in common.
+fn both(a: Descriptors, b: Descriptors) -> bool
+    ensures { λ r. ⌜ r ≡ both a b ⌝ }
+{
+    a.control & b.control | a.state & b.state | a.local & b.local | a.remote & b.remote
+}
+
+// The descriptors that either has.
+fn either(a: Descriptors, b: Descriptors) -> Descriptors
+    ensures { λ r. ⌜ r ≡ either a b ⌝ }
+{
+    Descriptors {
+        control: a.control | b.control,
+        state: a.state | b.state,
+        local: a.local | b.local,
+        remote: a.remote | b.remote,
     }
 }
 
@@ -244,16 +353,7 @@ fn kind_of(control: bool) -> Kind
     Kind::InState
 }
 
-// The descriptors that stood before the item after this one, which is one of the two.
-fn stood_after(stood: Descriptors, called: Descriptors) -> Descriptors
-    ensures { λ r. ⌜ r ≡ stoodAfter (called .control) stood ⌝ }
-{
-    Descriptors {
-        control: called.control | stood.control,
-        state: !called.control | stood.state,
-    }
-}
-
+// An item without a text.
 fn media_item(
     s: &[u8],
     p: ItemPlaces,
@@ -264,9 +364,8 @@ fn media_item(
     ensures { λ r. ⌜ (r .judged ≡ mediaBy called stood values (now (s .entry)) p) × Known (pastSign rightBrace (now (s .entry)) (itemsAt 6 (now (s .entry)) (p .inside) .end)) r ⌝ }
 {
     let v = p.value;
-    let known = called.control | called.state;
-    let repeated = called.control & stood.control | called.state & stood.state;
-    let checked = check_item(444, known, repeated, !v.given & p.braces);
+    let shaped = !called.local & !called.remote & !v.given & p.braces;
+    let checked = check_item(444, both(called, called), both(called, stood), shaped);
     match checked {
         Checked::Passes => {
             let inside = p.inside;
@@ -280,21 +379,71 @@ fn media_item(
     }
 }
 
+// Local or Remote with a text.
+fn speech_item(text: &[u8], called: Descriptors, stood: Descriptors, values: Values) -> Judged
+    ensures { λ r. ⌜ r ≡ speechBy called stood values (now (text .entry)) ⌝ }
+{
+    let shaped = called.local | called.remote;
+    let checked = check_item(444, both(called, called), both(called, stood), shaped);
+    match checked {
+        Checked::Passes => speech_given(side_of(called.local), sdp::read(text), values),
+        Checked::Fails(code) => Judged::Wrong(code),
+    }
+}
+
+fn judge_speech(s: &[u8], at: usize, stood: Descriptors, values: Values) -> JudgedPart
+    ensures { λ r. ⌜ OfPart (speechAt (now (s .entry)) at .tree) (speechAt (now (s .entry)) at .end) stood values r ⌝ }
+{
+    let p = command_places::speech_places(s, at);
+    let word = p.word;
+    let a = word.from;
+    let b = word.to;
+    let called = word_called(&s[a..b]);
+    let held = command_places::text_of(s, p);
+    let j = speech_item(held, called, stood, values);
+    JudgedPart {
+        judged: j,
+        end: p.end,
+        stood: either(called, stood),
+    }
+}
+
+fn judge_part(s: &[u8], at: usize, stood: Descriptors, values: Values) -> JudgedPart
+    ensures { λ r. ⌜ OfPart (mediaItemAt (now (s .entry)) at .tree) (mediaItemAt (now (s .entry)) at .end) stood values r ⌝ }
+{
+    let p = command_places::item_places(s, at);
+    let word = p.word;
+    let a = word.from;
+    let b = word.to;
+    let spelt = word_called(&s[a..b]);
+    if text_here(s, at, spelt) {
+        return judge_speech(s, at, stood, values);
+    }
+    let called = unless(p.second, spelt);
+    let y = media_item(s, p, called, stood, values);
+    let j = y.judged;
+    JudgedPart {
+        judged: j,
+        end: y.end,
+        stood: either(called, stood),
+    }
+}
+
 fn media_items(s: &[u8], at: usize, values: Values) -> JudgedItems
-    ensures { λ r. ⌜ (r .judged ≡ mediaItems (itemsAt 7 (now (s .entry)) at .tree) false false values) × Known (itemsAt 7 (now (s .entry)) at .end) r ⌝ }
+    ensures { λ r. ⌜ (r .judged ≡ mediaItems (mediaAt (now (s .entry)) at .tree) noDescriptors values) × Known (mediaAt (now (s .entry)) at .end) r ⌝ }
 {
     let mut i = at;
     let mut n = 0;
     let mut stood = Descriptors {
         control: false,
         state: false,
+        local: false,
+        remote: false,
     };
     let mut vs = values;
     while n <= s.len() {
         n += 1;
-        let p = command_places::item_places(s, i);
-        let called = media_called(s, p);
-        let y = media_item(s, p, called, stood, vs);
+        let y = judge_part(s, i, stood, vs);
         let j = y.judged;
         let Judged::Right(us) = j else {
             return JudgedItems { judged: j, end: 0 };
@@ -302,11 +451,11 @@ fn media_items(s: &[u8], at: usize, values: Values) -> JudgedItems
         let e = y.end;
         let x = command_places::next_part(s, e);
         let Parsed::Next(u) = x else {
-            return y;
+            return JudgedItems { judged: j, end: e };
         };
         i = u;
         vs = us;
-        stood = stood_after(stood, called);
+        stood = y.stood;
     }
     JudgedItems {
         judged: Judged::Right(vs),
@@ -318,7 +467,7 @@ fn media_items(s: &[u8], at: usize, values: Values) -> JudgedItems
 
 fn top_item(s: &[u8], p: ItemPlaces, seen: bool, values: Values) -> JudgedItems
     requires { ⌜ InMessage (now s) p ⌝ }
-    ensures { λ r. ⌜ (r .judged ≡ topBy seen values (now (s .entry)) p) × Known (pastSign rightBrace (now (s .entry)) (itemsAt 7 (now (s .entry)) (p .inside) .end)) r ⌝ }
+    ensures { λ r. ⌜ (r .judged ≡ topBy seen values (now (s .entry)) p) × Known (pastSign rightBrace (now (s .entry)) (mediaAt (now (s .entry)) (p .inside) .end)) r ⌝ }
 {
     let v = p.value;
     let known = item_called(s, p, Token::MediaToken);
@@ -337,7 +486,7 @@ fn top_item(s: &[u8], p: ItemPlaces, seen: bool, values: Values) -> JudgedItems
 }
 
 fn top_items(s: &[u8], at: usize, values: Values) -> JudgedItems
-    ensures { λ r. ⌜ (r .judged ≡ topItems (itemsAt 8 (now (s .entry)) at .tree) false values) × Known (itemsAt 8 (now (s .entry)) at .end) r ⌝ }
+    ensures { λ r. ⌜ (r .judged ≡ topItems (topAt (now (s .entry)) at .tree) false values) × Known (topAt (now (s .entry)) at .end) r ⌝ }
 {
     let mut i = at;
     let mut n = 0;
@@ -380,6 +529,8 @@ fn audited_item(s: &[u8], p: ItemPlaces, seen: bool) -> Judged
             mode: Given::Keep,
             state: Given::Keep,
             audited: true,
+            local: Speech::Kept,
+            remote: Speech::Kept,
         }),
         Checked::Fails(code) => Judged::Wrong(code),
     }
@@ -451,7 +602,7 @@ fn audit_item(s: &[u8], p: ItemPlaces, seen: bool, values: Values) -> JudgedItem
 }
 
 fn audit_items(s: &[u8], at: usize, values: Values) -> JudgedItems
-    ensures { λ r. ⌜ (r .judged ≡ auditItems (itemsAt 8 (now (s .entry)) at .tree) false values) × Known (itemsAt 8 (now (s .entry)) at .end) r ⌝ }
+    ensures { λ r. ⌜ (r .judged ≡ auditItems (topAt (now (s .entry)) at .tree) false values) × Known (topAt (now (s .entry)) at .end) r ⌝ }
 {
     let mut i = at;
     let mut n = 0;
@@ -502,6 +653,8 @@ fn unchanged() -> Values
         mode: Given::Keep,
         state: Given::Keep,
         audited: false,
+        local: Speech::Kept,
+        remote: Speech::Kept,
     }
 }
 

@@ -23,7 +23,7 @@ pub enum Meaning {
 }
 
 // Annex B.2's tokens in its order. Error and Reply are written only: no reader asks for them.
-pub const KEYWORDS: [Row; 30] = [
+pub const KEYWORDS: [Row; 32] = [
     Row(Token::AddToken, *b"ADD                     ", *b"A "),
     Row(Token::AuditToken, *b"AUDIT                   ", *b"AT"),
     Row(Token::AuditValueToken, *b"AUDITVALUE              ", *b"AV"),
@@ -34,6 +34,7 @@ pub const KEYWORDS: [Row; 30] = [
     Row(Token::InactiveToken, *b"INACTIVE                ", *b"IN"),
     Row(Token::IsolateToken, *b"ISOLATE                 ", *b"IS"),
     Row(Token::InSvcToken, *b"INSERVICE               ", *b"IV"),
+    Row(Token::LocalToken, *b"LOCAL                   ", *b"L "),
     Row(Token::LocalControlToken, *b"LOCALCONTROL            ", *b"O "),
     Row(Token::LoopbackToken, *b"LOOPBACK                ", *b"LB"),
     Row(Token::MediaToken, *b"MEDIA                   ", *b"M "),
@@ -45,6 +46,7 @@ pub const KEYWORDS: [Row; 30] = [
     Row(Token::OutOfSvcToken, *b"OUTOFSERVICE            ", *b"OS"),
     Row(Token::PriorityToken, *b"PRIORITY                ", *b"PR"),
     Row(Token::RecvonlyToken, *b"RECEIVEONLY             ", *b"RC"),
+    Row(Token::RemoteToken, *b"REMOTE                  ", *b"R "),
     Row(Token::ReplyToken, *b"REPLY                   ", *b"P "),
     Row(Token::SendonlyToken, *b"SENDONLY                ", *b"SO"),
     Row(Token::SendrecvToken, *b"SENDRECEIVE             ", *b"SR"),

@@ -14,7 +14,7 @@ use megaco::Token;
 // ---- rows
 
 // The table, laid down by itself: where its rows are also told apart the check is far dearer.
-fn table() -> [Row; 30]
+fn table() -> [Row; 32]
     ensures { λ r. ⌜ r ≡ rowsOf page ⌝ }
 {
     KEYWORDS
@@ -56,7 +56,9 @@ fn row_at(i: usize) -> Row
         26 => t[26],
         27 => t[27],
         28 => t[28],
-        _ => t[29],
+        29 => t[29],
+        30 => t[30],
+        _ => t[31],
     }
 }
 
@@ -100,26 +102,28 @@ pub fn spells(k: Token, w: &[u8]) -> bool
         Token::InactiveToken => is_either(w, 7, 8, 2),
         Token::IsolateToken => is_either(w, 8, 7, 2),
         Token::InSvcToken => is_either(w, 9, 9, 2),
-        Token::LocalControlToken => is_either(w, 10, 12, 1),
-        Token::LoopbackToken => is_either(w, 11, 8, 2),
-        Token::MediaToken => is_either(w, 12, 5, 1),
-        Token::MegacopToken => is_either(w, 13, 6, 1),
-        Token::ModeToken => is_either(w, 14, 4, 2),
-        Token::ModifyToken => is_either(w, 15, 6, 2),
-        Token::MoveToken => is_either(w, 16, 4, 2),
-        Token::OnewayToken => is_either(w, 17, 6, 2),
-        Token::OutOfSvcToken => is_either(w, 18, 12, 2),
-        Token::PriorityToken => is_either(w, 19, 8, 2),
-        Token::RecvonlyToken => is_either(w, 20, 11, 2),
-        Token::ReplyToken => is_either(w, 21, 5, 1),
-        Token::SendonlyToken => is_either(w, 22, 8, 2),
-        Token::SendrecvToken => is_either(w, 23, 11, 2),
-        Token::ServiceStatesToken => is_either(w, 24, 13, 2),
-        Token::SubtractToken => is_either(w, 25, 8, 1),
-        Token::TerminationStateToken => is_either(w, 26, 16, 2),
-        Token::TestToken => is_either(w, 27, 4, 2),
-        Token::TopologyToken => is_either(w, 28, 8, 2),
-        Token::TransToken => is_either(w, 29, 11, 1),
+        Token::LocalToken => is_either(w, 10, 5, 1),
+        Token::LocalControlToken => is_either(w, 11, 12, 1),
+        Token::LoopbackToken => is_either(w, 12, 8, 2),
+        Token::MediaToken => is_either(w, 13, 5, 1),
+        Token::MegacopToken => is_either(w, 14, 6, 1),
+        Token::ModeToken => is_either(w, 15, 4, 2),
+        Token::ModifyToken => is_either(w, 16, 6, 2),
+        Token::MoveToken => is_either(w, 17, 4, 2),
+        Token::OnewayToken => is_either(w, 18, 6, 2),
+        Token::OutOfSvcToken => is_either(w, 19, 12, 2),
+        Token::PriorityToken => is_either(w, 20, 8, 2),
+        Token::RecvonlyToken => is_either(w, 21, 11, 2),
+        Token::RemoteToken => is_either(w, 22, 6, 1),
+        Token::ReplyToken => is_either(w, 23, 5, 1),
+        Token::SendonlyToken => is_either(w, 24, 8, 2),
+        Token::SendrecvToken => is_either(w, 25, 11, 2),
+        Token::ServiceStatesToken => is_either(w, 26, 13, 2),
+        Token::SubtractToken => is_either(w, 27, 8, 1),
+        Token::TerminationStateToken => is_either(w, 28, 16, 2),
+        Token::TestToken => is_either(w, 29, 4, 2),
+        Token::TopologyToken => is_either(w, 30, 8, 2),
+        Token::TransToken => is_either(w, 31, 11, 1),
     }
 }
 
@@ -137,8 +141,8 @@ fn of(i: usize) -> Meaning
 fn letters_16(w: &[u8]) -> Meaning
     ensures { λ r. ⌜ tokenOf r ≡ meaningLater 16 0 (now (w .entry)) ⌝ }
 {
-    if is_long(w, 26, 16) {
-        return of(26);
+    if is_long(w, 28, 16) {
+        return of(28);
     }
     Meaning::Nothing
 }
@@ -146,8 +150,8 @@ fn letters_16(w: &[u8]) -> Meaning
 fn letters_13(w: &[u8]) -> Meaning
     ensures { λ r. ⌜ tokenOf r ≡ meaningLater 13 0 (now (w .entry)) ⌝ }
 {
-    if is_long(w, 24, 13) {
-        return of(24);
+    if is_long(w, 26, 13) {
+        return of(26);
     }
     Meaning::Nothing
 }
@@ -155,11 +159,11 @@ fn letters_13(w: &[u8]) -> Meaning
 fn letters_12(w: &[u8]) -> Meaning
     ensures { λ r. ⌜ tokenOf r ≡ meaningLater 12 0 (now (w .entry)) ⌝ }
 {
-    if is_long(w, 10, 12) {
-        return of(10);
+    if is_long(w, 11, 12) {
+        return of(11);
     }
-    if is_long(w, 18, 12) {
-        return of(18);
+    if is_long(w, 19, 12) {
+        return of(19);
     }
     Meaning::Nothing
 }
@@ -167,14 +171,14 @@ fn letters_12(w: &[u8]) -> Meaning
 fn letters_11(w: &[u8]) -> Meaning
     ensures { λ r. ⌜ tokenOf r ≡ meaningLater 11 0 (now (w .entry)) ⌝ }
 {
-    if is_long(w, 20, 11) {
-        return of(20);
+    if is_long(w, 21, 11) {
+        return of(21);
     }
-    if is_long(w, 23, 11) {
-        return of(23);
+    if is_long(w, 25, 11) {
+        return of(25);
     }
-    if is_long(w, 29, 11) {
-        return of(29);
+    if is_long(w, 31, 11) {
+        return of(31);
     }
     Meaning::Nothing
 }
@@ -203,8 +207,8 @@ fn letters_9(w: &[u8]) -> Meaning
 fn letters_8_from_5(w: &[u8]) -> Meaning
     ensures { λ r. ⌜ tokenOf r ≡ meaningLater 8 5 (now (w .entry)) ⌝ }
 {
-    if is_long(w, 28, 8) {
-        return of(28);
+    if is_long(w, 30, 8) {
+        return of(30);
     }
     Meaning::Nothing
 }
@@ -215,17 +219,17 @@ fn letters_8(w: &[u8]) -> Meaning
     if is_long(w, 7, 8) {
         return of(7);
     }
-    if is_long(w, 11, 8) {
-        return of(11);
+    if is_long(w, 12, 8) {
+        return of(12);
     }
-    if is_long(w, 19, 8) {
-        return of(19);
+    if is_long(w, 20, 8) {
+        return of(20);
     }
-    if is_long(w, 22, 8) {
-        return of(22);
+    if is_long(w, 24, 8) {
+        return of(24);
     }
-    if is_long(w, 25, 8) {
-        return of(25);
+    if is_long(w, 27, 8) {
+        return of(27);
     }
     letters_8_from_5(w)
 }
@@ -248,14 +252,17 @@ fn letters_7(w: &[u8]) -> Meaning
 fn letters_6(w: &[u8]) -> Meaning
     ensures { λ r. ⌜ tokenOf r ≡ meaningLater 6 0 (now (w .entry)) ⌝ }
 {
-    if is_long(w, 13, 6) {
-        return of(13);
+    if is_long(w, 14, 6) {
+        return of(14);
     }
-    if is_long(w, 15, 6) {
-        return of(15);
+    if is_long(w, 16, 6) {
+        return of(16);
     }
-    if is_long(w, 17, 6) {
-        return of(17);
+    if is_long(w, 18, 6) {
+        return of(18);
+    }
+    if is_long(w, 22, 6) {
+        return of(22);
     }
     Meaning::Nothing
 }
@@ -269,11 +276,14 @@ fn letters_5(w: &[u8]) -> Meaning
     if is_long(w, 6, 5) {
         return of(6);
     }
-    if is_long(w, 12, 5) {
-        return of(12);
+    if is_long(w, 10, 5) {
+        return of(10);
     }
-    if is_long(w, 21, 5) {
-        return of(21);
+    if is_long(w, 13, 5) {
+        return of(13);
+    }
+    if is_long(w, 23, 5) {
+        return of(23);
     }
     Meaning::Nothing
 }
@@ -281,14 +291,14 @@ fn letters_5(w: &[u8]) -> Meaning
 fn letters_4(w: &[u8]) -> Meaning
     ensures { λ r. ⌜ tokenOf r ≡ meaningLater 4 0 (now (w .entry)) ⌝ }
 {
-    if is_long(w, 14, 4) {
-        return of(14);
+    if is_long(w, 15, 4) {
+        return of(15);
     }
-    if is_long(w, 16, 4) {
-        return of(16);
+    if is_long(w, 17, 4) {
+        return of(17);
     }
-    if is_long(w, 27, 4) {
-        return of(27);
+    if is_long(w, 29, 4) {
+        return of(29);
     }
     Meaning::Nothing
 }
@@ -305,11 +315,11 @@ fn letters_3(w: &[u8]) -> Meaning
 fn letters_2_from_20(w: &[u8]) -> Meaning
     ensures { λ r. ⌜ tokenOf r ≡ meaningLater 2 20 (now (w .entry)) ⌝ }
 {
-    if is_short(w, 27, 2) {
-        return of(27);
+    if is_short(w, 29, 2) {
+        return of(29);
     }
-    if is_short(w, 28, 2) {
-        return of(28);
+    if is_short(w, 30, 2) {
+        return of(30);
     }
     Meaning::Nothing
 }
@@ -317,20 +327,20 @@ fn letters_2_from_20(w: &[u8]) -> Meaning
 fn letters_2_from_15(w: &[u8]) -> Meaning
     ensures { λ r. ⌜ tokenOf r ≡ meaningLater 2 15 (now (w .entry)) ⌝ }
 {
-    if is_short(w, 20, 2) {
-        return of(20);
-    }
-    if is_short(w, 22, 2) {
-        return of(22);
-    }
-    if is_short(w, 23, 2) {
-        return of(23);
+    if is_short(w, 21, 2) {
+        return of(21);
     }
     if is_short(w, 24, 2) {
         return of(24);
     }
+    if is_short(w, 25, 2) {
+        return of(25);
+    }
     if is_short(w, 26, 2) {
         return of(26);
+    }
+    if is_short(w, 28, 2) {
+        return of(28);
     }
     letters_2_from_20(w)
 }
@@ -338,9 +348,6 @@ fn letters_2_from_15(w: &[u8]) -> Meaning
 fn letters_2_from_10(w: &[u8]) -> Meaning
     ensures { λ r. ⌜ tokenOf r ≡ meaningLater 2 10 (now (w .entry)) ⌝ }
 {
-    if is_short(w, 15, 2) {
-        return of(15);
-    }
     if is_short(w, 16, 2) {
         return of(16);
     }
@@ -352,6 +359,9 @@ fn letters_2_from_10(w: &[u8]) -> Meaning
     }
     if is_short(w, 19, 2) {
         return of(19);
+    }
+    if is_short(w, 20, 2) {
+        return of(20);
     }
     letters_2_from_15(w)
 }
@@ -368,11 +378,11 @@ fn letters_2_from_5(w: &[u8]) -> Meaning
     if is_short(w, 9, 2) {
         return of(9);
     }
-    if is_short(w, 11, 2) {
-        return of(11);
+    if is_short(w, 12, 2) {
+        return of(12);
     }
-    if is_short(w, 14, 2) {
-        return of(14);
+    if is_short(w, 15, 2) {
+        return of(15);
     }
     letters_2_from_10(w)
 }
@@ -401,14 +411,20 @@ fn letters_2(w: &[u8]) -> Meaning
 fn letters_1_from_5(w: &[u8]) -> Meaning
     ensures { λ r. ⌜ tokenOf r ≡ meaningLater 1 5 (now (w .entry)) ⌝ }
 {
-    if is_short(w, 21, 1) {
-        return of(21);
+    if is_short(w, 14, 1) {
+        return of(14);
     }
-    if is_short(w, 25, 1) {
-        return of(25);
+    if is_short(w, 22, 1) {
+        return of(22);
     }
-    if is_short(w, 29, 1) {
-        return of(29);
+    if is_short(w, 23, 1) {
+        return of(23);
+    }
+    if is_short(w, 27, 1) {
+        return of(27);
+    }
+    if is_short(w, 31, 1) {
+        return of(31);
     }
     Meaning::Nothing
 }
@@ -425,8 +441,8 @@ fn letters_1(w: &[u8]) -> Meaning
     if is_short(w, 10, 1) {
         return of(10);
     }
-    if is_short(w, 12, 1) {
-        return of(12);
+    if is_short(w, 11, 1) {
+        return of(11);
     }
     if is_short(w, 13, 1) {
         return of(13);

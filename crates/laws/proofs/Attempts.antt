@@ -1,30 +1,32 @@
 -- Attempts leave a sound table sound, in a numbered context, in null and in `$`, a wildcard's too.
-use Prim.Native.Nat.{ℕ, _+_, _-_, _%_, _≤_, _<_, min}
+use Prim.Native.Nat.{ℕ, zero, suc, _+_, _-_, _%_, _≤_, _<_, min}
 use mathlib.Core.Path.{_≡_, refl, sym, ap, _∙_}
 use mathlib.Core.Logic.{_≢_}
-use mathlib.Core.Bool.{Bool, true, false, not, _&&_, and-true, and-false}
+use mathlib.Core.Bool.{Bool, true, false, not, _&&_, _||_, and-true, and-false}
 use mathlib.Core.List.{List, [], _∷_}
 use lib.Dec.{ltb, leb, eqb}
 use borrow.Author.Tests.{eqb-true, eqb-false, eq-eqb, ltb-true, lt-ltb, leb-true, leb-false, le-leb, not-true, not-false}
 use native.Mathlib.Omega.{arith}
 use Rattle.base.specs.Pick.{pick}
-use Rattle.protocol.specs.Types.{Context, Numbered, Choose, Op, Add, Modify, Subtract, Move, AuditValue, Checked, Values, View}
-use Rattle.megaco.specs.Table.{lineTerminations, terminations, contexts, fitted, most, prop, rec, ctx, cell, get, Write, write, apply, recordWords, isEphemeral, exists, known, members, freeContext}
+use Rattle.protocol.specs.Types.{Context, Numbered, Choose, Op, Add, Modify, Subtract, Move, AuditValue, Checked, Speech, Kept, Released, Values, View}
+use Rattle.megaco.specs.Table.{lineTerminations, terminations, contexts, fitted, most, prop, rec, used, flow, lowFlow, highFlow, speech, ctx, cell, get, Write, write, apply, recordWords, isEphemeral, exists, known, members, freeContext}
 use Rattle.megaco.specs.Square.{Square, joined as joinedSquare, parted}
 use Rattle.megaco.proofs.Squares.{shape-joined, shape-parted}
 use Rattle.megaco.specs.Items.{update}
 use Rattle.megaco.specs.State.{State, wrote}
-use Rattle.megaco.specs.Attempt.{unseen, seenIn, seen, flowsOf, flowing, numberOf, freeAt, look, isChoose, target, roomChecks, checks, joining, leaving, placed, marking, added, subtracted, changes, settled, Effect, concluded, effect}
+use Rattle.megaco.specs.Attempt.{unseen, seenIn, seen, flowsOf, flowing, numberOf, freeAt, look, isChoose, target, roomChecks, checks, joining, leaving, placed, marking, added, subtracted, speaks, onLine, speaking, spoken, forgetting, changes, settled, Effect, concluded, effect}
 use Rattle.megaco.specs.Command.{inPlace, attempts}
 use Rattle.base.proofs.TestLaws.{clash, and-both, both-and, pick-of}
 use Rattle.laws.specs.Passed.{Passed}
+use Rattle.laws.specs.Speech.{Sets, in-add, in-modify, in-move}
 use Rattle.laws.specs.Sound.{Fit, SoundWord, Whole}
 use Rattle.laws.proofs.Passed.{judged}
-use Rattle.laws.proofs.Slots.{fitted-apply}
+use Rattle.laws.proofs.Slots.{Within, fitted-apply}
 use Rattle.laws.proofs.Counting.{member, place-low, lowest}
 use Rattle.laws.proofs.Flows.{fit-joined, fit-parted}
 use Rattle.laws.proofs.Sound.{alive, record-words, record-at}
-use Rattle.laws.proofs.Moved.{Moves, Streams, Fitting, Goes, low-low, high-high, low-high, high-low, moved-sound, moved-here, modified-place, modified-sound}
+use Rattle.laws.proofs.Sides.{sideOf, Voices, Mute, both-voices, mute-voices, both-other, OnEphemeral, on-ephemeral, both-within, MaySay, releases, may-say}
+use Rattle.laws.proofs.Moved.{Moves, Streams, Fitting, Goes, low-low, high-high, low-high, high-low, moved-sound, moved-here, modifies, modified-place, modified-sound}
 use Rattle.protocol.specs.Ranges.{InRange}
 use Rattle.laws.proofs.Values.{update-sound}
 use Rattle.laws.proofs.Meant.{Meant, Each, more, each-on}
@@ -62,17 +64,22 @@ may-join : (at : Context) (v : View) → Passed (roomChecks at v) → (isChoose 
 unfolding roomChecks
 may-join at v p = (search p, search leb-false)
 
-may-add : (at : Context) (v : View) → Passed (checks Add at v) → (v .here ≡ 0) × Passed (roomChecks at v)
-unfolding checks
-may-add at v p = (search (eqb-true, not-false), search p)
+may-add : (at : Context) (i : ℕ) (vs : Values) (v : View) → Passed (checks Add at i vs v) → (v .here ≡ 0) × OnEphemeral (v .lines) i (vs .local) (vs .remote) × Passed (roomChecks at v)
+unfolding checks onLine
+may-add at i vs v p = (search (eqb-true, not-false), on-ephemeral (v .lines) i (vs .local) (vs .remote) (search p), search p)
 
-may-subtract : (at : Context) (v : View) → Passed (checks Subtract at v) → v .here ≡ numberOf at
-unfolding checks
-may-subtract at v p = search (eqb-true, not-false)
+may-modify : (at : Context) (i : ℕ) (vs : Values) (v : View) → Passed (checks Modify at i vs v) → OnEphemeral (v .lines) i (vs .local) (vs .remote)
+unfolding checks onLine
+may-modify at i vs v p = on-ephemeral (v .lines) i (vs .local) (vs .remote) (search p)
 
-may-move : (at : Context) (v : View) → Passed (checks Move at v) → (v .here ≢ 0) × (v .here ≢ numberOf at) × Passed (roomChecks at v)
+may-subtract : (at : Context) (i : ℕ) (vs : Values) (v : View) → Passed (checks Subtract at i vs v) → v .here ≡ numberOf at
 unfolding checks
-may-move at v p = (search eqb-false, search eqb-false, search p)
+may-subtract at i vs v p = search (eqb-true, not-false)
+
+may-move : (at : Context) (i : ℕ) (vs : Values) (v : View) → Passed (checks Move at i vs v)
+    → (v .here ≢ 0) × (v .here ≢ numberOf at) × OnEphemeral (v .lines) i (vs .local) (vs .remote) × Passed (roomChecks at v)
+unfolding checks onLine
+may-move at i vs v p = (search eqb-false, search eqb-false, on-ephemeral (v .lines) i (vs .local) (vs .remote) (search p), search p)
 
 -- ---- what an attempt relies on, beside a sound table
 
@@ -155,23 +162,43 @@ placed-moves n g d i x y h =
       place = λ j v. rw (and-false (eqb i j));
     }
 
-marking-moves : (n g d i x y m : ℕ) → i < terminations n → m % 2 ≡ min x 1 → Moves n false false (isEphemeral n i) g d i x y (marking n i m (placed i x y))
-unfolding marking placed isEphemeral pick
-marking-moves n g d i x y m h z =
+-- with what is said of Local and Remote
+spoken-moves : (n g d i x y : ℕ) (l r : Speech) (ws : List Write) → i < terminations n → OnEphemeral n i l r → Moves n false false false g d i x y ws
+    → Moves n false false false g d i x y (speaking i 0 l (speaking i 1 r ws))
+spoken-moves n g d i x y l r ws h o M =
+    record {
+      within = both-within n i l r ws h o (M .within);
+      context = λ j v. both-other i l r ws (ctx j) v tt ∙ M .context j v;
+      property = λ j v. both-other i l r ws (cell (prop j)) v tt ∙ M .property j v;
+      record′ = λ c v. both-other i l r ws (cell (rec c)) v tt ∙ M .record′ c v;
+      place = λ j v. both-other i l r ws (cell (used j)) v tt ∙ M .place j v;
+    }
+
+forgetting-moves : (n g d i x y : ℕ) (ws : List Write) → i < terminations n → Moves n false false false g d i x y ws → Moves n false false false g d i x y (forgetting n i ws)
+unfolding forgetting isEphemeral
+forgetting-moves n g d i x y ws h M =
+    pick-of (Moves n false false false g d i x y) (leb (lineTerminations n) i)
+    (λ e. spoken-moves n g d i x y Released Released ws h (record { local = λ _. leb-true (lineTerminations n) i e; remote = λ _. leb-true (lineTerminations n) i e }) M)
+    (λ e. M)
+
+marking-moves : (n g d i x y m : ℕ) (ws : List Write) → i < terminations n → m % 2 ≡ min x 1 → Moves n false false false g d i x y ws
+    → Moves n false false (isEphemeral n i) g d i x y (marking n i m ws)
+unfolding marking isEphemeral pick
+marking-moves n g d i x y m ws h z M =
     pick-of (Moves n false false (leb (lineTerminations n) i) g d i x y) (leb (lineTerminations n) i)
     (λ e. record {
-      within = ((leb-true (lineTerminations n) i e, h), (h, (h, tt)));
-      context = λ j v. refl;
-      property = λ j v. refl;
-      record′ = λ c v. rw (and-false (eqb x c), and-false (eqb d c));
-      place = λ j v. rw (e, and-true (eqb i j), z);
+      within = ((leb-true (lineTerminations n) i e, h), M .within);
+      context = M .context;
+      property = M .property;
+      record′ = M .record′;
+      place = λ j v. M .place j _ ∙ rw (e, and-true (eqb i j), and-false (eqb i j), z);
     })
     (λ e. record {
-      within = (h, (h, tt));
-      context = λ j v. refl;
-      property = λ j v. refl;
-      record′ = λ c v. rw (and-false (eqb x c), and-false (eqb d c));
-      place = λ j v. rw (e, and-false (eqb i j));
+      within = M .within;
+      context = M .context;
+      property = M .property;
+      record′ = M .record′;
+      place = λ j v. M .place j v ∙ rw (e, and-false (eqb i j));
     })
 
 joining-moves : (at : Context) (mark : Bool) (g d i y : ℕ) (v : View) (t : List ℕ) (ws : List Write) → Target at t (target at v)
@@ -231,6 +258,17 @@ module _ (d x : ℕ) (J P : Square) where
   placed-streams i c y =
       record { low = λ e v h. rw (and-false (eqb x e), and-false (eqb d e)); high = λ e v h. rw (and-false (eqb x e), and-false (eqb d e)) }
 
+  spoken-streams : (i : ℕ) (l r : Speech) (ws : List Write) → Streams false false d x J P ws → Streams false false d x J P (speaking i 0 l (speaking i 1 r ws))
+  spoken-streams i l r ws S =
+      record {
+        low = λ e v h. both-other i l r ws (cell (flow (lowFlow e))) v tt ∙ S .low e v h;
+        high = λ e v h. both-other i l r ws (cell (flow (highFlow e))) v tt ∙ S .high e v h;
+      }
+
+  forgetting-streams : (n i : ℕ) (ws : List Write) → Streams false false d x J P ws → Streams false false d x J P (forgetting n i ws)
+  unfolding forgetting
+  forgetting-streams n i ws S = pick-of (Streams false false d x J P) (isEphemeral n i) (λ e. spoken-streams i Released Released ws S) (λ e. S)
+
   marking-streams : (n i m : ℕ) (ws : List Write) → Streams false false d x J P ws → Streams false false d x J P (marking n i m ws)
   unfolding marking pick
   marking-streams n i m ws S = pick-of (Streams false false d x J P) (isEphemeral n i) (λ e. record { low = S .low; high = S .high }) (λ e. S)
@@ -257,6 +295,59 @@ leaving-streams joins x v J ws p S =
       low = λ c w h. S .low c _ h ∙ rw (e, low-low (v .here) c p h, high-low (v .here) c, and-true (eqb (v .here) c), and-false (eqb (v .here) c));
       high = λ c w h. S .high c _ h ∙ rw (e, low-high (v .here) c, high-high (v .here) c p h, and-true (eqb (v .here) c), and-false (eqb (v .here) c));
     })
+
+-- ---- what is said of Local and Remote
+
+placed-mute : (i c y : ℕ) → Mute (placed i c y)
+unfolding placed pick
+placed-mute i c y k v = refl
+
+property-mute : (i y : ℕ) → Mute (write (cell (prop i)) y ∷ [])
+unfolding pick
+property-mute i y k v = refl
+
+module _ (i : ℕ) (l r : Speech) where
+  marking-voices : (n j m : ℕ) (ws : List Write) → Voices i l r ws → Voices i l r (marking n j m ws)
+  unfolding marking pick
+  marking-voices n j m ws X = pick-of (Voices i l r) (isEphemeral n j) (λ e. record { said = X .said }) (λ e. X)
+
+  joining-voices : (at : Context) (g : ℕ) (v : View) (ws : List Write) → Voices i l r ws → Voices i l r (joining at g v ws)
+  unfolding joining flowing pick
+  joining-voices at g v ws X = pick-of (Voices i l r) (isChoose at) (λ e. record { said = X .said }) (λ e. record { said = X .said })
+
+  leaving-voices : (v : View) (ws : List Write) → Voices i l r ws → Voices i l r (leaving v ws)
+  unfolding leaving flowing pick
+  leaving-voices v ws X = pick-of (Voices i l r) (leb (v .from .members) 1) (λ e. record { said = X .said }) (λ e. record { said = X .said })
+
+-- what Subtract says of them
+abbrev hushed : ℕ → ℕ → Speech
+hushed n i = pick (isEphemeral n i) Released Kept
+
+-- what each command says of them
+abbrev pub saidOn : Op → ℕ → ℕ → Speech → Speech
+saidOn Add n i x = x
+saidOn Modify n i x = x
+saidOn Subtract n i x = hushed n i
+saidOn Move n i x = x
+saidOn AuditValue n i x = Kept
+
+forgetting-voices : (n i : ℕ) (ws : List Write) → Mute ws → Voices i (hushed n i) (hushed n i) (forgetting n i ws)
+unfolding forgetting
+forgetting-voices n i ws m = by (isEphemeral n i)
+  where
+    by : (b : Bool) → Voices i (pick b Released Kept) (pick b Released Kept) (pick b (speaking i 0 Released (speaking i 1 Released ws)) ws)
+    by true = unfold pick in both-voices i Released Released ws m
+    by false = unfold pick in mute-voices i ws m
+
+hushed-says : (n i d : ℕ) → lineTerminations n ≤ i → (side : ℕ) → side < 2 → MaySay d 0 (sideOf side (hushed n i) (hushed n i))
+unfolding isEphemeral pick
+hushed-says n i d h zero s = rw (le-leb (lineTerminations n) i h) releases
+hushed-says n i d h (suc side) s = rw (le-leb (lineTerminations n) i h) releases
+
+-- what items give may be said of a termination that is in a context then
+given-says : (d x : ℕ) (vs : Values) → 0 < x → InRange vs → (side : ℕ) → side < 2 → MaySay d x (sideOf side (vs .local) (vs .remote))
+given-says d x vs h f zero s = may-say d x (vs .local) h (f .local)
+given-says d x vs h f (suc side) s = may-say d x (vs .remote) h (f .remote)
 
 -- the flows of a context that is seen
 pub seen-flows : (c : ℕ) (t : List ℕ) → Whole t → 0 < c → c ≤ contexts → Fit (members c t) (flowsOf (seen c t))
@@ -350,10 +441,12 @@ arrives : (op : Op) (at : Context) (given d i y : ℕ) (t : List ℕ) (last mark
     → Moves (fitted t) (isChoose at) last mark given d i (target at (look at i t)) y ws → Goes t (isChoose at) last mark given d i (target at (look at i t)) y
     → (parts : Bool) → Streams (not (isChoose at)) parts d (target at (look at i t)) (joinedIn (look at i t)) (partedIn (look at i t)) ws
     → Fitting t (not (isChoose at)) parts d (target at (look at i t)) (joinedIn (look at i t)) (partedIn (look at i t))
+    → (vs : Values) → InRange vs → Voices i (vs .local) (vs .remote) ws
     → Leaves op (settled at (look at i t)) t (apply ws t)
-arrives op at given d i y t last mark ws n r W j T m g parts s f =
+arrives op at given d i y t last mark ws n r W j T m g parts s f vs F X =
     let x : ℕ = target at (look at i t) in
-    let S = moved-sound t (isChoose at) last mark given d i x y ws W m g (not (isChoose at)) parts (joinedIn (look at i t)) (partedIn (look at i t)) s f in
+    let S = moved-sound t (isChoose at) last mark given d i x y ws W m g (not (isChoose at)) parts (joinedIn (look at i t)) (partedIn (look at i t)) s f
+    (vs .local) (vs .remote) X (λ _. given-says d x vs (T .some) F) in
     record {
       whole = S;
       ready = r _ _ (joined-there at i (look at i t) t (apply ws t) j T (rw (fitted-apply ws t) (g .small)) S (moved-here t (isChoose at) last mark given d i x y ws W m g));
@@ -365,9 +458,12 @@ no-line : (n i : ℕ) → isEphemeral n i ≡ false → lineTerminations n ≤ i
 unfolding isEphemeral
 no-line n i e h = clash (sym (le-leb (lineTerminations n) i h) ∙ e)
 
+nonzero : (x : ℕ) → (x ≡ 0 → ⊥) → 0 < x
+nonzero x h = omega arith
+
 -- a termination that goes to null
 departs : (c given i : ℕ) (t : List ℕ) → Whole t → 0 < c → i < terminations (fitted t) → get t (ctx i) ≡ numberOf (Numbered c)
-    → Leaves Subtract (settled (Numbered c) (look (Numbered c) i t)) t (apply (leaving (look (Numbered c) i t) (marking (fitted t) i 0 (placed i 0 (subtracted (fitted t) i (get t (cell (prop i))))))) t)
+    → Leaves Subtract (settled (Numbered c) (look (Numbered c) i t)) t (apply (leaving (look (Numbered c) i t) (marking (fitted t) i 0 (forgetting (fitted t) i (placed i 0 (subtracted (fitted t) i (get t (cell (prop i)))))))) t)
 unfolding look numberOf settled isChoose inPlace pick
 departs c given i t W h k e =
     let w : ℕ = get t (cell (prop i)) in
@@ -376,7 +472,8 @@ departs c given i t W h k e =
     record {
       whole = moved-sound t false (leb (seen d t .members) 1) (isEphemeral (fitted t) i) given d i 0 (subtracted (fitted t) i w) _ W
           (leaving-moves (fitted t) false (isEphemeral (fitted t) i) given i 0 (subtracted (fitted t) i w) (look (Numbered c) i t) _ b (W .place i k)
-          (marking-moves (fitted t) given d i 0 (subtracted (fitted t) i w) 0 k refl))
+          (marking-moves (fitted t) given d i 0 (subtracted (fitted t) i w) 0 _ k refl
+          (forgetting-moves (fitted t) given d i 0 (subtracted (fitted t) i w) _ k (placed-moves (fitted t) given d i 0 (subtracted (fitted t) i w) k))))
           (record {
             small = k;
             from = refl;
@@ -392,7 +489,8 @@ departs c given i t W h k e =
           })
           false (not (leb (look (Numbered c) i t .from .members) 1)) (joinedIn (look (Numbered c) i t)) (partedIn (look (Numbered c) i t))
           (leaving-streams false 0 (look (Numbered c) i t) (joinedIn (look (Numbered c) i t)) _ b
-          (marking-streams d 0 (joinedIn (look (Numbered c) i t)) (partedIn (look (Numbered c) i t)) (fitted t) i 0 _ (placed-streams d 0 (joinedIn (look (Numbered c) i t)) (partedIn (look (Numbered c) i t)) i 0 _)))
+          (marking-streams d 0 (joinedIn (look (Numbered c) i t)) (partedIn (look (Numbered c) i t)) (fitted t) i 0 _
+          (forgetting-streams d 0 (joinedIn (look (Numbered c) i t)) (partedIn (look (Numbered c) i t)) (fitted t) i _ (placed-streams d 0 (joinedIn (look (Numbered c) i t)) (partedIn (look (Numbered c) i t)) i 0 _))))
           (record {
             shape-in = shape-joined _ _ _;
             fit-in = λ z. absurd (clash (sym z));
@@ -400,27 +498,98 @@ departs c given i t W h k e =
             shape-out = shape-parted _ _;
             fit-out = λ _ _. fit-leaving (Numbered c) i t W k b;
             last = λ e _. last-leaving (Numbered c) i t W k b e;
-          });
+          })
+          (hushed (fitted t) i) (hushed (fitted t) i)
+          (leaving-voices i (hushed (fitted t) i) (hushed (fitted t) i) (look (Numbered c) i t) _
+          (marking-voices i (hushed (fitted t) i) (hushed (fitted t) i) (fitted t) i 0 _ (forgetting-voices (fitted t) i _ (placed-mute i 0 (subtracted (fitted t) i w)))))
+          (λ z. hushed-says (fitted t) i d z);
       ready = stands h;
-      meant = λ j m. record { small = rw (fitted-apply (leaving (look (Numbered c) i t) (marking (fitted t) i 0 (placed i 0 (subtracted (fitted t) i w)))) t) (m .small); there = λ z. absurd (clash (sym z)) };
+      meant = λ j m. record { small = rw (fitted-apply (leaving (look (Numbered c) i t) (marking (fitted t) i 0 (forgetting (fitted t) i (placed i 0 (subtracted (fitted t) i w))))) t) (m .small); there = λ z. absurd (clash (sym z)) };
     }
 
+-- what is added is absent, and where something is said there is an ephemeral
+pub added-absent : (at : Context) (i : ℕ) (vs : Values) (t : List ℕ) → Passed (checks Add at i vs (look at i t)) → get t (ctx i) ≡ 0
+unfolding look
+added-absent at i vs t p = may-add at i vs (look at i t) p .0
+
+pub says-ephemeral : (op : Op) (at : Context) (i : ℕ) (vs : Values) (t : List ℕ) → Sets op → Passed (checks op at i vs (look at i t))
+    → OnEphemeral (fitted t) i (vs .local) (vs .remote)
+unfolding look
+says-ephemeral _ at i vs t in-add p = may-add at i vs (look at i t) p .1
+says-ephemeral _ at i vs t in-modify p = may-modify at i vs (look at i t) p
+says-ephemeral _ at i vs t in-move p = may-move at i vs (look at i t) p .2
+
+-- what its writes say of Local and Remote; they are to words of the table
+pub record Says (op : Op) (n i : ℕ) (vs : Values) (ws : List Write) : Type 0 where
+  pub voices : Voices i (saidOn op n i (vs .local)) (saidOn op n i (vs .remote)) ws
+  pub within : Within n ws
+
+pub attempt-says : (op : Op) (at : Context) (given i : ℕ) (vs : Values) (t : List ℕ) → Whole t → MayAttempt op at t → i < terminations (fitted t)
+    → Passed (checks op at i vs (look at i t)) → Says op (fitted t) i vs (changes op at given i vs (look at i t))
+unfolding changes spoken look
+attempt-says Add at given i vs t W j h p =
+    let v : View = look at i t in
+    let y : ℕ = update vs (added (fitted t) i (get t (cell (prop i)))) in
+    let q = may-add at i vs v p in
+    let T = targeted at i t W j (q .2) in
+    record {
+      voices = joining-voices i (vs .local) (vs .remote) at given v _
+          (marking-voices i (vs .local) (vs .remote) (fitted t) i 1 _ (both-voices i (vs .local) (vs .remote) _ (placed-mute i (target at v) y)));
+      within = joining-moves at (isEphemeral (fitted t) i) given 0 i y v t _ T
+          (marking-moves (fitted t) given 0 i (target at v) y 1 _ h (omega (arith, T .some))
+          (spoken-moves (fitted t) given 0 i (target at v) y (vs .local) (vs .remote) _ h (q .1)
+          (placed-moves (fitted t) given 0 i (target at v) y h))) .within;
+    }
+attempt-says Modify at given i vs t W j h p =
+    record {
+      voices = both-voices i (vs .local) (vs .remote) _ (property-mute i _);
+      within = both-within (fitted t) i (vs .local) (vs .remote) _ h (may-modify at i vs (look at i t) p) (h, tt);
+    }
+attempt-says Subtract (Numbered c) given i vs t W (stands l) h p =
+    let v : View = look (Numbered c) i t in
+    let y : ℕ = subtracted (fitted t) i (get t (cell (prop i))) in
+    let d : ℕ = get t (ctx i) in
+    let b : 0 < d = rw (may-subtract (Numbered c) i vs v p) (unfold numberOf in l) in
+    let x : Speech = hushed (fitted t) i in
+    record {
+      voices = leaving-voices i x x v _ (marking-voices i x x (fitted t) i 0 _ (forgetting-voices (fitted t) i _ (placed-mute i 0 y)));
+      within = leaving-moves (fitted t) false (isEphemeral (fitted t) i) given i 0 y v _ b (W .place i h)
+          (marking-moves (fitted t) given d i 0 y 0 _ h refl (forgetting-moves (fitted t) given d i 0 y _ h (placed-moves (fitted t) given d i 0 y h))) .within;
+    }
+attempt-says Move at given i vs t W j h p =
+    let v : View = look at i t in
+    let y : ℕ = update vs (get t (cell (prop i))) in
+    let d : ℕ = get t (ctx i) in
+    let q = may-move at i vs v p in
+    let T = targeted at i t W j (q .3) in
+    record {
+      voices = leaving-voices i (vs .local) (vs .remote) v _
+          (joining-voices i (vs .local) (vs .remote) at given v _ (both-voices i (vs .local) (vs .remote) _ (placed-mute i (target at v) y)));
+      within = leaving-moves (fitted t) (isChoose at) false given i (target at v) y v _ (omega (arith, q .0)) (W .place i h)
+          (joining-moves at false given d i y v t _ T
+          (spoken-moves (fitted t) given d i (target at v) y (vs .local) (vs .remote) _ h (q .2)
+          (placed-moves (fitted t) given d i (target at v) y h))) .within;
+    }
+attempt-says AuditValue at given i vs t W j h p = record { voices = mute-voices i [] (λ k v. refl); within = tt }
+
 pub attempt-sound : (op : Op) (at : Context) (given i : ℕ) (vs : Values) (t : List ℕ) → Whole t → MayAttempt op at t → Meant op t i → Present given → InRange vs
-    → Passed (checks op at (look at i t)) → Leaves op (settled at (look at i t)) t (apply (changes op at given i vs (look at i t)) t)
-unfolding changes look inPlace apply
+    → Passed (checks op at i vs (look at i t)) → Leaves op (settled at (look at i t)) t (apply (changes op at given i vs (look at i t)) t)
+unfolding changes spoken look inPlace apply
 attempt-sound Add at given i vs t W j M G F p =
     let v : View = look at i t in
     let w : ℕ = added (fitted t) i (get t (cell (prop i))) in
-    let q = may-add at v p in
-    let T = targeted at i t W j (q .1) in
+    let q = may-add at i vs v p in
+    let T = targeted at i t W j (q .2) in
     let k : Bool = isEphemeral (fitted t) i in
     arrives Add at given 0 i (update vs w) t false k _ refl (λ c u k. k) W j T
-    (joining-moves at k given 0 i (update vs w) v t _ T (marking-moves (fitted t) given 0 i (target at v) (update vs w) 1 (M .small) (omega (arith, T .some))))
+    (joining-moves at k given 0 i (update vs w) v t _ T (marking-moves (fitted t) given 0 i (target at v) (update vs w) 1 _ (M .small) (omega (arith, T .some))
+    (spoken-moves (fitted t) given 0 i (target at v) (update vs w) (vs .local) (vs .remote) _ (M .small) (q .1) (placed-moves (fitted t) given 0 i (target at v) (update vs w) (M .small)))))
     (joined at given 0 i (target at v) (update vs w) t false k T G (M .small) (q .0) (λ z. omega (arith, T .some))
     (update-sound vs w F (added-sound (fitted t) i (get t (cell (prop i))) (W .word i (M .small)))) (λ z. absurd (omega arith)) (λ e h. absurd (no-line (fitted t) i e h)))
     false
     (joining-streams at given 0 (target at v) v (partedIn v) _ (T .some) (T .named)
-    (marking-streams 0 (target at v) (joinedIn v) (partedIn v) (fitted t) i 1 _ (placed-streams 0 (target at v) (joinedIn v) (partedIn v) i _ _)))
+    (marking-streams 0 (target at v) (joinedIn v) (partedIn v) (fitted t) i 1 _
+    (spoken-streams 0 (target at v) (joinedIn v) (partedIn v) i (vs .local) (vs .remote) _ (placed-streams 0 (target at v) (joinedIn v) (partedIn v) i _ _))))
     (record {
       shape-in = shape-joined _ _ _;
       fit-in = λ e. fit-joining at i t W (M .small) (target at v) T e;
@@ -429,29 +598,37 @@ attempt-sound Add at given i vs t W j M G F p =
       fit-out = λ e _. absurd (clash (sym e));
       last = λ _ z. absurd (omega arith);
     })
+    vs F (attempt-says Add at given i vs t W j (M .small) p .voices)
 attempt-sound Modify at given i vs t W j M G F p =
     let w : ℕ = get t (cell (prop i)) in
+    let o = may-modify at i vs (look at i t) p in
+    let ws : List Write = modifies i (vs .local) (vs .remote) (update vs w) in
+    let f = fitted-apply ws t in
     record {
-      whole = modified-sound t i (update vs w) W (M .small) (update-sound vs w F (W .word i (M .small))) (λ k z. absurd (absent-gone (fitted t) i (get t (ctx i)) k z (M .there refl)));
+      whole = modified-sound t i (vs .local) (vs .remote) (update vs w) W (M .small) o (update-sound vs w F (W .word i (M .small)))
+          (λ k z. absurd (absent-gone (fitted t) i (get t (ctx i)) k z (M .there refl)))
+          (λ k. given-says (get t (ctx i)) (get t (ctx i)) vs (nonzero (get t (ctx i)) (λ z. absent-gone (fitted t) i (get t (ctx i)) k z (M .there refl))) F);
       ready = tt;
-      meant = λ k m. record { small = rw (fitted-apply (write (cell (prop i)) (update vs w) ∷ []) t) (m .small); there = λ e. rw (fitted-apply (write (cell (prop i)) (update vs w) ∷ []) t, modified-place t i (update vs w) (W .long) (M .small) k (m .small)) (m .there e) };
+      meant = λ k m. record { small = rw f (m .small); there = λ e. rw (f, modified-place t i (vs .local) (vs .remote) (update vs w) (W .long) (M .small) o k (m .small)) (m .there e) };
     }
-attempt-sound Subtract (Numbered c) given i vs t W (stands h) M G F p = departs c given i t W h (M .small) (may-subtract (Numbered c) (look (Numbered c) i t) p)
+attempt-sound Subtract (Numbered c) given i vs t W (stands h) M G F p = departs c given i t W h (M .small) (may-subtract (Numbered c) i vs (look (Numbered c) i t) p)
 attempt-sound Move at given i vs t W j M G F p =
     let v : View = look at i t in
     let w : ℕ = get t (cell (prop i)) in
     let d : ℕ = get t (ctx i) in
-    let q = may-move at v p in
+    let q = may-move at i vs v p in
     let b : 0 < d = omega (arith, q .0) in
-    let T = targeted at i t W j (q .2) in
+    let T = targeted at i t W j (q .3) in
     arrives Move at given d i (update vs w) t (leb (seen d t .members) 1) false _ refl (λ c u k. k) W j T
     (leaving-moves (fitted t) (isChoose at) false given i (target at v) (update vs w) v _ b (W .place i (M .small))
-    (joining-moves at false given d i (update vs w) v t _ T (placed-moves (fitted t) given d i (target at v) (update vs w) (M .small))))
+    (joining-moves at false given d i (update vs w) v t _ T
+    (spoken-moves (fitted t) given d i (target at v) (update vs w) (vs .local) (vs .remote) _ (M .small) (q .2) (placed-moves (fitted t) given d i (target at v) (update vs w) (M .small)))))
     (joined at given d i (target at v) (update vs w) t (leb (seen d t .members) 1) false T G (M .small) refl (moved-away at i (target at v) t W T (M .small) b (q .1))
     (update-sound vs w F (W .word i (M .small))) (λ z. ap (λ (m : ℕ). leb m 1) (here-low i t W (M .small) z)) (λ _ _. b))
     (not (leb (seen d t .members) 1))
     (leaving-streams (not (isChoose at)) (target at v) v (joinedIn v) _ b
-    (joining-streams at given d (target at v) v (partedIn v) _ (T .some) (T .named) (placed-streams d (target at v) (joinedIn v) (partedIn v) i _ _)))
+    (joining-streams at given d (target at v) v (partedIn v) _ (T .some) (T .named)
+    (spoken-streams d (target at v) (joinedIn v) (partedIn v) i (vs .local) (vs .remote) _ (placed-streams d (target at v) (joinedIn v) (partedIn v) i _ _))))
     (record {
       shape-in = shape-joined _ _ _;
       fit-in = λ e. fit-joining at i t W (M .small) (target at v) T e;
@@ -460,6 +637,7 @@ attempt-sound Move at given i vs t W j M G F p =
       fit-out = λ _ _. fit-leaving at i t W (M .small) b;
       last = λ e _. last-leaving at i t W (M .small) b e;
     })
+    vs F (attempt-says Move at given i vs t W j (M .small) p .voices)
 attempt-sound AuditValue at given i vs t W j M G F p = record { whole = W; ready = tt; meant = λ k m. m }
 
 -- ---- the attempts of a command
@@ -470,7 +648,7 @@ pub effect-sound : (op : Op) (wild : Bool) (name : List ℕ) (given : ℕ) (vs :
 unfolding effect concluded apply
 effect-sound op wild name given vs i at t W r m G F =
     judged (λ (x : Checked). Leaves op (concluded op wild name given vs i at (look at i t) x .at) t (apply (concluded op wild name given vs i at (look at i t) x .writes) t))
-    (checks op at (look at i t)) (λ code. record { whole = W; ready = r; meant = λ j k. k })
+    (checks op at i vs (look at i t)) (λ code. record { whole = W; ready = r; meant = λ j k. k })
     (λ p. attempt-sound op at given i vs t W r m G F p)
 
 pub attempts-sound : (op : Op) (wild : Bool) (name : List ℕ) (given : ℕ) (vs : Values) (is : List ℕ) (at : Context) (st : State)

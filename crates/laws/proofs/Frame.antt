@@ -8,7 +8,7 @@ use mathlib.Core.List.{List, [], _∷_}
 use lib.ListN.{length}
 use lib.Dec.{eqb}
 use borrow.Author.Tests.{ne-eqb}
-use Rattle.megaco.specs.Table.{terminations, contexts, words, fitted, prop, rec, used, flow, Slot, ctx, cell, get, Write, write, store, apply}
+use Rattle.megaco.specs.Table.{terminations, contexts, words, fitted, prop, rec, used, flow, speech, Slot, ctx, cell, get, Write, write, store, apply}
 use Rattle.megaco.proofs.Sizes.{fitted-is}
 use Rattle.base.proofs.TestLaws.{pick-of}
 use Rattle.laws.specs.Slots.{Valid, held}
@@ -30,6 +30,7 @@ owner (cell (prop i)) = termination i
 owner (cell (rec c)) = context c
 owner (cell (used i)) = termination i
 owner (cell (flow k)) = context (k / 2 + 1)
+owner (cell (speech k)) = termination (k / 8)
 
 module _ (lines : ℕ) (N K : ℕ → Type 0) where
   abbrev pub Mine : Owner → Type 0

@@ -16,9 +16,11 @@ pub mod ApartTest
 pub mod Witness
 pub mod Needed
 pub mod Flows
+pub mod Sides
 pub mod Sound
 pub mod Moved
 pub mod Values
+pub mod SpeechSample
 pub mod Meant
 pub mod Attempts
 pub mod OneName
@@ -26,6 +28,7 @@ pub mod Linked
 pub mod Starts
 pub mod Runs
 pub mod Kept
+pub mod Speech
 pub mod Figure7
 pub mod Hears
 pub mod Hearing

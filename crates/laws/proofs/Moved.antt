@@ -10,15 +10,18 @@ use borrow.Author.Tests.{eqb-true, eq-eqb, ne-eqb, leb-true, leb-false}
 use native.Mathlib.Omega.{arith}
 use native.Mathlib.Decide.{ℕ-discrete}
 use Rattle.base.specs.Pick.{pick}
-use Rattle.megaco.specs.Table.{lineTerminations, terminations, contexts, words, fitted, most, prop, rec, used, flow, lowFlow, highFlow, ctx, cell, get, Write, write, apply, members}
+use Rattle.megaco.specs.Table.{lineTerminations, terminations, contexts, words, fitted, most, prop, rec, used, flow, speech, lowFlow, highFlow, speechWord, Slot, ctx, cell, get, Write, write, apply, members}
 use Rattle.megaco.specs.Square.{Square, lowOf, highOf}
-use Rattle.megaco.specs.Attempt.{flowing}
+use Rattle.megaco.specs.Attempt.{flowing, speaking}
+use Rattle.protocol.specs.Types.{Speech}
 use Rattle.megaco.proofs.Squares.{Shape}
 use Rattle.base.proofs.TestLaws.{pick-of}
-use Rattle.laws.specs.Sound.{Fit, SoundFlows, SoundWord, SoundRecord, Whole}
+use Rattle.laws.specs.Sound.{Fit, SoundFlows, SoundWord, SoundRecord, SoundSide, Whole}
+use Rattle.laws.specs.Slots.{Valid}
 use Rattle.laws.proofs.Slots.{length-apply, fitted-apply, holds, Within, get-apply, narrow-apply}
 use Rattle.laws.proofs.Counting.{one, members-same, members-moved}
 use Rattle.laws.proofs.Flows.{sound-packed}
+use Rattle.laws.proofs.Sides.{sideOf, sideWord, Voices, both-voices, Other, both-other, OnEphemeral, both-within, speech-there, MaySay, side-goes}
 
 -- the facts of a sound table, of what the words hold after writes
 pub record Lands (ws : List Write) (t : List ℕ) : Type 0 where
@@ -30,6 +33,10 @@ pub record Lands (ws : List Write) (t : List ℕ) : Type 0 where
   pub marked : (i : ℕ) → lineTerminations (fitted t) ≤ i → i < terminations (fitted t) → holds ws (cell (used i)) (get t (cell (used i))) ≡ min (holds ws (ctx i) (get t (ctx i))) 1
   pub flows : (c : ℕ) → 0 < c → c ≤ contexts
       → SoundFlows (holds ws (cell (flow (lowFlow c))) (get t (cell (flow (lowFlow c))))) (holds ws (cell (flow (highFlow c))) (get t (cell (flow (highFlow c))))) (members c (apply ws t))
+  pub speech : (i side : ℕ) → lineTerminations (fitted t) ≤ i → i < terminations (fitted t) → side < 2
+      → SoundSide (holds ws (ctx i) (get t (ctx i)))
+      (holds ws (cell (speech (speechWord i side 0))) (get t (cell (speech (speechWord i side 0))))) (holds ws (cell (speech (speechWord i side 1))) (get t (cell (speech (speechWord i side 1)))))
+      (holds ws (cell (speech (speechWord i side 2))) (get t (cell (speech (speechWord i side 2))))) (holds ws (cell (speech (speechWord i side 3))) (get t (cell (speech (speechWord i side 3)))))
 
 pub landed : (ws : List Write) (t : List ℕ) → Whole t → Lands ws t → Whole (apply ws t)
 landed ws t W a =
@@ -47,6 +54,16 @@ landed ws t W a =
       held = λ c p q. rw (get-apply n ws (cell (rec c)) t (a .within) (p, q) l) (a .held c p q);
       marked = λ i k h. get-apply n ws (cell (used i)) t (a .within) (rw f at k, b i h) l ∙ rw (get-apply n ws (ctx i) t (a .within) (b i h) l) (a .marked i (rw f at k) (b i h));
       flows = λ c p q. rw (get-apply n ws (cell (flow (lowFlow c))) t (a .within) (omega arith) l, get-apply n ws (cell (flow (highFlow c))) t (a .within) (omega arith) l) (a .flows c p q);
+      speech = λ i side k h s.
+          let v : (j : ℕ) → j < 4 → Valid n (cell (speech (speechWord i side j))) = λ j q. speech-there n i side j (rw f at k) (b i h) s q in
+          rw (
+            get-apply n ws (ctx i) t (a .within) (b i h) l,
+            get-apply n ws (cell (speech (speechWord i side 0))) t (a .within) (v 0 (omega arith)) l,
+            get-apply n ws (cell (speech (speechWord i side 1))) t (a .within) (v 1 (omega arith)) l,
+            get-apply n ws (cell (speech (speechWord i side 2))) t (a .within) (v 2 (omega arith)) l,
+            get-apply n ws (cell (speech (speechWord i side 3))) t (a .within) (v 3 (omega arith)) l,
+          )
+          (a .speech i side (rw f at k) (b i h) s);
       narrow = λ k h. rw f (narrow-apply n ws t (a .within) l (W .narrow) k h);
     }
 
@@ -173,49 +190,93 @@ module _ (t : List ℕ) (new last mark : Bool) (g d i x y : ℕ) (ws : List Writ
         let m : members c t ≡ n = omega (arith, k) in
         subst (SoundFlows (get t (cell (flow (lowFlow c)))) (get t (cell (flow (highFlow c))))) m (W .flows c p q)
 
-    pub moved-sound : Whole (apply ws t)
-    moved-sound =
-        landed ws t W
-        (record {
-          within = M .within;
-          place = λ j h. rw (M .context j (get t (ctx j))) (pick-of (λ (z : ℕ). z ≤ contexts) (eqb i j) (λ _. G .low) (λ _. W .place j h));
-          word = λ j h. rw (M .property j (get t (cell (prop j)))) (pick-of SoundWord (eqb i j) (λ _. G .word) (λ _. W .word j h));
-          absent = λ j k h. rw (M .context j (get t (ctx j)), M .property j (get t (cell (prop j)))) (moved-absent j k h (eqb i j) refl);
-          held = λ c p q. rw (M .record′ c (get t (cell (rec c))))
-              (moved-record c (members c (apply ws t)) p q new last (eqb x c) (eqb d c) refl refl refl refl (moved-members c));
-          marked = λ j k h. rw (M .place j (get t (cell (used j))), M .context j (get t (ctx j))) (moved-mark j k h mark (eqb i j) refl refl);
-          flows = λ c p q. rw (S .low c (get t (cell (flow (lowFlow c)))) p, S .high c (get t (cell (flow (highFlow c)))) p)
-              (moved-flows c (members c (apply ws t)) p q joins parts (eqb x c) (eqb d c) refl refl refl refl (moved-members c));
-        })
+    -- what is said of Local and of Remote
+    module _ (l r : Speech) (X : Voices i l r ws) (Y : lineTerminations (fitted t) ≤ i → (side : ℕ) → side < 2 → MaySay d x (sideOf side l r)) where
+      moved-side : (j side : ℕ) → lineTerminations (fitted t) ≤ j → j < terminations (fitted t) → side < 2 → (b : Bool) → eqb i j ≡ b
+          → let w : ℕ → ℕ = λ m. get t (cell (speech (speechWord j side m))) in let u : ℕ → ℕ = λ m. pick b (sideWord (sideOf side l r) m (w m)) (w m) in
+          SoundSide (pick b x (get t (ctx j))) (u 0) (u 1) (u 2) (u 3)
+      unfolding pick
+      moved-side j side k h s true e =
+          let z : i ≡ j = eqb-true i j e in
+          let o : get t (ctx j) ≡ d = subst (λ (m : ℕ). get t (ctx m) ≡ d) z (G .from) in
+          side-goes d x _ _ _ _ (sideOf side l r) (Y (omega (arith, z)) side s)
+          (subst (λ (m : ℕ). SoundSide m (get t (cell (speech (speechWord j side 0)))) (get t (cell (speech (speechWord j side 1)))) (get t (cell (speech (speechWord j side 2)))) (get t (cell (speech (speechWord j side 3))))) o
+          (W .speech j side k h s))
+      moved-side j side k h s false e = W .speech j side k h s
+
+      pub moved-sound : Whole (apply ws t)
+      moved-sound =
+          landed ws t W
+          (record {
+            within = M .within;
+            place = λ j h. rw (M .context j (get t (ctx j))) (pick-of (λ (z : ℕ). z ≤ contexts) (eqb i j) (λ _. G .low) (λ _. W .place j h));
+            word = λ j h. rw (M .property j (get t (cell (prop j)))) (pick-of SoundWord (eqb i j) (λ _. G .word) (λ _. W .word j h));
+            absent = λ j k h. rw (M .context j (get t (ctx j)), M .property j (get t (cell (prop j)))) (moved-absent j k h (eqb i j) refl);
+            held = λ c p q. rw (M .record′ c (get t (cell (rec c))))
+                (moved-record c (members c (apply ws t)) p q new last (eqb x c) (eqb d c) refl refl refl refl (moved-members c));
+            marked = λ j k h. rw (M .place j (get t (cell (used j))), M .context j (get t (ctx j))) (moved-mark j k h mark (eqb i j) refl refl);
+            flows = λ c p q. rw (S .low c (get t (cell (flow (lowFlow c)))) p, S .high c (get t (cell (flow (highFlow c)))) p)
+                (moved-flows c (members c (apply ws t)) p q joins parts (eqb x c) (eqb d c) refl refl refl refl (moved-members c));
+            speech = λ j side k h s.
+                let w : ℕ → ℕ = λ m. get t (cell (speech (speechWord j side m))) in
+                rw (M .context j (get t (ctx j)), X .said j side 0 (w 0) s (omega arith), X .said j side 1 (w 1) s (omega arith), X .said j side 2 (w 2) s (omega arith), X .said j side 3 (w 3) s (omega arith))
+                (moved-side j side k h s (eqb i j) refl);
+          })
 
 -- ---- a word alone changes
 
--- a property: no termination goes
-pub modified-place : (t : List ℕ) (i y : ℕ) → length t ≡ words (fitted t) → i < terminations (fitted t) → (j : ℕ) → j < terminations (fitted t)
-    → get (apply (write (cell (prop i)) y ∷ []) t) (ctx j) ≡ get t (ctx j)
-unfolding pick
-modified-place t i y l b j h = get-apply (fitted t) (write (cell (prop i)) y ∷ []) (ctx j) t (b, tt) h l
+-- a property and what is said of Local and Remote: no termination goes
+abbrev pub modifies : ℕ → Speech → Speech → ℕ → List Write
+modifies i l r y = speaking i 0 l (speaking i 1 r (write (cell (prop i)) y ∷ []))
 
-pub modified-sound : (t : List ℕ) (i y : ℕ) → Whole t → i < terminations (fitted t) → SoundWord y → (lineTerminations (fitted t) ≤ i → get t (ctx i) ≡ 0 → y ≡ 0)
-    → Whole (apply (write (cell (prop i)) y ∷ []) t)
+pub modified-place : (t : List ℕ) (i : ℕ) (l r : Speech) (y : ℕ) → length t ≡ words (fitted t) → i < terminations (fitted t) → OnEphemeral (fitted t) i l r
+    → (j : ℕ) → j < terminations (fitted t) → get (apply (modifies i l r y) t) (ctx j) ≡ get t (ctx j)
 unfolding pick
-modified-sound t i y W b s a =
+modified-place t i l r y n b o j h =
+    get-apply (fitted t) (modifies i l r y) (ctx j) t (both-within (fitted t) i l r _ b o (b, tt)) h n ∙ both-other i l r _ (ctx j) (get t (ctx j)) tt
+
+pub modified-sound : (t : List ℕ) (i : ℕ) (l r : Speech) (y : ℕ) → Whole t → i < terminations (fitted t) → OnEphemeral (fitted t) i l r → SoundWord y
+    → (lineTerminations (fitted t) ≤ i → get t (ctx i) ≡ 0 → y ≡ 0)
+    → (lineTerminations (fitted t) ≤ i → (side : ℕ) → side < 2 → MaySay (get t (ctx i)) (get t (ctx i)) (sideOf side l r))
+    → Whole (apply (modifies i l r y) t)
+unfolding pick
+modified-sound t i l r y W b o s a m =
     landed ws t W
     (record {
-      within = (b, tt);
-      place = W .place;
-      word = λ j h. pick-of SoundWord (eqb i j) (λ _. s) (λ _. W .word j h);
-      absent = λ j k h z. pick-of (λ (v : ℕ). v ≡ 0) (eqb i j) (λ e. let n : i ≡ j = eqb-true i j e in a (omega arith) (rw n z)) (λ _. W .absent j k h z);
-      held = λ c p q. rw (same c) (W .held c p q);
-      marked = W .marked;
-      flows = λ c p q. rw (same c) (W .flows c p q);
+      within = both-within (fitted t) i l r _ b o (b, tt);
+      place = λ j h. rw (other (ctx j) _ tt) (W .place j h);
+      word = λ j h. rw (other (cell (prop j)) _ tt) (pick-of SoundWord (eqb i j) (λ _. s) (λ _. W .word j h));
+      absent = λ j k h. rw (other (ctx j) (get t (ctx j)) tt, other (cell (prop j)) (get t (cell (prop j))) tt)
+          (λ z. pick-of (λ (v : ℕ). v ≡ 0) (eqb i j) (λ e. let n : i ≡ j = eqb-true i j e in a (omega arith) (rw n z)) (λ _. W .absent j k h z));
+      held = λ c p q. rw (same c, other (cell (rec c)) (get t (cell (rec c))) tt) (W .held c p q);
+      marked = λ j k h. rw (other (ctx j) (get t (ctx j)) tt, other (cell (used j)) (get t (cell (used j))) tt) (W .marked j k h);
+      flows = λ c p q. rw (same c, other (cell (flow (lowFlow c))) (get t (cell (flow (lowFlow c)))) tt, other (cell (flow (highFlow c))) (get t (cell (flow (highFlow c)))) tt) (W .flows c p q);
+      speech = λ j side k h u.
+          let w : ℕ → ℕ = λ x. get t (cell (speech (speechWord j side x))) in
+          rw (other (ctx j) (get t (ctx j)) tt, X .said j side 0 (w 0) u (omega arith), X .said j side 1 (w 1) u (omega arith), X .said j side 2 (w 2) u (omega arith), X .said j side 3 (w 3) u (omega arith))
+          (sides j side k h u (eqb i j) refl);
     })
   where
     ws : List Write
-    ws = write (cell (prop i)) y ∷ []
+    ws = modifies i l r y
+
+    X : Voices i l r ws
+    X = both-voices i l r _ (λ k v. refl)
+
+    other : (x : Slot) (v : ℕ) → Other x → holds ws x v ≡ holds (write (cell (prop i)) y ∷ []) x v
+    other x v = both-other i l r _ x v
 
     same : (c : ℕ) → members c (apply ws t) ≡ members c t
-    same c = members-same c t (apply ws t) (length-apply ws t) (modified-place t i y (W .long) b)
+    same c = members-same c t (apply ws t) (length-apply ws t) (modified-place t i l r y (W .long) b o)
+
+    sides : (j side : ℕ) → lineTerminations (fitted t) ≤ j → j < terminations (fitted t) → side < 2 → (e : Bool) → eqb i j ≡ e
+        → let w : ℕ → ℕ = λ x. get t (cell (speech (speechWord j side x))) in let u : ℕ → ℕ = λ x. pick e (sideWord (sideOf side l r) x (w x)) (w x) in
+        SoundSide (get t (ctx j)) (u 0) (u 1) (u 2) (u 3)
+    sides j side k h u true e =
+        let z : i ≡ j = eqb-true i j e in
+        let d : MaySay (get t (ctx j)) (get t (ctx j)) (sideOf side l r) = subst (λ (x : ℕ). MaySay (get t (ctx x)) (get t (ctx x)) (sideOf side l r)) z (m (omega (arith, z)) side u) in
+        side-goes (get t (ctx j)) (get t (ctx j)) _ _ _ _ (sideOf side l r) d (W .speech j side k h u)
+    sides j side k h u false e = W .speech j side k h u
 
 pub recorded-members : (t : List ℕ) (c r e : ℕ) → Whole t → 0 < c → c ≤ contexts → members e (apply (write (cell (rec c)) r ∷ []) t) ≡ members e t
 unfolding pick
@@ -237,6 +298,7 @@ recorded-sound t c r W p q h k l =
       held = λ e u v. rw (same e) (pick-of (λ (z : ℕ). SoundRecord z (members e t)) (eqb c e) (λ n. by e (eqb-true c e n) (W .held e u v)) (λ _. W .held e u v));
       marked = W .marked;
       flows = λ e u v. rw (same e) (W .flows e u v);
+      speech = W .speech;
     })
   where
     ws : List Write
@@ -282,6 +344,7 @@ flowed-sound t c q W p l s f =
       held = λ e u v. rw (same e) (W .held e u v);
       marked = W .marked;
       flows = λ e u v. rw (same e, low-low c e p u, high-low c e, low-high c e, high-high c e p u) (by e (eqb c e) refl (W .flows e u v));
+      speech = W .speech;
     })
   where
     ws : List Write

@@ -11,7 +11,7 @@ use borrow.Author.Tests.{eqb-true, eq-eqb}
 use native.Mathlib.Omega.{arith}
 use native.Mathlib.Decide.{ℕ-discrete}
 use Rattle.base.specs.Pick.{pick}
-use Rattle.megaco.specs.Table.{lineTerminations, regions, onward, total, place, mapStart, words, fitted, prop, rec, used, flow, Slot, ctx, cell, regionOf, wordOf, address, slotValue, kept, get, Write, write, store, apply}
+use Rattle.megaco.specs.Table.{lineTerminations, regions, onward, total, place, mapStart, words, fitted, prop, rec, used, flow, speech, Slot, ctx, cell, regionOf, wordOf, address, slotValue, kept, get, Write, write, store, apply}
 use Rattle.megaco.proofs.Sizes.{fitted-is, fitted-same}
 use Rattle.megaco.proofs.Regions.{onward-on, place-is}
 use Rattle.megaco.proofs.Places.{digit-same, digit-other, digit-comm, with-below}
@@ -27,6 +27,7 @@ word-below n (cell (prop i)) h = h
 word-below n (cell (rec c)) h = omega arith
 word-below n (cell (used i)) h = omega arith
 word-below n (cell (flow k)) h = h
+word-below n (cell (speech k)) h = omega arith
 
 -- which of its kind a slot is, and the slot of a kind
 abbrev index : Slot → ℕ
@@ -35,13 +36,15 @@ index (cell (prop i)) = i
 index (cell (rec c)) = c
 index (cell (used i)) = i
 index (cell (flow k)) = k
+index (cell (speech k)) = k
 
 abbrev slotOf : ℕ → ℕ → Slot
 slotOf zero i = ctx i
 slotOf (suc zero) i = cell (prop i)
 slotOf (suc (suc zero)) c = cell (rec c)
 slotOf (suc (suc (suc zero))) i = cell (used i)
-slotOf (suc (suc (suc (suc j)))) k = cell (flow k)
+slotOf (suc (suc (suc (suc zero)))) k = cell (flow k)
+slotOf (suc (suc (suc (suc (suc j))))) k = cell (speech k)
 
 slot-of : (s : Slot) → slotOf (regionOf s) (index s) ≡ s
 slot-of (ctx i) = refl
@@ -49,6 +52,7 @@ slot-of (cell (prop i)) = refl
 slot-of (cell (rec c)) = refl
 slot-of (cell (used i)) = refl
 slot-of (cell (flow k)) = refl
+slot-of (cell (speech k)) = refl
 
 -- an address tells its region and the word there
 place-tells : (rs : List ℕ) (k j a b : ℕ) → a < getD rs k 0 → b < getD rs j 0 → place k rs a ≡ place j rs b → (k ≡ j) × (a ≡ b)
@@ -65,6 +69,7 @@ word-tells n (ctx i) j h k d e = absurd (d (ap ctx e))
 word-tells n (cell (prop i)) j h k d e = absurd (d (ap (λ (x : ℕ). cell (prop x)) e))
 word-tells n (cell (rec c)) j h k d e = absurd (d (let q : c ≡ j = omega (arith, e) in ap (λ (x : ℕ). cell (rec x)) q))
 word-tells n (cell (flow i)) j h k d e = absurd (d (ap (λ (x : ℕ). cell (flow x)) e))
+word-tells n (cell (speech i)) j h k d e = absurd (d (let q : i ≡ j = omega (arith, e) in ap (λ (x : ℕ). cell (speech x)) q))
 word-tells n (cell (used i)) j h k d e = both {i = i} {j = j} (λ z. d (let q : i ≡ j = omega (arith, e, z) in ap (λ (x : ℕ). cell (used x)) q))
 
 pub shared : (n : ℕ) (s r : Slot) → Valid n s → Valid n r → s ≢ r → address n s ≡ address n r → Shared n s r
@@ -78,6 +83,7 @@ value-kept n (ctx i) v word = refl
 value-kept n (cell (prop i)) v word = refl
 value-kept n (cell (rec c)) v word = refl
 value-kept n (cell (flow k)) v word = refl
+value-kept n (cell (speech k)) v word = refl
 value-kept n (cell (used i)) v word = digit-same ((i - lineTerminations n) % 32) (v % 2) word (omega arith) (omega arith)
 
 -- slots that share a word: the one tells nothing of the other, and they may be put in either order

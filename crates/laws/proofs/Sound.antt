@@ -11,15 +11,16 @@ use native.Mathlib.Nat.{add-zero}
 use native.Mathlib.Omega.{arith}
 use Rattle.base.specs.Pick.{pick}
 use Rattle.base.specs.Lists.{every, count, same, lowestAbsent}
-use Rattle.megaco.specs.Table.{lineTerminations, ephemerals, terminations, contexts, words, mostLines, fitted, Sized, most, mapStart, prop, rec, used, flow, lowFlow, highFlow, ctx, cell, regions, place, get, mapWords, places, freeEphemeral, usedEphemerals, contextWords, propertyWords, recordWords, flowWords, ephemeralContexts, ephemeralProperties, members, modeOf, stateOf, isPropertyWord, absentAreZero, recordIsSound, recordsAreSound, sized, mapIsSound, flowsAreSound, sound}
-use Rattle.megaco.proofs.Regions.{place-is, context-region, property-region, record-region, map-region, flow-region}
+use Rattle.megaco.specs.Table.{lineTerminations, ephemerals, terminations, contexts, words, mostLines, fitted, Sized, most, mapStart, prop, rec, used, flow, speech, lowFlow, highFlow, speechWord, ctx, cell, regions, place, get, mapWords, places, freeEphemeral, usedEphemerals, contextWords, propertyWords, recordWords, flowWords, ephemeralContexts, ephemeralProperties, members, modeOf, stateOf, isPropertyWord, absentAreZero, recordIsSound, recordsAreSound, sized, mapIsSound, flowsAreSound, speechWords, sideIsSound, speechIsSound, sound}
+use Rattle.megaco.proofs.Regions.{place-is, context-region, property-region, record-region, map-region, flow-region, speech-region}
 use Rattle.megaco.specs.Square.{bits, rows, squareOf, mayFlow, rowIsSound, rowsAreSound, squareIsSound}
 use Rattle.megaco.specs.Map.{digits, digit, marks, inUse}
 use Rattle.megaco.proofs.Places.{length-digits, digits-joined, length-marks, marks-at, same-at, walk-marks, count-marks}
 use Rattle.base.proofs.TestLaws.{clash, same-is, and-both, both-and, pick-both, both-pick, pick-other, other-pick, below, below-at}
 use Rattle.megaco.proofs.Sizes.{sized-is, is-sized}
-use Rattle.laws.specs.Sound.{SoundFlows, SoundWord, SoundRecord, Whole}
+use Rattle.laws.specs.Sound.{SoundFlows, SoundWord, SoundRecord, SoundSide, Whole}
 use Rattle.laws.proofs.Flows.{flows-sound, sound-flows}
+use Rattle.laws.proofs.Sides.{SideIn, speech-at, at-speech}
 
 -- ---- facts
 
@@ -179,6 +180,14 @@ map-word-at t = map-region t .from
 flow-at : (t : List ℕ) (k : ℕ) → k < 2 * contexts → getD (flowWords t) k 0 ≡ get t (cell (flow k))
 flow-at t = flow-region t .stands
 
+-- a word of ephemeral j's speech
+pub side-at : (t : List ℕ) (j side m : ℕ) → j < ephemerals → side < 2 → m < 4
+    → getD (speechWords t) (speechWord j side m) 0 ≡ get t (cell (speech (speechWord (lineTerminations (fitted t) + j) side m)))
+side-at t j side m h s o =
+    let k : ℕ = speechWord (lineTerminations (fitted t) + j) side m in
+    let n : speechWord j side m ≡ 8 * (k / 8 - lineTerminations (fitted t)) + k % 8 = omega arith in
+    speech-region t .stands (speechWord j side m) (omega arith) ∙ ap (λ (x : ℕ). getD t (place 5 (regions (fitted t)) x) 0) n
+
 pub ephemeral-context-at : (t : List ℕ) (k : ℕ) → k < ephemerals → getD (ephemeralContexts t) k 0 ≡ get t (ctx (lineTerminations (fitted t) + k))
 unfolding ephemeralContexts
 ephemeral-context-at t k h = getD-drop (lineTerminations (fitted t)) (contextWords t) k 0 ∙ context-at t (lineTerminations (fitted t) + k) (omega arith)
@@ -189,8 +198,8 @@ ephemeral-property-at t k h = getD-drop (lineTerminations (fitted t)) (propertyW
 
 -- ---- the test of a table
 
--- the eight tests of `sound`, one by one
-record EightTests (t : List ℕ) : Type 0 where
+-- the nine tests of `sound`, one by one
+record NineTests (t : List ℕ) : Type 0 where
   size : sized t ≡ true
   stand : every (λ w. leb w contexts) (contextWords t) ≡ true
   properties : every isPropertyWord (propertyWords t) ≡ true
@@ -199,22 +208,24 @@ record EightTests (t : List ℕ) : Type 0 where
   map : same (places t) (marks (ephemeralContexts t)) ≡ true
   narrow : every (λ w. ltb w (2 ^ 32)) (mapWords t) ≡ true
   flows : flowsAreSound (contextWords t) 1 (flowWords t) ≡ true
+  speech : speechIsSound (ephemeralContexts t) (speechWords t) ≡ true
 
-sound-tests : (t : List ℕ) → sound t ≡ true → EightTests t
+sound-tests : (t : List ℕ) → sound t ≡ true → NineTests t
 unfolding sound mapIsSound
 sound-tests t e =
-    let b₀ = and-both _ _ e in
+    let a = and-both _ _ e in
+    let b₀ = and-both _ _ (a .0) in
     let b₁ = and-both _ _ (b₀ .0) in
     let b₂ = and-both _ _ (b₁ .0) in
     let b₃ = and-both _ _ (b₂ .0) in
     let b₄ = and-both _ _ (b₃ .0) in
     let b₅ = and-both _ _ (b₄ .0) in
     let m = and-both _ _ (b₁ .1) in
-    record { size = b₅ .0; stand = b₅ .1; properties = b₄ .1; absents = b₃ .1; records = b₂ .1; map = m .1; narrow = m .0; flows = b₀ .1 }
+    record { size = b₅ .0; stand = b₅ .1; properties = b₄ .1; absents = b₃ .1; records = b₂ .1; map = m .1; narrow = m .0; flows = b₀ .1; speech = a .1 }
 
-tests-sound : (t : List ℕ) → EightTests t → sound t ≡ true
+tests-sound : (t : List ℕ) → NineTests t → sound t ≡ true
 unfolding sound mapIsSound
-tests-sound t s = rw (s .size, s .stand, s .properties, s .absents, s .records, s .narrow, s .map, s .flows)
+tests-sound t s = rw (s .size, s .stand, s .properties, s .absents, s .records, s .narrow, s .map, s .flows, s .speech)
 
 -- ---- the places of the map
 
@@ -261,9 +272,9 @@ mark-is (suc x) = rw (ne-eqb (suc x) 0 (λ e. omega (arith, e))) (omega arith)
 
 pub sound-whole : (t : List ℕ) → sound t ≡ true → Whole t
 unfolding members
-sound-whole t e = record { some = size .some; few = size .few; long = long; place = place; word = word; absent = absent; held = held; marked = marked; flows = flows; narrow = narrow }
+sound-whole t e = record { some = size .some; few = size .few; long = long; place = place; word = word; absent = absent; held = held; marked = marked; flows = flows; speech = speech′; narrow = narrow }
   where
-    s : EightTests t
+    s : NineTests t
     s = sound-tests t e
 
     size : Sized t
@@ -301,6 +312,17 @@ sound-whole t e = record { some = size .some; few = size .few; long = long; plac
         rw (flow-at t (2 * (c - 1)) (omega arith), flow-at t (2 * (c - 1) + 1) (omega arith), n)
         at (flows-at (contextWords t) 1 (flowWords t) (s .flows) (c - 1) (omega (arith, flow-words t long)))
 
+    speech′ : (i side : ℕ) → lineTerminations (fitted t) ≤ i → i < terminations (fitted t) → side < 2
+        → SoundSide (get t (ctx i)) (get t (cell (speech (speechWord i side 0)))) (get t (cell (speech (speechWord i side 1)))) (get t (cell (speech (speechWord i side 2)))) (get t (cell (speech (speechWord i side 3))))
+    speech′ i side k h o =
+        let j : ℕ = i - lineTerminations (fitted t) in
+        let n : i ≡ lineTerminations (fitted t) + j = omega arith in
+        let b : j < ephemerals = omega arith in
+        let f = speech-at (ephemeralContexts t) (speechWords t) (s .speech) j side (omega (arith, ephemeral-contexts t long)) o in
+        rw n
+        (rw (ephemeral-context-at t j b, side-at t j side 0 b o (omega arith), side-at t j side 1 b o (omega arith), side-at t j side 2 b o (omega arith), side-at t j side 3 b o (omega arith))
+        at f)
+
     narrow : (k : ℕ) → k < 2 → getD t (mapStart (fitted t) + k) 0 < 2 ^ 32
     narrow k h = ltb-true _ _ (rw (map-word-at t k h) at (every-at (λ w. ltb w (2 ^ 32)) (mapWords t) (s .narrow) k (omega (arith, map-words t long))))
 
@@ -326,6 +348,7 @@ whole-sound t w =
       map = same-at (places t) (marks (ephemeralContexts t)) (places-long t ∙ sym (length-marks (ephemeralContexts t) ∙ ephemeral-contexts t (w .long))) marked;
       narrow = at-every (λ x. ltb x (2 ^ 32)) (mapWords t) narrow;
       flows = at-flows (contextWords t) 1 (flowWords t) contexts (flow-words t (w .long)) flows;
+      speech = at-speech (ephemeralContexts t) (speechWords t) speech′;
     })
   where
     place : (i : ℕ) → i < length (contextWords t) → leb (getD (contextWords t) i 0) contexts ≡ true
@@ -353,6 +376,12 @@ whole-sound t w =
         let b : 2 * i + 1 < 2 * contexts = omega (arith, flow-words t (w .long)) in
         let n : 1 + i - 1 ≡ i = omega arith in
         rw (flow-at t (2 * i) (omega arith), flow-at t (2 * i + 1) b) (rw n at (w .flows (1 + i) (omega arith) (omega arith)))
+
+    speech′ : (i side : ℕ) → i < length (ephemeralContexts t) → side < 2 → SideIn (getD (ephemeralContexts t) i 0) (speechWords t) i side
+    speech′ i side h o =
+        let b : i < ephemerals = omega (arith, ephemeral-contexts t (w .long)) in
+        rw (ephemeral-context-at t i b, side-at t i side 0 b o (omega arith), side-at t i side 1 b o (omega arith), side-at t i side 2 b o (omega arith), side-at t i side 3 b o (omega arith))
+        (w .speech (lineTerminations (fitted t) + i) side (omega arith) (omega arith) o)
 
     narrow : (k : ℕ) → k < length (mapWords t) → ltb (getD (mapWords t) k 0) (2 ^ 32) ≡ true
     narrow k h = let b : k < 2 = omega (arith, map-words t (w .long)) in rw (map-word-at t k b) (lt-ltb _ _ (w .narrow k b))
@@ -388,7 +417,7 @@ module _ (t : List ℕ) (e : sound t ≡ true) (low high : ℕ) (p : low ≡ get
 
 -- "All zero is the fresh table", of any count of lines: one test computed over all of them
 fresh-all : below (λ k. sound (replicate (words (k + 1)) 0)) mostLines ≡ true
-unfolding below flowWords flowsAreSound squareIsSound rowsAreSound rowIsSound mayFlow squareOf rows bits fitted sized sound contextWords propertyWords recordWords ephemeralContexts ephemeralProperties mapWords places digits marks same mapIsSound every isPropertyWord absentAreZero recordIsSound recordsAreSound count pick
+unfolding below speechWords speechIsSound sideIsSound flowWords flowsAreSound squareIsSound rowsAreSound rowIsSound mayFlow squareOf rows bits fitted sized sound contextWords propertyWords recordWords ephemeralContexts ephemeralProperties mapWords places digits marks same mapIsSound every isPropertyWord absentAreZero recordIsSound recordsAreSound count pick
 fresh-all = refl
 
 pub fresh-sound : (n : ℕ) → 0 < n → n ≤ mostLines → sound (replicate (words n) 0) ≡ true

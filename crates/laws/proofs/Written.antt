@@ -1,23 +1,24 @@
 -- What an attempt, or an action's start, writes lies in its footprint.
-use Prim.Native.Nat.{ℕ, _<_}
-use mathlib.Core.Path.{_≡_, refl}
+use Prim.Native.Nat.{ℕ, _/_, _≤_, _<_}
+use mathlib.Core.Path.{_≡_, refl, sym, subst}
 use mathlib.Core.Bool.{Bool, true, false}
 use mathlib.Core.List.{List, []}
 use lib.Dec.{eqb, leb}
 use borrow.Author.Tests.{eqb-true, eqb-false, leb-true, not-false}
 use native.Mathlib.Omega.{arith}
 use Rattle.base.specs.Pick.{pick}
-use Rattle.megaco.specs.Table.{lineTerminations, prop, rec, flow, lowFlow, highFlow, ctx, cell, Write, isEphemeral}
+use Rattle.megaco.specs.Table.{lineTerminations, terminations, prop, rec, flow, speech, lowFlow, highFlow, speechWord, ctx, cell, Write, isEphemeral}
 use Rattle.megaco.specs.Tree.{Property}
 use Rattle.megaco.specs.Square.{Square}
 use Rattle.megaco.specs.Topology.{anyTopology, Link}
-use Rattle.megaco.specs.Attempt.{seen, numberOf, isChoose, target, checks, flowing, joining, leaving, placed, marking, changes, settled, Effect, concluded, effect}
+use Rattle.megaco.specs.Attempt.{seen, numberOf, isChoose, target, checks, flowing, joining, leaving, placed, marking, speaks, onLine, sideWrites, speaking, spoken, forgetting, changes, settled, Effect, concluded, effect}
 use Rattle.megaco.specs.Command.{isNull, inPlace, forbiddenInNull, noContext}
 use Rattle.megaco.specs.Action.{anyGiven, startChecks, flowWrites, startWrites, Start, startedBy, started}
-use Rattle.protocol.specs.Types.{Context, Null, Numbered, Choose, All, Op, Add, Modify, Subtract, Move, AuditValue, Checked, Values, Seen, View}
+use Rattle.protocol.specs.Types.{Context, Null, Numbered, Choose, All, Op, Add, Modify, Subtract, Move, AuditValue, Checked, Speech, Kept, Released, Session, Values, Seen, View}
 use Rattle.base.proofs.TestLaws.{clash, and-false}
 use Rattle.laws.specs.Passed.{Passed}
 use Rattle.laws.proofs.Passed.{judged}
+use Rattle.laws.proofs.Sides.{OnEphemeral, on-ephemeral, speech-there}
 use Rattle.laws.proofs.Frame.{Ours, AllOurs, nothing, also, Foot}
 use Rattle.laws.proofs.Views.{known-above, held-known, Seat, low-there, low-mine, high-there, high-mine}
 
@@ -78,6 +79,41 @@ module _ (lines : ℕ) (N K : ℕ → Type 0) where
     marking-all n i d ws f m a =
         pick-all (isEphemeral n i) _ ws (λ e. also (record { valid = (rw (← f) (leb-true (lineTerminations n) i e), F .small i m); mine = m; fits = tt }) a) a
 
+    -- the words of an ephemeral's speech
+    ours-speech : (i side j v : ℕ) → N i → lineTerminations lines ≤ i → side < 2 → j < 4 → Ours lines N K (cell (speech (speechWord i side j))) v
+    ours-speech i side j v m h s k =
+        let e : i ≡ speechWord i side j / 8 = omega arith in
+        record { valid = speech-there lines i side j h (F .small i m) s k; mine = subst N e m; fits = tt }
+
+    side-all : (i side f a p k : ℕ) (ws : List Write) → N i → lineTerminations lines ≤ i → side < 2 → AllOurs lines N K ws → AllOurs lines N K (sideWrites i side f a p k ws)
+    unfolding sideWrites
+    side-all i side f a p k ws m h s q =
+        also (ours-speech i side 0 f m h s (omega arith)) (also (ours-speech i side 1 a m h s (omega arith))
+        (also (ours-speech i side 2 p m h s (omega arith)) (also (ours-speech i side 3 k m h s (omega arith)) q)))
+
+    speaking-all : (i side : ℕ) (x : Speech) (ws : List Write) → N i → (speaks x ≡ true → lineTerminations lines ≤ i) → side < 2 → AllOurs lines N K ws → AllOurs lines N K (speaking i side x ws)
+    unfolding speaking speaks
+    speaking-all i side Kept ws m h s q = q
+    speaking-all i side Released ws m h s q = side-all i side 0 0 0 0 ws m (h refl) s q
+    speaking-all i side (Session a p k) ws m h s q = side-all i side 1 a p k ws m (h refl) s q
+
+    -- what Local and Remote say of an ephemeral
+    spoken-all : (n i : ℕ) (vs : Values) (ws : List Write) → n ≡ lines → N i → OnEphemeral n i (vs .local) (vs .remote) → AllOurs lines N K ws → AllOurs lines N K (spoken i vs ws)
+    unfolding spoken
+    spoken-all n i vs ws f m o a =
+        let l : speaks (vs .local) ≡ true → lineTerminations lines ≤ i = λ e. rw (← f) (o .local e) in
+        let r : speaks (vs .remote) ≡ true → lineTerminations lines ≤ i = λ e. rw (← f) (o .remote e) in
+        let x : 0 < 2 = omega arith in
+        let y : 1 < 2 = omega arith in
+        search (speaking-all, l, r, x, y, m, a)
+
+    forgetting-all : (n i : ℕ) (ws : List Write) → n ≡ lines → N i → AllOurs lines N K ws → AllOurs lines N K (forgetting n i ws)
+    unfolding forgetting isEphemeral
+    forgetting-all n i ws f m a =
+        pick-all (leb (lineTerminations n) i) _ ws
+        (λ e. let h : lineTerminations lines ≤ i = rw (← f) (leb-true (lineTerminations n) i e) in
+        speaking-all i 0 Released _ m (λ _. h) (omega arith) (speaking-all i 1 Released ws m (λ _. h) (omega arith) a)) a
+
     -- no context is made where none is chosen
     target-home : (w : Context) (v : View) → Seat lines N K w → (0 < numberOf w → K (numberOf w)) → 0 < target w v → K (target w v)
     unfolding target isChoose pick
@@ -99,16 +135,16 @@ module _ (lines : ℕ) (N K : ℕ → Type 0) where
 
     -- an attempt that passes its tests, in a context that exists
     changes-all : (op : Op) (w : Context) (given i : ℕ) (vs : Values) (v : View) → v .lines ≡ lines → Seat lines N K w → N i → (0 < v .here → K (v .here))
-        → (0 < numberOf w → K (numberOf w)) → (inPlace op ≡ false → 0 < numberOf w) → Passed (checks op w v) → AllOurs lines N K (changes op w given i vs v)
-    unfolding checks changes inPlace
-    changes-all Add w given i vs v f s m h k z p = joining-all w given v _ s (k (z refl)) (marking-all _ i 1 _ f m (placed-all i _ _ m (target-home w v s k)))
-    changes-all Modify w given i vs v f s m h k z p = also (ours-prop i _ m) nothing
+        → (0 < numberOf w → K (numberOf w)) → (inPlace op ≡ false → 0 < numberOf w) → Passed (checks op w i vs v) → AllOurs lines N K (changes op w given i vs v)
+    unfolding checks onLine changes inPlace
+    changes-all Add w given i vs v f s m h k z p = joining-all w given v _ s (k (z refl)) (marking-all _ i 1 _ f m (spoken-all _ i vs _ f m (on-ephemeral _ i _ _ (search)) (placed-all i _ _ m (target-home w v s k))))
+    changes-all Modify w given i vs v f s m h k z p = spoken-all _ i vs _ f m (on-ephemeral _ i _ _ (search)) (also (ours-prop i _ m) nothing)
     changes-all AuditValue w given i vs v f s m h k z p = nothing
     changes-all Subtract w given i vs v f s m h k z p =
         let e : v .here ≡ numberOf w = eqb-true (v .here) (numberOf w) (not-false (eqb (v .here) (numberOf w)) (search)) in
-        leaving-all v _ (h (rw e (z refl))) (marking-all _ i 0 _ f m (placed-all i 0 _ m (λ y. absurd (omega arith))))
+        leaving-all v _ (h (rw e (z refl))) (marking-all _ i 0 _ f m (forgetting-all _ i _ f m (placed-all i 0 _ m (λ y. absurd (omega arith)))))
     changes-all Move w given i vs v f s m h k z p =
-        leaving-all v _ (h (nonzero (v .here) (eqb-false (v .here) 0 (search)))) (joining-all w given v _ s (k (z refl)) (placed-all i _ _ m (target-home w v s k)))
+        leaving-all v _ (h (nonzero (v .here) (eqb-false (v .here) 0 (search)))) (joining-all w given v _ s (k (z refl)) (spoken-all _ i vs _ f m (on-ephemeral _ i _ _ (search)) (placed-all i _ _ m (target-home w v s k))))
 
     -- what an attempt writes, and where its action stands after it
     pub record OursAlone (e : Effect) : Type 0 where
@@ -127,7 +163,7 @@ module _ (lines : ℕ) (N K : ℕ → Type 0) where
         → OursAlone (effect op wild name given vs i w v)
     unfolding effect concluded
     effect-lies op wild name given vs i w v f s m h k z =
-        judged (λ (x : Checked). OursAlone (concluded op wild name given vs i w v x)) (checks op w v) (λ code. record { all = nothing; seat = s })
+        judged (λ (x : Checked). OursAlone (concluded op wild name given vs i w v x)) (checks op w i vs v) (λ code. record { all = nothing; seat = s })
         (λ p. record { all = changes-all op w given i vs v f s m h k z p; seat = seat-settled w v s })
 
     -- ---- an action's start

@@ -4,6 +4,8 @@ pub mod Apart
 pub mod ApartTest
 pub mod Slots
 pub mod Sound
+pub mod Speech
+pub mod SpeechSample
 pub mod Bounds
 pub mod Mix
 pub mod Demand

@@ -4,7 +4,7 @@ use mathlib.Core.Path.{_≡_}
 use mathlib.Core.Logic.{_≢_}
 use mathlib.Core.List.{List}
 use lib.ListN.{length}
-use Rattle.megaco.specs.Table.{lineTerminations, terminations, contexts, words, fitted, prop, rec, used, flow, Slot, ctx, cell, address, get, write, store}
+use Rattle.megaco.specs.Table.{lineTerminations, terminations, contexts, words, fitted, prop, rec, used, flow, speech, Slot, ctx, cell, address, get, write, store}
 
 -- a slot of the table
 abbrev pub Valid : ℕ → Slot → Type 0
@@ -13,6 +13,7 @@ Valid n (cell (prop i)) = i < terminations n
 Valid n (cell (rec c)) = (0 < c) × (c ≤ contexts)
 Valid n (cell (used i)) = (lineTerminations n ≤ i) × (i < terminations n)
 Valid n (cell (flow k)) = k < 2 * contexts
+Valid n (cell (speech k)) = (8 * lineTerminations n ≤ k) × (k < 8 * terminations n)
 
 -- two slots share a word: they are places of the map, and other digits of it
 pub data Shared (n : ℕ) : Slot → Slot → Type 0 where
@@ -25,6 +26,7 @@ held (cell (prop i)) v = v
 held (cell (rec c)) v = v
 held (cell (used i)) v = v % 2
 held (cell (flow k)) v = v
+held (cell (speech k)) v = v
 
 -- ---- all of it
 

@@ -9,7 +9,7 @@ use lib.ListN.{length, replicate, getD}
 use Rattle.base.specs.Lists.{lowestAbsent}
 use Rattle.megaco.specs.Tree.{Transaction, Message}
 use Rattle.megaco.specs.Square.{Square, squareOf, flowAt}
-use Rattle.megaco.specs.Table.{lineTerminations, terminations, contexts, words, mostLines, fitted, most, mapStart, prop, rec, used, flow, lowFlow, highFlow, ctx, cell, get, freeEphemeral, usedEphemerals, ephemeralContexts, members, modeOf, stateOf, sound}
+use Rattle.megaco.specs.Table.{lineTerminations, terminations, contexts, words, mostLines, fitted, most, mapStart, prop, rec, used, flow, speech, lowFlow, highFlow, speechWord, ctx, cell, get, freeEphemeral, usedEphemerals, ephemeralContexts, members, modeOf, stateOf, sound}
 use Rattle.megaco.specs.Map.{digits, inUse}
 use Rattle.megaco.specs.State.{State}
 use Rattle.megaco.specs.Transaction.{runTransaction, runMessage}
@@ -36,6 +36,11 @@ pub record SoundRecord (r m : ℕ) : Type 0 where
   pub both : min r 1 ≡ min m 1
   pub room : m ≤ most
 
+-- one side's words of an ephemeral in context c: "1, address .., port and type are kept .. or four zeros", "absent ones zero"
+pub data SoundSide (c : ℕ) : ℕ → ℕ → ℕ → ℕ → Type 0 where
+  silent : SoundSide c 0 0 0 0
+  sends : {a p k : ℕ} → 0 < c → a < 2 ^ 32 → p ≤ 65535 → k ≤ 127 → SoundSide c 1 a p k
+
 pub record Whole (t : List ℕ) : Type 0 where
   pub some : 0 < fitted t
   pub few : fitted t ≤ mostLines
@@ -50,6 +55,9 @@ pub record Whole (t : List ℕ) : Type 0 where
   pub marked : (i : ℕ) → lineTerminations (fitted t) ≤ i → i < terminations (fitted t) → get t (cell (used i)) ≡ min (get t (ctx i)) 1
   -- "the diagonal and unused places 0", in words "of 32 bits"
   pub flows : (c : ℕ) → 0 < c → c ≤ contexts → SoundFlows (get t (cell (flow (lowFlow c)))) (get t (cell (flow (highFlow c)))) (members c t)
+  -- of an ephemeral's Local, side 0, and Remote, side 1
+  pub speech : (i side : ℕ) → lineTerminations (fitted t) ≤ i → i < terminations (fitted t) → side < 2
+      → SoundSide (get t (ctx i)) (get t (cell (speech (speechWord i side 0)))) (get t (cell (speech (speechWord i side 1)))) (get t (cell (speech (speechWord i side 2)))) (get t (cell (speech (speechWord i side 3))))
   -- the map's words are "of 32 bits"
   pub narrow : (k : ℕ) → k < 2 → getD t (mapStart (fitted t) + k) 0 < 2 ^ 32
 

@@ -198,7 +198,7 @@ unfolding shelves
 shelves-hold = rows-answer shelves shelves-compute
 
 -- "Word 4 is then 2, word 316 is 3, word 625 is 1, all others 0"
-pub session-ends : ended ≡ set (set (set (replicate 1010 0) 4 2) 316 3) 625 1
+pub session-ends : ended ≡ set (set (set (replicate 1522 0) 4 2) 316 3) 625 1
 session-ends = refl
 
 -- audits

@@ -9,7 +9,7 @@ use native.Mathlib.Nat.{zero-add, suc-add, sub-zero, zero-min, min-zero, suc-min
 use native.Mathlib.Omega.{arith}
 use Rattle.base.specs.Pick.{pick}
 use Rattle.base.specs.Lists.{count}
-use Rattle.megaco.specs.Table.{terminations, regions, onward, total, startOf, place, words, fitted, regionWords, contextWords, propertyWords, recordWords, mapWords, flowWords, known, members, placeIn}
+use Rattle.megaco.specs.Table.{terminations, regions, onward, total, startOf, place, words, fitted, regionWords, contextWords, propertyWords, recordWords, mapWords, flowWords, speechWords, known, members, placeIn}
 
 -- ---- any list of regions
 
@@ -137,6 +137,10 @@ module _ (t : List ℕ) where
   pub flow-region : Region (fitted t) 4 t (flowWords t)
   unfolding flowWords
   flow-region = region (fitted t) 4 t
+
+  pub speech-region : Region (fitted t) 5 t (speechWords t)
+  unfolding speechWords
+  speech-region = region (fitted t) 5 t
 
   -- the contexts come first, and who stands in one is counted there
   contexts-first : contextWords t ≡ take (terminations (fitted t)) t

@@ -1,11 +1,11 @@
 -- One attempt of a command (document 01, 'Running'): it takes a small view of the table, is judged by it alone (tests 5 and 6), and then writes
 -- a few words. `elim [ case ↦ result | .. ]` goes by cases, on one line.
 use Prim.Native.Nat.{ℕ, _+_, _*_}
-use mathlib.Core.Bool.{Bool, true, false, not, _&&_}
+use mathlib.Core.Bool.{Bool, true, false, not, _&&_, _||_}
 use mathlib.Core.List.{List, [], _∷_}
 use lib.Dec.{leb, eqb}
 use Rattle.base.specs.Pick.{pick}
-use Rattle.megaco.specs.Table.{prop, rec, used, flow, lowFlow, highFlow, placeIn, ctx, cell, Write, write, get, most, fitted, isEphemeral, known, members, freeContext, modeOf, stateOf}
+use Rattle.megaco.specs.Table.{prop, rec, used, flow, speech, lowFlow, highFlow, speechWord, placeIn, ctx, cell, Write, write, get, most, fitted, isEphemeral, known, members, freeContext, modeOf, stateOf}
 use Rattle.megaco.specs.Names.{nameText}
 use Rattle.megaco.specs.Square.{Square, squareOf, lowOf, highOf, joined, parted}
 use Rattle.megaco.specs.Items.{update}
@@ -16,6 +16,8 @@ use Rattle.megaco.specs.declared.Op.{Op}
 use Rattle.megaco.specs.declared.Op.the-variants.{Add, Modify, Subtract, Move, AuditValue}
 use Rattle.megaco.specs.declared.Checked.{Checked}
 use Rattle.megaco.specs.declared.Checked.the-variants.{Passes, Fails}
+use Rattle.megaco.specs.declared.Speech.{Speech}
+use Rattle.megaco.specs.declared.Speech.the-variants.{Kept, Released, Session}
 use Rattle.megaco.specs.declared.Values.{Values}
 use Rattle.megaco.specs.declared.Seen.{Seen}
 use Rattle.megaco.specs.declared.View.{View}
@@ -66,15 +68,24 @@ target at v = pick (isChoose at) (v .free) (numberOf at)
 unfoldable pub roomChecks : Context → View → List Check
 roomChecks at v = check (isChoose at && eqb (v .free) 0) 412 ∷ check (leb most (v .there .members)) 434 ∷ []
 
+-- whether Local or Remote stands among a command's items
+unfoldable pub speaks : Speech → Bool
+speaks = elim [ Kept ↦ false | Released ↦ true | Session a p k ↦ true ]
+
+-- "447 on a line": "Only ephemerals have one", an empty text too
+unfoldable pub onLine : ℕ → ℕ → Values → Bool
+onLine n i vs = not (isEphemeral n i) && (speaks (vs .local) || speaks (vs .remote))
+
 -- "Add: 433 if not in null. Modify, Subtract: 435 if not in the action's context. Move: 435 from null, 433 if already in the target"
 -- and document 02, of AuditValue: "Tests and wildcards are as for Modify"; of Move, request 2, by clause 7.2.4: "503 (house), after Move's 435 and 433, before 412", where "the state held before the command's own
--- items" is 1, OutOfService; "Test state may still move"
-unfoldable pub checks : Op → Context → View → List Check
-checks Add at v = check (not (eqb (v .here) 0)) 433 ∷ roomChecks at v
-checks Modify at v = check (not (eqb (v .here) (numberOf at))) 435 ∷ []
-checks Subtract at v = check (not (eqb (v .here) (numberOf at))) 435 ∷ []
-checks Move at v = check (eqb (v .here) 0) 435 ∷ check (eqb (v .here) (numberOf at)) 433 ∷ check (eqb (stateOf (v .word)) 1) 503 ∷ roomChecks at v
-checks AuditValue at v = check (not (eqb (v .here) (numberOf at))) 435 ∷ []
+-- items" is 1, OutOfService; "Test state may still move"; of Local and Remote, request 11: "447 on a line, in Add, Modify and Move after the place test and 503"
+unfoldable pub checks : Op → Context → ℕ → Values → View → List Check
+checks Add at i vs v = check (not (eqb (v .here) 0)) 433 ∷ check (onLine (v .lines) i vs) 447 ∷ roomChecks at v
+checks Modify at i vs v = check (not (eqb (v .here) (numberOf at))) 435 ∷ check (onLine (v .lines) i vs) 447 ∷ []
+checks Subtract at i vs v = check (not (eqb (v .here) (numberOf at))) 435 ∷ []
+checks Move at i vs v =
+    check (eqb (v .here) 0) 435 ∷ check (eqb (v .here) (numberOf at)) 433 ∷ check (eqb (stateOf (v .word)) 1) 503 ∷ check (onLine (v .lines) i vs) 447 ∷ roomChecks at v
+checks AuditValue at i vs v = check (not (eqb (v .here) (numberOf at))) 435 ∷ []
 
 -- ---- what it changes
 -- the two words of a context's flows
@@ -107,12 +118,31 @@ added n i word = pick (isEphemeral n i) 0 word
 unfoldable pub subtracted : ℕ → ℕ → ℕ → ℕ
 subtracted n i word = pick (isEphemeral n i) 0 (8 * stateOf word)
 
+-- the four words of Local, side 0, or of Remote, side 1
+unfoldable pub sideWrites : ℕ → ℕ → ℕ → ℕ → ℕ → ℕ → List Write → List Write
+sideWrites i side flag a p k ws =
+    write (cell (speech (speechWord i side 0))) flag ∷ write (cell (speech (speechWord i side 1))) a
+    ∷ write (cell (speech (speechWord i side 2))) p ∷ write (cell (speech (speechWord i side 3))) k ∷ ws
+
+-- what is given replaces the whole of its side; "empty text releases it"
+unfoldable pub speaking : ℕ → ℕ → Speech → List Write → List Write
+speaking i side Kept ws = ws
+speaking i side Released ws = sideWrites i side 0 0 0 0 ws
+speaking i side (Session a p k) ws = sideWrites i side 1 a p k ws
+
+unfoldable pub spoken : ℕ → Values → List Write → List Write
+spoken i vs ws = speaking i 0 (vs .local) (speaking i 1 (vs .remote) ws)
+
+-- "Subtract forgets them"
+unfoldable pub forgetting : ℕ → ℕ → List Write → List Write
+forgetting n i ws = pick (isEphemeral n i) (speaking i 0 Released (speaking i 1 Released ws)) ws
+
 -- "Add, Modify and Move then set the values given"; of AuditValue, document 02: "The table stays"
 unfoldable pub changes : Op → Context → ℕ → ℕ → Values → View → List Write
-changes Add at given i vs v = joining at given v (marking (v .lines) i 1 (placed i (target at v) (update vs (added (v .lines) i (v .word)))))
-changes Modify at given i vs v = write (cell (prop i)) (update vs (v .word)) ∷ []
-changes Subtract at given i vs v = leaving v (marking (v .lines) i 0 (placed i 0 (subtracted (v .lines) i (v .word))))
-changes Move at given i vs v = leaving v (joining at given v (placed i (target at v) (update vs (v .word))))
+changes Add at given i vs v = joining at given v (marking (v .lines) i 1 (spoken i vs (placed i (target at v) (update vs (added (v .lines) i (v .word))))))
+changes Modify at given i vs v = spoken i vs (write (cell (prop i)) (update vs (v .word)) ∷ [])
+changes Subtract at given i vs v = leaving v (marking (v .lines) i 0 (forgetting (v .lines) i (placed i 0 (subtracted (v .lines) i (v .word)))))
+changes Move at given i vs v = leaving v (joining at given v (spoken i vs (placed i (target at v) (update vs (v .word)))))
 changes AuditValue at given i vs v = []
 
 -- `$` "becomes .. the lowest number absent before that attempt, and stays that number for the rest of the action"
@@ -139,4 +169,4 @@ concluded op wild name given vs i at v (Fails code) =
     record { writes = []; report = refused op (pick wild (nameText (v .lines) i) name) code; at = at; good = false }
 
 unfoldable pub effect : Op → Bool → List ℕ → ℕ → Values → ℕ → Context → View → Effect
-effect op wild name given vs i at v = concluded op wild name given vs i at v (judge (checks op at v))
+effect op wild name given vs i at v = concluded op wild name given vs i at v (judge (checks op at i vs v))

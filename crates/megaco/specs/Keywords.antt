@@ -9,7 +9,7 @@ use Rattle.base.specs.Lists.{same}
 use Rattle.base.specs.Bytes.{text}
 use Rattle.megaco.specs.Bytes.{capitals}
 use Rattle.megaco.specs.declared.Token.{Token}
-use Rattle.megaco.specs.declared.Token.the-variants.{AddToken, AuditToken, AuditValueToken, BothwayToken, CtxToken, EmergencyToken, ErrorToken, InactiveToken, IsolateToken, InSvcToken, LocalControlToken, LoopbackToken, MediaToken, MegacopToken, ModeToken, ModifyToken, MoveToken, OnewayToken, OutOfSvcToken, PriorityToken, RecvonlyToken, ReplyToken, SendonlyToken, SendrecvToken, ServiceStatesToken, SubtractToken, TerminationStateToken, TestToken, TopologyToken, TransToken}
+use Rattle.megaco.specs.declared.Token.the-variants.{AddToken, AuditToken, AuditValueToken, BothwayToken, CtxToken, EmergencyToken, ErrorToken, InactiveToken, IsolateToken, InSvcToken, LocalToken, LocalControlToken, LoopbackToken, MediaToken, MegacopToken, ModeToken, ModifyToken, MoveToken, OnewayToken, OutOfSvcToken, PriorityToken, RecvonlyToken, RemoteToken, ReplyToken, SendonlyToken, SendrecvToken, ServiceStatesToken, SubtractToken, TerminationStateToken, TestToken, TopologyToken, TransToken}
 
 pub data Row : Type 0 where
   row : (meaning : Token) (long short : List ℕ) → Row
@@ -27,6 +27,7 @@ page =
     ∷ row InactiveToken (text "INACTIVE") (text "IN")
     ∷ row IsolateToken (text "ISOLATE") (text "IS")
     ∷ row InSvcToken (text "INSERVICE") (text "IV")
+    ∷ row LocalToken (text "LOCAL") (text "L")
     ∷ row LocalControlToken (text "LOCALCONTROL") (text "O")
     ∷ row LoopbackToken (text "LOOPBACK") (text "LB")
     ∷ row MediaToken (text "MEDIA") (text "M")
@@ -38,6 +39,7 @@ page =
     ∷ row OutOfSvcToken (text "OUTOFSERVICE") (text "OS")
     ∷ row PriorityToken (text "PRIORITY") (text "PR")
     ∷ row RecvonlyToken (text "RECEIVEONLY") (text "RC")
+    ∷ row RemoteToken (text "REMOTE") (text "R")
     ∷ row ReplyToken (text "REPLY") (text "P")
     ∷ row SendonlyToken (text "SENDONLY") (text "SO")
     ∷ row SendrecvToken (text "SENDRECEIVE") (text "SR")
@@ -83,6 +85,8 @@ numberOf BothwayToken = 26
 numberOf IsolateToken = 27
 numberOf OnewayToken = 28
 numberOf TopologyToken = 29
+numberOf LocalToken = 30
+numberOf RemoteToken = 31
 
 unfoldable pub isToken : Token → Token → Bool
 isToken j k = eqb (numberOf j) (numberOf k)

@@ -1,6 +1,6 @@
 -- Bytes to tree (document 01, 'The text', in Annex B.2's order). A reader gives a part's tree and the place after it and its white space, or a fault.
 use Prim.Native.Nat.{ℕ, zero, suc, _+_, _-_}
-use mathlib.Core.Bool.{Bool, _&&_, _||_}
+use mathlib.Core.Bool.{Bool, false, not, _&&_, _||_}
 use mathlib.Core.List.{List, [], _∷_}
 use mathlib.Core.Option.{Option, none, some}
 use lib.ListN.{length, getD}
@@ -12,9 +12,9 @@ use Rattle.megaco.specs.White.{after, whiteAt, sepAt}
 use Rattle.megaco.specs.Keywords.{spells}
 use Rattle.megaco.specs.Items.{called}
 use Rattle.megaco.specs.declared.Token.{Token}
-use Rattle.megaco.specs.declared.Token.the-variants.{AuditToken, MegacopToken, TransToken, CtxToken, PriorityToken, EmergencyToken, TopologyToken, IsolateToken, OnewayToken, BothwayToken}
-use Rattle.megaco.specs.Tokens.{markAt, signAt, rowAt, wordAt, keywordAt, terminationAt, numberAt, valueAt, mIdAt}
-use Rattle.megaco.specs.Tree.{Value, plain, quoted, ItemOf, item, Item, Command, command, Triple, triple, Property, priority, emergency, topology, Action, action, Transaction, transaction, Message, wellFormed, fault400, fault403, fault406}
+use Rattle.megaco.specs.declared.Token.the-variants.{AuditToken, MediaToken, LocalToken, RemoteToken, MegacopToken, TransToken, CtxToken, PriorityToken, EmergencyToken, TopologyToken, IsolateToken, OnewayToken, BothwayToken}
+use Rattle.megaco.specs.Tokens.{markAt, signAt, rowAt, wordAt, keywordAt, terminationAt, numberAt, valueAt, octetsAt, mIdAt}
+use Rattle.megaco.specs.Tree.{Value, plain, quoted, octets, ItemOf, item, Item, Command, command, Triple, triple, Property, priority, emergency, topology, Action, action, Transaction, transaction, Message, wellFormed, fault400, fault403, fault406}
 use Rattle.megaco.specs.declared.Parsed.{Parsed}
 use Rattle.megaco.specs.declared.Parsed.the-variants.{Next, Fault}
 use Rattle.megaco.specs.declared.Number.{Number}
@@ -114,6 +114,43 @@ unfoldable pub itemsR : (k : ℕ) → List ℕ → ℕ → Read (List (Item k))
 itemsR zero s at = fault
 itemsR (suc k) s at = listR (itemR k (itemsR k s) s) s (unlimited s) at
 
+-- ---- Local and Remote: "in a level 1 Media; where a brace comes next after the word, text runs from after its white space" (document 02, CR 11)
+unfoldable pub wordHere : List ℕ → ℕ → List ℕ
+wordHere s at = part s at (rowAt WordByte s at)
+
+-- an item that is called Media begins here
+unfoldable pub mediaHere : List ℕ → ℕ → Bool
+mediaHere s at = not (isAt s (rowAt WordByte s at) slash) && spells MediaToken (wordHere s at)
+
+unfoldable pub braceFrom : List ℕ → Parsed → Bool
+braceFrom s (Next p) = isAt s p leftBrace
+braceFrom s Fault = false
+
+-- Local or Remote stands here, and a brace comes next
+unfoldable pub speechHere : List ℕ → ℕ → Bool
+speechHere s at = (spells LocalToken (wordHere s at) || spells RemoteToken (wordHere s at)) && braceFrom s (whiteAt s (rowAt WordByte s at))
+
+unfoldable pub speechR : List ℕ → ℕ → Read (Item 7)
+speechR s at =
+    bind (spaced s (wordR s at)) (λ w p.
+    skip (signAt leftBrace s p) (λ q.
+    bind (reading (octetsAt s q) (part s q)) (λ t r.
+    skip (signAt rightBrace s r) (got (item w none (some (octets t)) none)))))
+
+-- what a level 1 Media holds
+unfoldable pub mediaItemR : List ℕ → ℕ → Read (Item 7)
+mediaItemR s at = pick (speechHere s at) (speechR s at) (itemR 6 (itemsR 6 s) s at)
+
+unfoldable pub mediaR : List ℕ → ℕ → Read (List (Item 7))
+mediaR s at = listR (mediaItemR s) s (unlimited s) at
+
+-- level 1
+unfoldable pub topItemR : List ℕ → ℕ → Read (Item 8)
+topItemR s at = pick (mediaHere s at) (itemR 7 (mediaR s) s at) (itemR 7 (itemsR 7 s) s at)
+
+unfoldable pub topR : List ℕ → ℕ → Read (List (Item 8))
+topR s at = listR (topItemR s) s (unlimited s) at
+
 -- ---- commands
 -- `O-` or `W-` stands here, in either letter case
 unfoldable pub prefixAt : ℕ → List ℕ → ℕ → Bool
@@ -136,7 +173,7 @@ commandR s at =
     bind (spaced s (orderR s (prefixEnd 0x57 s o))) (λ w p.
     skip (signAt equal s p) (λ q.
     bind (spaced s (reading (terminationAt s q) (part s q))) (λ n r.
-    bind (bracesR (itemsR 8 s) s r) (λ is e. got (command (prefixAt 0x4f s at) (prefixAt 0x57 s o) w n is) e))))
+    bind (bracesR (topR s) s r) (λ is e. got (command (prefixAt 0x4f s at) (prefixAt 0x57 s o) w n is) e))))
 
 -- ---- actions
 -- "number up to 4294967295, at most 10 digits, or `-`, `$`, `*`"
@@ -146,9 +183,6 @@ contextR s at =
     (pick (isAt s at dollar) (got Choose (at + 1))
     (pick (isAt s at star) (got All (at + 1))
     (readNumber (numberAt s at 10 4294967295) Numbered)))
-
-unfoldable pub wordHere : List ℕ → ℕ → List ℕ
-wordHere s at = part s at (rowAt WordByte s at)
 
 -- "Isolate/IS, Oneway/OW, Bothway/BW"
 unfoldable pub directionR : List ℕ → ℕ → Read Direction

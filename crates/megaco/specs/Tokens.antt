@@ -1,12 +1,12 @@
 -- Words, numbers, values, names, the message identifier (document 01, 'The text'). Each reader finds the place after the part at a position.
 use Prim.Native.Nat.{ℕ, _+_, _*_, _-_}
-use mathlib.Core.Bool.{Bool, false, _&&_, _||_}
+use mathlib.Core.Bool.{Bool, false, not, _&&_, _||_}
 use mathlib.Core.List.{List, [], _∷_}
 use lib.ListN.{length, getD, drop}
 use lib.Dec.{ltb, leb, eqb}
 use Rattle.base.specs.Pick.{pick}
 use Rattle.base.specs.Lists.{isAt, part}
-use Rattle.megaco.specs.Bytes.{colon, dot, quote, star, dollar, isLetter, isDigit, inClass}
+use Rattle.megaco.specs.Bytes.{rightBrace, colon, dot, quote, star, dollar, isLetter, isDigit, inClass}
 use Rattle.megaco.specs.White.{after, whiteAt}
 use Rattle.megaco.specs.Keywords.{spells}
 use Rattle.megaco.specs.declared.Token.{Token}
@@ -89,6 +89,17 @@ plainAt s at = let e = rowAt SafeByte s at in pick (ltb at e) (upTo64 at e) Faul
 
 unfoldable pub valueAt : List ℕ → ℕ → Parsed
 valueAt s at = pick (isAt s at quote) (quotedAt s at) (plainAt s at)
+
+-- ---- the text in the braces of Local or Remote (document 02, CR 11): "up to the first `}` that has no backslash before it, byte 0 being a fault"
+-- from position n, with the rest of the message, told whether a backslash stands before it
+unfoldable pub octetsFrom : List ℕ → ℕ → Bool → Parsed
+octetsFrom [] n escaped = Fault
+octetsFrom (b ∷ t) n escaped =
+    let r = octetsFrom t (n + 1) (eqb b 0x5c) in
+    pick (eqb b 0) Fault (pick (eqb b rightBrace && not escaped) (Next n) r)
+
+unfoldable pub octetsAt : List ℕ → ℕ → Parsed
+octetsAt s at = octetsFrom (drop at s) at false
 
 -- ---- the message identifier: an address or a domain name with an optional port, or a path name
 -- "optional `:` and port 0..65535 (1 to 5 digits)"

@@ -6,8 +6,9 @@ use mathlib.Core.Option.{Option}
 use Rattle.megaco.specs.declared.Context.{Context}
 use Rattle.megaco.specs.declared.Direction.{Direction}
 
+-- `octets`: the text in the braces of Local or Remote, which stands in the place of a value (document 02, CR 11)
 pub data Value : Type 0 where
-  plain quoted : List ℕ → Value
+  plain quoted octets : List ℕ → Value
 
 -- "Item: word, optional `/` word, optional `=` value, optional `{` items `}`"
 pub data ItemOf (A : Type 0) : Type 0 where

@@ -36,6 +36,7 @@ pub enum Token {
     InactiveToken,
     IsolateToken,
     InSvcToken,
+    LocalToken,
     LocalControlToken,
     LoopbackToken,
     MediaToken,
@@ -47,6 +48,7 @@ pub enum Token {
     OutOfSvcToken,
     PriorityToken,
     RecvonlyToken,
+    RemoteToken,
     ReplyToken,
     SendonlyToken,
     SendrecvToken,
@@ -185,11 +187,20 @@ pub enum Given {
     To(u32),
 }
 
-// What a command's items ask: the mode and the state that they give, and whether they audit both.
+// Where speech goes, as Local or Remote gives it: nothing is given; an empty text; an address, a port and a payload type.
+pub enum Speech {
+    Kept,
+    Released,
+    Session(u32, u32, u32),
+}
+
+// What a command's items ask: the mode and the state that they give, whether they audit both, and what Local and Remote give.
 pub struct Values {
     pub mode: Given,
     pub state: Given,
     pub audited: bool,
+    pub local: Speech,
+    pub remote: Speech,
 }
 
 // A command's items: the first code in reading order, or the values given.
@@ -208,6 +219,53 @@ pub enum Checked {
 pub enum Kind {
     InControl,
     InState,
+}
+
+// A flag for each descriptor that Media may hold.
+pub struct Descriptors {
+    pub control: bool,
+    pub state: bool,
+    pub local: bool,
+    pub remote: bool,
+}
+
+// Which of the two that hold text.
+pub enum Side {
+    OfLocal,
+    OfRemote,
+}
+
+// What a line of SDP is: one that is skipped, one of the three that are asked for with its numbers, or none of these.
+pub enum SdpLine {
+    Skipped,
+    Version,
+    Connection(u32),
+    Audio { port: u32, payload: u32 },
+    Strange,
+}
+
+// What the lines so far have been.
+pub enum SdpStage {
+    NoLine,
+    AfterVersion,
+    AfterConnection(u32),
+    AfterAudio {
+        address: u32,
+        port: u32,
+        payload: u32,
+    },
+    Broken,
+}
+
+// What a text in the braces of Local or Remote says: nothing, where speech goes, or what is outside our subset of SDP.
+pub enum SdpText {
+    EmptyText,
+    Described {
+        address: u32,
+        port: u32,
+        payload: u32,
+    },
+    NotInSubset,
 }
 
 // Of a context: its record, how many terminations stand in it, and the two words of its flows.

@@ -1,23 +1,23 @@
 -- No reader goes back: what it finds is at or past the place where it began.
 use Prim.Native.Nat.{ℕ, zero, suc, _+_, _-_, _≤_}
 use mathlib.Core.Path.{_≡_, refl}
-use mathlib.Core.Bool.{Bool, false, _&&_, _||_}
+use mathlib.Core.Bool.{Bool, false, not, _&&_, _||_}
 use mathlib.Core.List.{List, [], _∷_}
 use native.Mathlib.Omega.{arith}
 use native.Mathlib.Nat.{le-refl, le-trans, le-add-right}
 use lib.ListN.{drop}
-use lib.Dec.{ltb, leb}
+use lib.Dec.{ltb, leb, eqb}
 use Rattle.base.specs.Pick.{pick}
 use Rattle.base.specs.Lists.{isAt, part}
 use Rattle.megaco.specs.Bytes.{equal, comma, leftBrace, rightBrace, slash, quote, dollar, star, isDigit}
 use Rattle.megaco.specs.White.{after, goesOn, insideAfter, stopAt, whiteFrom, whiteAt}
 use Rattle.megaco.specs.Keywords.{spells}
-use Rattle.megaco.specs.Tokens.{markAt, signAt, rowAt, upTo64, letterAt, wordAt, keywordAt, pathStart, pathNameAt, terminationAt, numberEnd, numberFrom, numberAt, afterNumber, quotedAt, plainAt, valueAt}
-use Rattle.megaco.specs.Reading.{Read, unlimited, keyAt, wordHere}
+use Rattle.megaco.specs.Tokens.{markAt, signAt, rowAt, upTo64, letterAt, wordAt, keywordAt, pathStart, pathNameAt, terminationAt, numberEnd, numberFrom, numberAt, afterNumber, quotedAt, plainAt, valueAt, octetsFrom, octetsAt}
+use Rattle.megaco.specs.Reading.{Read, unlimited, keyAt, wordHere, mediaHere, speechHere}
 use Rattle.protocol.specs.Types.{Parsed, Next, Fault, Number, Got, Bad, Class, WordByte, NameByte, SafeByte, QuotedByte, Token, PriorityToken, EmergencyToken, TopologyToken}
 use Rattle.tokens.proofs.TokenLaws.{pick-ind, row-ahead}
 use Rattle.read_command.specs.Production.{Production, numberAfter, spacedAt, joinedAt, listAt}
-use Rattle.read_command.specs.Places.{secondAt, valueItemAt, bracesAt, headAt, emptyAt, orNoneAt, itemAt, itemsAt, priorityAt, propertyAt, isDirection, directionAt, partyAt, tripleAt, triplesAt, topologyAt}
+use Rattle.read_command.specs.Places.{secondAt, valueItemAt, bracesAt, headAt, emptyAt, orNoneAt, itemAt, itemsAt, speechAt, mediaItemAt, mediaAt, topItemAt, priorityAt, propertyAt, isDirection, directionAt, partyAt, tripleAt, triplesAt, topologyAt}
 
 abbrev pub Onward : ℕ → Parsed → Type 0
 Onward at x = (p : ℕ) → x ≡ Next p → at ≤ p
@@ -146,6 +146,39 @@ items-on (suc k) s at = list-on _ s (item-over (itemsAt k s) s (items-on k s) k)
 
 pub item-on : (k : ℕ) (s : List ℕ) (at : ℕ) → Onward at (itemAt k (itemsAt k s) s at .place)
 item-on k s at = item-over (itemsAt k s) s (items-on k s) k at
+
+-- ---- Local and Remote
+
+octets-from : (l : List ℕ) (n : ℕ) (escaped : Bool) → Onward n (octetsFrom l n escaped)
+unfolding octetsFrom
+octets-from [] n escaped = fault-on n
+octets-from (b ∷ t) n escaped =
+    pick-on n (eqb b 0) _ _ (fault-on n)
+    (pick-on n (eqb b rightBrace && not escaped) _ _ (next-on n n (le-refl n))
+    (earlier n (n + 1) _ (le-add-right n 1) (octets-from t (n + 1) (eqb b 0x5c))))
+
+octets-on : (s : List ℕ) (at : ℕ) → Onward at (octetsAt s at)
+unfolding octetsAt
+octets-on s at = octets-from (drop at s) at false
+
+speech-on : (s : List ℕ) (at : ℕ) → Onward at (speechAt s at .place)
+unfolding speechAt
+speech-on s at =
+    after-on at (spacedAt s (wordAt s at)) _ (spaced-on s at (wordAt s at) (word-on s at))
+    (λ p. after-on p (signAt leftBrace s p) _ (sign-past leftBrace s p)
+    (λ q. after-on q (octetsAt s q) (signAt rightBrace s) (octets-on s q) (sign-past rightBrace s)))
+
+pub media-item-on : (s : List ℕ) (at : ℕ) → Onward at (mediaItemAt s at .place)
+unfolding mediaItemAt
+media-item-on s at = pick-on at (speechHere s at) _ _ (speech-on s at) (item-on 6 s at)
+
+media-on : (s : List ℕ) (at : ℕ) → Onward at (mediaAt s at .place)
+unfolding mediaAt
+media-on s at = list-on (λ j. mediaItemAt s j .place) s (media-item-on s) (unlimited s) at
+
+pub top-item-on : (s : List ℕ) (at : ℕ) → Onward at (topItemAt s at .place)
+unfolding topItemAt
+top-item-on s at = pick-on at (mediaHere s at) _ _ (item-over (mediaAt s) s (media-on s) 7 at) (item-on 7 s at)
 
 -- ---- topology
 

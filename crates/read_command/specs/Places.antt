@@ -13,9 +13,9 @@ use Rattle.megaco.specs.Bytes.{equal, comma, leftBrace, rightBrace, slash, dash
 use Rattle.megaco.specs.White.{after, whiteAt}
 use Rattle.megaco.specs.Keywords.{spells}
 use Rattle.megaco.specs.Items.{called}
-use Rattle.megaco.specs.Tokens.{markAt, signAt, wordAt, terminationAt, numberAt, valueAt}
-use Rattle.megaco.specs.Tree.{item, Command, command, triple, Property, priority, emergency, topology}
-use Rattle.megaco.specs.Reading.{Read, got, listR, unlimited, keyAt, secondR, valueOf, valueR, bracesR, mayBeEmpty, orNoneR, itemR, itemsR, prefixAt, prefixEnd, isProperty, orderR, commandR, contextR, wordHere, propertyR, Body, body, withProperty, propertyThen, bodyR, actionOf, actionR, actionsR, fault, directionR, partyR, tripleR, topologyR}
+use Rattle.megaco.specs.Tokens.{markAt, signAt, wordAt, terminationAt, numberAt, valueAt, octetsAt}
+use Rattle.megaco.specs.Tree.{octets, item, Command, command, triple, Property, priority, emergency, topology}
+use Rattle.megaco.specs.Reading.{Read, got, listR, unlimited, keyAt, secondR, valueOf, valueR, bracesR, mayBeEmpty, orNoneR, itemR, itemsR, mediaHere, speechHere, speechR, mediaItemR, mediaR, topItemR, topR, prefixAt, prefixEnd, isProperty, orderR, commandR, contextR, wordHere, propertyR, Body, body, withProperty, propertyThen, bodyR, actionOf, actionR, actionsR, fault, directionR, partyR, tripleR, topologyR}
 use Rattle.protocol.specs.Types.{Parsed, Next, Fault, Number, Null, Numbered, Choose, All, AuditToken, CtxToken, PriorityToken, EmergencyToken, TopologyToken, IsolateToken, OnewayToken, BothwayToken, Direction, Isolate, Oneway, Bothway}
 use Rattle.read_command.specs.Production.{endOf, numberAfter, pastWhite, pastSign, wordEnd, spacedAt, joinedAt, Reads, Production, fault-reads, got-reads, bind-reads, map-reads, skip-reads, word-reads, after-assoc, faultP, gotP, tokenP, numberP, pickP, unlessP, bindP, mapP, skipP, signP, lastP, closeP, spacedP, behindP, placedP, keywordP, wordP, wordThenP, listP, pastWordP}
 use Rattle.read_command.specs.declared.Rest.{Rest}
@@ -41,8 +41,11 @@ bracesAt inner s at =
     pickP (isAt s at leftBrace) (signP leftBrace s at (λ p. bindP (inner p) (λ is q. closeP rightBrace s q (some is)))) (gotP none at)
 
 -- an item before its braces; where its `=` may stand, and where it ends
+abbrev pub headFrom : List ℕ → ℕ → Parsed
+headFrom s e = after (spacedAt s (secondAt s e .place)) (λ q. valueItemAt s q .place)
+
 unfoldable pub headAt : List ℕ → ℕ → Parsed
-headAt s at = after (wordAt s at) (λ p. after (spacedAt s (secondAt s p .place)) (λ q. valueItemAt s q .place))
+headAt s at = after (wordAt s at) (λ e. headFrom s e)
 
 unfoldable pub equalPlace : List ℕ → ℕ → ℕ
 equalPlace s at = pastWhite s (secondAt s (wordEnd s at) .end)
@@ -97,6 +100,41 @@ unfolding itemsR
 itemsAt zero s at = faultP [] at
 itemsAt (suc k) s at = listP (itemAt k (itemsAt k s) s) s (unlimited s) at
 
+-- ---- Local and Remote in a level 1 Media
+
+-- where the text in the braces of Local or Remote begins and ends
+unfoldable pub octetsStart : List ℕ → ℕ → ℕ
+octetsStart s at = pastSign leftBrace s (pastWhite s (wordEnd s at))
+
+unfoldable pub octetsEnd : List ℕ → ℕ → ℕ
+octetsEnd s at = endOf (octetsAt s (octetsStart s at))
+
+unfoldable pub speechAt : (s : List ℕ) (at : ℕ) → Production (speechR s at)
+unfolding speechR
+speechAt s at =
+    bindP (spacedP s (wordP s at)) (λ w p.
+    signP leftBrace s p (λ q.
+    bindP (tokenP (octetsAt s q) (part s q)) (λ t r.
+    closeP rightBrace s r (item w none (some (octets t)) none))))
+
+-- what a level 1 Media holds
+unfoldable pub mediaItemAt : (s : List ℕ) (at : ℕ) → Production (mediaItemR s at)
+unfolding mediaItemR
+mediaItemAt s at = pickP (speechHere s at) (speechAt s at) (itemAt 6 (itemsAt 6 s) s at)
+
+unfoldable pub mediaAt : (s : List ℕ) (at : ℕ) → Production (mediaR s at)
+unfolding mediaR
+mediaAt s at = listP (mediaItemAt s) s (unlimited s) at
+
+-- level 1
+unfoldable pub topItemAt : (s : List ℕ) (at : ℕ) → Production (topItemR s at)
+unfolding topItemR
+topItemAt s at = pickP (mediaHere s at) (itemAt 7 (mediaAt s) s at) (itemAt 7 (itemsAt 7 s) s at)
+
+unfoldable pub topAt : (s : List ℕ) (at : ℕ) → Production (topR s at)
+unfolding topR
+topAt s at = listP (topItemAt s) s (unlimited s) at
+
 -- ---- commands
 
 -- a command's word
@@ -131,11 +169,11 @@ unfoldable pub commandAt : (s : List ℕ) (at : ℕ) → Production (commandR s 
 unfolding commandR orderStart commandHeadAt
 commandAt s at =
     let o = prefixEnd 0x4f s at in
-    placedP (after (commandHeadAt s at) (λ p. bracesAt (itemsAt 8 s) s p .place))
+    placedP (after (commandHeadAt s at) (λ p. bracesAt (topAt s) s p .place))
     (bindP (spacedP s (orderAt s (prefixEnd 0x57 s o))) (λ w p.
     signP equal s p (λ q.
     bindP (spacedP s (tokenP (terminationAt s q) (part s q))) (λ n r.
-    mapP (command (prefixAt 0x4f s at) (prefixAt 0x57 s o) w n) (bracesAt (itemsAt 8 s) s r)))))
+    mapP (command (prefixAt 0x4f s at) (prefixAt 0x57 s o) w n) (bracesAt (topAt s) s r)))))
     (head-cut (spacedAt s (orderAt s (orderStart s at) .place)) _ _ _)
 
 unfoldable pub commandsAt : (s : List ℕ) (at : ℕ) → Production (listR (commandR s) s 64 at)

@@ -2,13 +2,15 @@
 ghost use mathlib.Core.Path.{_≡_};
 ghost use mathlib.Core.Bool.{_&&_, _||_};
 ghost use Prim.Native.Nat.{suc};
-ghost use Rattle.protocol.specs.Types.{TopologyToken};
-ghost use Rattle.megaco.specs.Reading.{prefixEnd, isProperty};
+ghost use Rattle.protocol.specs.Types.{Next, LocalToken, RemoteToken, TopologyToken};
+ghost use Rattle.megaco.specs.Keywords.{spells};
+ghost use Rattle.megaco.specs.Tokens.{wordAt};
+ghost use Rattle.megaco.specs.Reading.{prefixEnd, isProperty, mediaHere, braceFrom, speechHere};
 ghost use Rattle.read_command.specs.Pieces.{Holds};
 ghost use Rattle.read_command.specs.Production.{spacedAt, followingOf};
 ghost use Rattle.base.specs.Lists.{isAt};
 ghost use Rattle.megaco.specs.Bytes.{rightBrace};
-ghost use Rattle.read_command.specs.Places.{secondAt, valueItemAt, bracesAt, headAt, auditAt, emptyAt, orNoneAt, itemAt, itemsAt, orderAt, orderStart, commandHeadAt, commandAt, commandsAt};
+ghost use Rattle.read_command.specs.Places.{secondAt, valueItemAt, bracesAt, headFrom, headAt, auditAt, emptyAt, orNoneAt, itemAt, itemsAt, speechAt, mediaItemAt, mediaAt, topItemAt, topAt, orderAt, orderStart, commandHeadAt, commandAt, commandsAt};
 use megaco::Class;
 use megaco::Parsed;
 use megaco::Token;
@@ -108,19 +110,26 @@ fn item_value(s: &[u8], at: usize) -> Parsed
     Parsed::Next(at)
 }
 
+// An item before its braces, behind its word, which ends here.
+fn head_from(s: &[u8], e: usize) -> Parsed
+    ensures { λ r. ⌜ r ≡ headFrom (now (s .entry)) e ⌝ }
+{
+    let x = spaced(s, second(s, e));
+    let Parsed::Next(q) = x else {
+        return Parsed::Fault;
+    };
+    item_value(s, q)
+}
+
 // An item before its braces.
 fn head(s: &[u8], at: usize) -> Parsed
     ensures { λ r. ⌜ r ≡ headAt (now (s .entry)) at ⌝ }
 {
     let w = tokens::word(s, at);
-    let Parsed::Next(p) = w else {
+    let Parsed::Next(e) = w else {
         return Parsed::Fault;
     };
-    let x = spaced(s, second(s, p));
-    let Parsed::Next(q) = x else {
-        return Parsed::Fault;
-    };
-    item_value(s, q)
+    head_from(s, e)
 }
 
 // Whether the item that begins here is called Audit: a name with `/` is not.
@@ -188,6 +197,191 @@ fn braced_items(s: &[u8], left: usize, start: usize, at: usize) -> Parsed
             return text::sign(s, p, b'}');
         }
         let i = items(s, left - 1, p);
+        let Parsed::Next(q) = i else {
+            return Parsed::Fault;
+        };
+        return text::sign(s, q, b'}');
+    }
+    Parsed::Next(at)
+}
+
+// ---- Local and Remote in a level 1 Media
+
+// Whether an item that is called Media begins here: a name with `/` is not.
+pub fn media_here(s: &[u8], at: usize) -> bool
+    ensures { λ r. ⌜ r ≡ mediaHere (now (s .entry)) at ⌝ }
+{
+    let e = text::row(s, at, Class::WordByte);
+    let word = piece_of(s, at, e);
+    let a = word.from;
+    let b = word.to;
+    !text::is_at(s, e, b'/') & keywords::spells(Token::MediaToken, &s[a..b])
+}
+
+// Whether a word is Local or Remote.
+fn holds_text(w: &[u8]) -> bool
+    ensures { λ r. ⌜ r ≡ (spells LocalToken (now (w .entry)) || spells RemoteToken (now (w .entry))) ⌝ }
+{
+    keywords::spells(Token::LocalToken, w) | keywords::spells(Token::RemoteToken, w)
+}
+
+// Whether a brace stands behind white space that was read.
+fn brace_from(s: &[u8], w: Parsed) -> bool
+    ensures { λ r. ⌜ r ≡ braceFrom (now (s .entry)) w ⌝ }
+{
+    match w {
+        Parsed::Next(p) => text::is_at(s, p, b'{'),
+        Parsed::Fault => false,
+    }
+}
+
+// Whether Local or Remote stands here, and a brace comes next.
+pub fn speech_here(s: &[u8], at: usize) -> bool
+    ensures { λ r. ⌜ r ≡ speechHere (now (s .entry)) at ⌝ }
+{
+    let e = text::row(s, at, Class::WordByte);
+    let word = piece_of(s, at, e);
+    let a = word.from;
+    let b = word.to;
+    if holds_text(&s[a..b]) {
+        let w = text::white(s, e);
+        return brace_from(s, w);
+    }
+    false
+}
+
+// Local or Remote, with the text in its braces.
+fn speech(s: &[u8], at: usize) -> Parsed
+    ensures { λ r. ⌜ r ≡ speechAt (now (s .entry)) at .place ⌝ }
+{
+    let w = spaced(s, tokens::word(s, at));
+    let Parsed::Next(p) = w else {
+        return Parsed::Fault;
+    };
+    let o = text::sign(s, p, b'{');
+    let Parsed::Next(q) = o else {
+        return Parsed::Fault;
+    };
+    let t = text::octets(s, q);
+    let Parsed::Next(e) = t else {
+        return Parsed::Fault;
+    };
+    text::sign(s, e, b'}')
+}
+
+// The same, where a word that may be Local or Remote is read already.
+fn speech_from(s: &[u8], at: usize, e: usize) -> bool
+    requires { ⌜ wordAt (now s) at ≡ Next e ⌝ }
+    ensures { λ r. ⌜ r ≡ speechHere (now (s .entry)) at ⌝ }
+{
+    if holds_text(&s[at..e]) {
+        let w = text::white(s, e);
+        return brace_from(s, w);
+    }
+    false
+}
+
+// What a level 1 Media holds.
+fn media_item(s: &[u8], at: usize) -> Parsed
+    ensures { λ r. ⌜ r ≡ mediaItemAt (now (s .entry)) at .place ⌝ }
+{
+    let w = tokens::word(s, at);
+    let Parsed::Next(e) = w else {
+        return Parsed::Fault;
+    };
+    if speech_from(s, at, e) {
+        return speech(s, at);
+    }
+    let h = head_from(s, e);
+    let Parsed::Next(p) = h else {
+        return Parsed::Fault;
+    };
+    braced_items(s, 6, at, p)
+}
+
+fn media_items(s: &[u8], at: usize) -> Parsed
+    ensures { λ r. ⌜ r ≡ mediaAt (now (s .entry)) at .place ⌝ }
+{
+    let mut i = at;
+    loop {
+        let f = after_part(s, media_item(s, i));
+        match f {
+            Following::Another(q) => i = q,
+            Following::Ends(r) => return r,
+        }
+    }
+}
+
+// The same in braces, if they stand here, of an item that begins at `start`.
+fn braced_media(s: &[u8], start: usize, at: usize) -> Parsed
+    ensures { λ r. ⌜ r ≡ bracesAt (orNoneAt (emptyAt 7 (now (s .entry)) start) (mediaAt (now (s .entry))) (now (s .entry))) (now (s .entry)) at .place ⌝ }
+{
+    if text::is_at(s, at, b'{') {
+        let o = text::white(s, at + 1);
+        let Parsed::Next(p) = o else {
+            return Parsed::Fault;
+        };
+        if empty_here(s, 7, start, p) {
+            return text::sign(s, p, b'}');
+        }
+        let i = media_items(s, p);
+        let Parsed::Next(q) = i else {
+            return Parsed::Fault;
+        };
+        return text::sign(s, q, b'}');
+    }
+    Parsed::Next(at)
+}
+
+// Whether an item whose word is read already is called Media.
+fn media_from(s: &[u8], at: usize, e: usize) -> bool
+    requires { ⌜ wordAt (now s) at ≡ Next e ⌝ }
+    ensures { λ r. ⌜ r ≡ mediaHere (now (s .entry)) at ⌝ }
+{
+    !text::is_at(s, e, b'/') & keywords::spells(Token::MediaToken, &s[at..e])
+}
+
+// An item of level 1.
+fn top_item(s: &[u8], at: usize) -> Parsed
+    ensures { λ r. ⌜ r ≡ topItemAt (now (s .entry)) at .place ⌝ }
+{
+    let w = tokens::word(s, at);
+    let Parsed::Next(e) = w else {
+        return Parsed::Fault;
+    };
+    let h = head_from(s, e);
+    let Parsed::Next(p) = h else {
+        return Parsed::Fault;
+    };
+    if media_from(s, at, e) {
+        return braced_media(s, at, p);
+    }
+    braced_items(s, 7, at, p)
+}
+
+fn top_items(s: &[u8], at: usize) -> Parsed
+    ensures { λ r. ⌜ r ≡ topAt (now (s .entry)) at .place ⌝ }
+{
+    let mut i = at;
+    loop {
+        let f = after_part(s, top_item(s, i));
+        match f {
+            Following::Another(q) => i = q,
+            Following::Ends(r) => return r,
+        }
+    }
+}
+
+// A command's items in braces, if they stand here.
+fn braced_top(s: &[u8], at: usize) -> Parsed
+    ensures { λ r. ⌜ r ≡ bracesAt (topAt (now (s .entry))) (now (s .entry)) at .place ⌝ }
+{
+    if text::is_at(s, at, b'{') {
+        let o = text::white(s, at + 1);
+        let Parsed::Next(p) = o else {
+            return Parsed::Fault;
+        };
+        let i = top_items(s, p);
         let Parsed::Next(q) = i else {
             return Parsed::Fault;
         };
@@ -271,7 +465,7 @@ fn command(s: &[u8], at: usize) -> Parsed
     let Parsed::Next(p) = h else {
         return Parsed::Fault;
     };
-    braced_items(s, 8, at, p)
+    braced_top(s, p)
 }
 
 // One to 64 commands.

@@ -147,11 +147,11 @@ module _ (op : Op) (wild : Bool) (name : List ℕ) (given : ℕ) (vs : Values) (
   abbrev comes : Checked → Outcome
   comes y = let e = concluded op wild name given vs i at v y in outcome (state (apply (e .writes) t)) (e .report ∷ []) (e .at) (e .good && true)
 
-  tries-one : v ≡ look at i t → x ≡ judge (checks op at v) → attempts op wild name given vs (i ∷ []) at (state t) ≡ comes x
+  tries-one : v ≡ look at i t → x ≡ judge (checks op at i vs v) → attempts op wild name given vs (i ∷ []) at (state t) ≡ comes x
   unfolding attempts effect
   tries-one e f = rw (← e, ← f)
 
-  pub attempt-does : (t′ o₁ o′ : List ℕ) (q n : ℕ) (c : Context) → v ≡ look at i t → x ≡ judge (checks op at v) → x ≡ Passes
+  pub attempt-does : (t′ o₁ o′ : List ℕ) (q n : ℕ) (c : Context) → v ≡ look at i t → x ≡ judge (checks op at i vs v) → x ≡ Passes
       → t′ ≡ apply (changes op at given i vs v) t → Appended o p (separator first then triedText op (nameText (v .lines) i)) o₁ q
       → Appended o₁ q (detailText (detailOf (vs .audited) (v .word))) o′ n → c ≡ settled at v
       → RunsTo (attempts op wild name given vs (i ∷ []) at (state t)) first o p (state t′) o′ (commandOutcome n c true)
@@ -159,7 +159,7 @@ module _ (op : Op) (wild : Bool) (name : List ℕ) (given : ℕ) (vs : Values) (
   attempt-does t′ o₁ o′ q n c e f z g a b s =
       rw (tries-one e f ∙ ap comes z) (record { state = ap state g; text = detail-is o p o₁ o′ q n first op (nameText (v .lines) i) (detailOf (vs .audited) (v .word)) a b; place = s; going = refl })
 
-  pub attempt-fails : (code : ℕ) (o′ : List ℕ) (n : ℕ) → v ≡ look at i t → x ≡ judge (checks op at v) → x ≡ Fails code
+  pub attempt-fails : (code : ℕ) (o′ : List ℕ) (n : ℕ) → v ≡ look at i t → x ≡ judge (checks op at i vs v) → x ≡ Fails code
       → Appended o p (reportsText first (refused op (shown (v .lines) wild i name) code ∷ [])) o′ n
       → RunsTo (attempts op wild name given vs (i ∷ []) at (state t)) first o p (state t) o′ (commandOutcome n at false)
   unfolding concluded shown apply

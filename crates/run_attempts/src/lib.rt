@@ -112,7 +112,7 @@ fn try_one(
 {
     let at = turn.at;
     let view = attempt_view::look(table, at, i);
-    let checked = attempt::judge_attempt(op, at, view);
+    let checked = attempt::judge_attempt(op, at, i, values, view);
     match checked {
         Checked::Passes => {
             attempt::change(table, op, at, turn.given, i, values, view);

@@ -32,7 +32,7 @@ items-given : (s : List ℕ) (r : CommandPlaces) → given? (itemsFrom s r) ≡ 
 unfolding itemsFrom
 items-given s r = by (r .braces)
   where
-    by : (b : Bool) → given? (pick {A = Items} b (some (Rattle.read_command.specs.Places.itemsAt 8 s (r .inside) .tree)) none) ≡ b
+    by : (b : Bool) → given? (pick {A = Items} b (some (Rattle.read_command.specs.Places.topAt s (r .inside) .tree)) none) ≡ b
     by true = unfold pick given? in refl
     by false = unfold pick given? in refl
 

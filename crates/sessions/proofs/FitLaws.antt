@@ -14,7 +14,7 @@ use Rattle.base.proofs.PickLaws.{pick-ind}
 use Rattle.base.proofs.TestLaws.{pick-both, and-both}
 use Rattle.base.proofs.TextLaws.{length-then, length-below}
 use Rattle.laws.proofs.Sound.{record-sound}
-use Rattle.megaco.specs.Table.{channels, terminations, contexts, startOf, words, fitted, regionWords, mostLines, lineTerminations, isEphemeral, contextWords, propertyWords, recordWords, ephemeralContexts, ephemeralProperties, isPropertyWord, absentAreZero, priorityOf, emergencyOf, recordIsSound, recordsAreSound, sized, mapIsSound, flowWords, flowsAreSound, sound}
+use Rattle.megaco.specs.Table.{channels, terminations, contexts, startOf, words, fitted, regionWords, mostLines, lineTerminations, isEphemeral, contextWords, propertyWords, recordWords, ephemeralContexts, ephemeralProperties, isPropertyWord, absentAreZero, priorityOf, emergencyOf, recordIsSound, recordsAreSound, sized, mapIsSound, flowWords, flowsAreSound, speechWords, speechIsSound, sound}
 use Rattle.megaco.specs.Names.{nameText}
 use Rattle.megaco.proofs.Sizes.{fitted-is}
 use Rattle.megaco.proofs.Regions.{Region, region, context-region, record-region}
@@ -115,7 +115,8 @@ records-of-sound t s =
     let r : Bool = recordsAreSound (contextWords t) 1 (recordWords t) in
     let words′ : Bool = sized t && every (λ w. leb w contexts) (contextWords t) && every isPropertyWord (propertyWords t) && absentAreZero (ephemeralContexts t) (ephemeralProperties t) in
     let map : Bool = mapIsSound t in
-    and-both words′ r (and-both (words′ && r) map (and-both (words′ && r && map) (flowsAreSound (contextWords t) 1 (flowWords t)) s .0) .0) .1
+    let flows : Bool = flowsAreSound (contextWords t) 1 (flowWords t) in
+    and-both words′ r (and-both (words′ && r) map (and-both (words′ && r && map) flows (and-both (words′ && r && map && flows) (speechIsSound (ephemeralContexts t) (speechWords t)) s .0) .0) .0) .1
 
 -- a region has its words alone
 region-is : (n k : ℕ) (t ws : List ℕ) → Region n k t ws → ws ≡ regionWords n k t

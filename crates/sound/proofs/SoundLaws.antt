@@ -17,8 +17,8 @@ use Rattle.base.specs.Lists.{every, count, same}
 use Rattle.megaco.proofs.Sizes.{sized-is}
 use Rattle.megaco.specs.Map.{digits, marks}
 use Rattle.megaco.proofs.Places.{length-digits, length-marks}
-use Rattle.megaco.specs.Table.{lineTerminations, ephemerals, terminations, contexts, mostLines, fitted, Sized, sized, contextWords, propertyWords, recordWords, ephemeralContexts, ephemeralProperties, startOf, mapStart, mapWords, places, flowWords, isPropertyWord, absentAreZero, recordIsSound, recordsAreSound, flowsAreSound, mapIsSound, sound}
-use Rattle.megaco.proofs.Regions.{context-region, property-region, record-region, map-region, flow-region}
+use Rattle.megaco.specs.Table.{lineTerminations, ephemerals, terminations, contexts, mostLines, fitted, Sized, sized, contextWords, propertyWords, recordWords, ephemeralContexts, ephemeralProperties, startOf, mapStart, mapWords, places, flowWords, isPropertyWord, absentAreZero, recordIsSound, recordsAreSound, flowsAreSound, speechWords, speechIsSound, mapIsSound, sound}
+use Rattle.megaco.proofs.Regions.{context-region, property-region, record-region, map-region, flow-region, speech-region}
 use Rattle.sound.specs.Parts.{ephemeralIsSound, recordsFit, flowIsSound, flowsFit, partsAreSound}
 use Rattle.base.proofs.TestLaws.{and-both}
 
@@ -292,7 +292,7 @@ module _ (t : List ℕ) (n r : ℕ) (s : Sized t) (p : n ≡ startOf (fitted t) 
   lines-end : n - 64 ≡ lineTerminations (fitted t)
   lines-end = omega arith
 
-  contexts-part : take (n - (n - 64)) (drop (n - 64) t) ≡ ephemeralContexts t
+  pub contexts-part : take (n - (n - 64)) (drop (n - 64) t) ≡ ephemeralContexts t
   contexts-part = let e : n - (n - 64) ≡ 64 = omega arith in rw (e, lines-end) (sym (ephemeral-contexts t))
 
   properties-part : take (r - (n + (n - 64))) (drop (n + (n - 64)) t) ≡ ephemeralProperties t
@@ -307,13 +307,13 @@ module _ (t : List ℕ) (n r : ℕ) (s : Sized t) (p : n ≡ startOf (fitted t) 
   unfolding ephemeralContexts ephemeralProperties
   even-parts = rw (contexts-part, properties-part) (simp length-drop (omega (arith, context-region t .long (s .long), property-region t .long (s .long))))
 
-  pub parts-by : (m f : ℕ) (a b c : Bool) → m ≡ startOf (fitted t) 3 → f ≡ startOf (fitted t) 4
-      → a ≡ (every (λ w. leb w contexts) (take (n - 0) (drop 0 t)) && (recordsAreSound (take (n - 0) (drop 0 t)) 1 (take (m - r) (drop r t)) && flowsAreSound (take (n - 0) (drop 0 t)) 1 (take (length t - f) (drop f t))))
+  pub parts-by : (m f g : ℕ) (a b c : Bool) → m ≡ startOf (fitted t) 3 → f ≡ startOf (fitted t) 4 → g ≡ startOf (fitted t) 5
+      → a ≡ (every (λ w. leb w contexts) (take (n - 0) (drop 0 t)) && (recordsAreSound (take (n - 0) (drop 0 t)) 1 (take (m - r) (drop r t)) && flowsAreSound (take (n - 0) (drop 0 t)) 1 (take (g - f) (drop f t))))
       → b ≡ every isPropertyWord (take (n + (n - 64) - n) (drop n t))
       → c ≡ (every isPropertyWord (take (r - (n + (n - 64))) (drop (n + (n - 64)) t)) && absentAreZero (take (n - (n - 64)) (drop (n - 64) t)) (take (r - (n + (n - 64))) (drop (n + (n - 64)) t)))
       → (a && b && c) ≡ partsAreSound t
   unfolding partsAreSound
-  parts-by m f a b c u v x y z =
+  parts-by m f g a b c u v w x y z =
       arranged a b c
       (every (λ w. leb w contexts) (contextWords t))
       (recordsAreSound (contextWords t) 1 (recordWords t) && flowsAreSound (contextWords t) 1 (flowWords t))
@@ -321,23 +321,23 @@ module _ (t : List ℕ) (n r : ℕ) (s : Sized t) (p : n ≡ startOf (fitted t) 
       (every isPropertyWord (ephemeralProperties t))
       (absentAreZero (ephemeralContexts t) (ephemeralProperties t))
       (every isPropertyWord (propertyWords t))
-      (x ∙ rw (context-region t .cut 0 n refl p, record-region t .cut r m q u, flow-region t .cut f (length t) v (s .long)))
+      (x ∙ rw (context-region t .cut 0 n refl p, record-region t .cut r m q u, flow-region t .cut f g v w))
       (y ∙ rw lines-part) (z ∙ rw (contexts-part, properties-part)) whole
     where
       whole : every isPropertyWord (propertyWords t) ≡ (every isPropertyWord (take (lineTerminations (fitted t)) (propertyWords t)) && every isPropertyWord (ephemeralProperties t))
       whole = unfold ephemeralProperties in every-both isPropertyWord (lineTerminations (fitted t)) (propertyWords t)
 
 module _ (t : List ℕ) where
-  pub sound-by : (x r m : Bool) → x ≡ sized t → x ≡ true → r ≡ partsAreSound t → m ≡ mapIsSound t → (r && m) ≡ sound t
+  pub sound-by : (x r m s : Bool) → x ≡ sized t → x ≡ true → r ≡ partsAreSound t → m ≡ mapIsSound t → s ≡ speechIsSound (ephemeralContexts t) (speechWords t) → (r && m && s) ≡ sound t
   unfolding sound partsAreSound
-  sound-by x r m e h k f = rw (k, f, ← e, h) (flows-last (every (λ w. leb w contexts) (contextWords t)) _ _ _ _ _)
+  sound-by x r m s e h k f g = rw (k, f, g, ← e, h) (ap (λ (b : Bool). b && speechIsSound (ephemeralContexts t) (speechWords t)) (flows-last (every (λ w. leb w contexts) (contextWords t)) _ _ _ _ _))
 
   pub unsound : (x : Bool) → x ≡ sized t → x ≡ false → false ≡ sound t
   unfolding sound
   unsound x e h = rw (← e, h)
 
   -- the size, as the code tests it
-  pub sized-by : (n e : ℕ) → n ≡ terminations (fitted t) → e ≡ startOf (fitted t) 5 → (leb 95 n && leb n 560 && eqb (length t) e) ≡ sized t
+  pub sized-by : (n e : ℕ) → n ≡ terminations (fitted t) → e ≡ startOf (fitted t) 6 → (leb 95 n && leb n 560 && eqb (length t) e) ≡ sized t
   unfolding sized
   sized-by n e p q = let m : ℕ = fitted t in rw (p, q, same-low m, same-high m)
 

@@ -1,5 +1,5 @@
 // Whether a lent table is sound: a pass over the context words, one over the records, one over the flows, one over the lines' properties, one over
-// the ephemerals', one over the ephemerals' context words against the map.
+// the ephemerals', one over the ephemerals' context words against the map, one over where their speech goes.
 // All but the first go on past a word that is wrong: tables are sound but for rare accidents, and without a way out the compiler takes several
 // words at a time.
 use table::CHANNELS;
@@ -16,7 +16,7 @@ ghost use Rattle.base.specs.Pick.{pick};
 ghost use Rattle.base.specs.Lists.{every, same};
 ghost use Rattle.megaco.specs.Map.{digits, marks};
 ghost use Rattle.megaco.specs.Square.{bits};
-ghost use Rattle.megaco.specs.Table.{contexts, isPropertyWord, absentAreZero, recordIsSound, recordsAreSound, flowsAreSound, Sized, sized, mapIsSound, sound};
+ghost use Rattle.megaco.specs.Table.{contexts, isPropertyWord, absentAreZero, recordIsSound, recordsAreSound, flowsAreSound, Sized, sized, mapIsSound, sideIsSound, speechIsSound, ephemeralContexts, speechWords, sound};
 ghost use Rattle.sound.specs.Parts.{ephemeralIsSound, recordsFit, flowIsSound, flowsFit, forbiddenBits, partsAreSound};
 
 // How many context words are tested at once for null.
@@ -24,6 +24,13 @@ const AT_ONCE: usize = 32;
 
 // How many contexts' flows are looked at together.
 const TOGETHER: usize = 16;
+
+// How many ephemerals' words of speech are looked at together: so many that the loop over them stays a loop. Unrolled, it would read each word
+// by itself, and the test for 0 with it.
+const SOME: usize = 16;
+
+// The words of one ephemeral's speech.
+const WORDS: usize = 8;
 
 // Counters for contexts 0 to 128.
 const COUNTERS: usize = CONTEXTS as usize + 1;
@@ -36,7 +43,7 @@ pub fn is_sound(table: &[u32]) -> bool
     ensures { λ r. ⌜ r ≡ sound (now (table .entry)) ⌝ }
 {
     if is_sized(table) {
-        return parts_are_sound(table) & map_is_sound(table);
+        return parts_are_sound(table) & map_is_sound(table) & speech_is_sound(table);
     }
     false
 }
@@ -48,7 +55,7 @@ fn is_sized(table: &[u32]) -> bool
     let n = table::terminations(table);
     (FEWEST_TERMINATIONS <= n)
         & (n <= MOST_TERMINATIONS)
-        & (table.len() == table::region_start(table, 5))
+        & (table.len() == table::region_start(table, 6))
 }
 
 fn parts_are_sound(table: &[u32]) -> bool
@@ -60,11 +67,8 @@ fn parts_are_sound(table: &[u32]) -> bool
     let records = table::region_start(table, 2);
     let map = table::region_start(table, 3);
     let flows = table::region_start(table, 4);
-    contexts_are_sound(
-        &table[0..n],
-        &table[records..map],
-        &table[flows..table.len()],
-    )
+    let speech = table::region_start(table, 5);
+    contexts_are_sound(&table[0..n], &table[records..map], &table[flows..speech])
         & lines_are_sound(&table[n..n + first])
         & ephemerals_are_sound(&table[first..n], &table[n + first..records])
 }
@@ -291,4 +295,79 @@ fn map_is_sound(table: &[u32]) -> bool
     let a = table::region_start(table, 3);
     half_is_sound(&table[first..middle], table::word_at(table, a))
         & half_is_sound(&table[middle..n], table::word_at(table, a + 1))
+}
+
+// ---- where speech goes
+
+// One side of an ephemeral's speech: four zeros, or 1, an address, a port and a payload type where the ephemeral exists.
+fn side_is_sound(context: u32, flag: u32, address: u32, port: u32, payload: u32) -> bool
+    ensures { λ r. ⌜ r ≡ sideIsSound context flag address port payload ⌝ }
+{
+    if flag == 0 {
+        return (address == 0) & (port == 0) & (payload == 0);
+    }
+    (flag == 1) & (context != 0) & (port <= 65535) & (payload <= 127)
+}
+
+// The speech of SOME ephemerals, one after the other.
+fn each_speech(row: &[u32], speech: &[u32]) -> bool
+    requires { ⌜ (length (now row) ≡ 16) × (length (now speech) ≡ 128) ⌝ }
+    ensures { λ r. ⌜ r ≡ speechIsSound (now (row .entry)) (now (speech .entry)) ⌝ }
+{
+    let mut good = true;
+    let mut k: usize = 0;
+    while k < SOME {
+        let c = row[k];
+        let a = WORDS * k;
+        let local = side_is_sound(c, speech[a], speech[a + 1], speech[a + 2], speech[a + 3]);
+        let remote = side_is_sound(
+            c,
+            speech[a + 4],
+            speech[a + 5],
+            speech[a + 6],
+            speech[a + 7],
+        );
+        good = good & (local & remote);
+        k += 1;
+    }
+    good
+}
+
+// The speech of SOME ephemerals: most often no word is set, and that is sound wherever they stand.
+fn some_speech(row: &[u32], speech: &[u32]) -> bool
+    requires { ⌜ (length (now row) ≡ 16) × (length (now speech) ≡ 128) ⌝ }
+    ensures { λ r. ⌜ r ≡ speechIsSound (now (row .entry)) (now (speech .entry)) ⌝ }
+{
+    let first = is_zero(&speech[0..32]) & is_zero(&speech[32..64]);
+    let second = is_zero(&speech[64..96]) & is_zero(&speech[96..128]);
+    if first & second {
+        return true;
+    }
+    each_speech(row, speech)
+}
+
+// The speech of all ephemerals.
+fn all_speech(row: &[u32], speech: &[u32]) -> bool
+    requires { ⌜ (length (now row) ≡ 64) × (length (now speech) ≡ 512) ⌝ }
+    ensures { λ r. ⌜ r ≡ speechIsSound (now (row .entry)) (now (speech .entry)) ⌝ }
+{
+    let mut good = true;
+    let mut b: usize = 0;
+    while b < EPHEMERALS as usize / SOME {
+        let i = SOME * b;
+        let a = WORDS * i;
+        good = good & some_speech(&row[i..i + SOME], &speech[a..a + WORDS * SOME]);
+        b += 1;
+    }
+    good
+}
+
+fn speech_is_sound(table: &[u32]) -> bool
+    requires { ⌜ Sized (now table) ⌝ }
+    ensures { λ r. ⌜ r ≡ speechIsSound (ephemeralContexts (now (table .entry))) (speechWords (now (table .entry))) ⌝ }
+{
+    let n = table::region_start(table, 1);
+    let first = n - EPHEMERALS as usize;
+    let a = table::region_start(table, 5);
+    all_speech(&table[first..n], &table[a..table.len()])
 }

@@ -1,20 +1,22 @@
 -- The laws of the table's words, in the form in which `search` uses them.
-use Prim.Native.Nat.{ℕ, zero, suc, _+_, _-_, _<_, _≤_, min}
+use Prim.Native.Nat.{ℕ, zero, suc, _+_, _-_, _*_, _/_, _%_, _<_, _≤_, min}
 use mathlib.Core.Path.{_≡_, refl, sym, ap, _∙_}
 use mathlib.Core.List.{List, [], _∷_}
 use mathlib.Core.Bool.{Bool, true, false}
 use native.Mathlib.Numerals.{add-one}
 use native.Mathlib.Nat.{zero-add, suc-add, sub-zero}
 use native.Mathlib.Omega.{arith}
-use lib.ListN.{length, getD, set, take, drop, drop-of-length-le, List·getD-eq-default}
+use lib.ListN.{length, getD, set, take, drop, length-set, drop-of-length-le, List·getD-eq-default}
 use lib.Seq.{drop-cons, set-out, take-nil, take-all}
-use lib.Dec.{eqb}
+use lib.Dec.{leb, eqb}
 use mir.Syntax.{w32}
 use mir.Val.{Fits, boolByte}
-use borrow.Author.Tests.{eq-eqb, ne-eqb}
+use borrow.Author.Tests.{eq-eqb, ne-eqb, leb-true, leb-false}
 use Rattle.base.specs.Pick.{pick}
 use Rattle.base.specs.Lists.{count, lowestAbsent}
-use Rattle.megaco.specs.Table.{regions, total, startOf, place, words, prop, flow, cell, lowFlow, highFlow, address, get, write, store, terminations, fitted, recordWords, known, members, placeIn, freeContext}
+use Rattle.megaco.specs.Table.{regions, total, startOf, place, words, prop, flow, speech, cell, lowFlow, highFlow, speechWord, address, get, write, store, apply, lineTerminations, terminations, fitted, recordWords, known, members, placeIn, freeContext}
+use Rattle.megaco.specs.Attempt.{sideWrites}
+use Rattle.megaco.proofs.Sizes.{fitted-same}
 use Rattle.megaco.proofs.Regions.{place-is, context-region, record-region, members-first, place-first}
 
 -- past the end stands 0, and nothing is stored there
@@ -31,9 +33,9 @@ pub store-beyond : (t : List ℕ) (i v : ℕ) → length t ≤ i → t ≡ store
 store-beyond t i v h = store-past t (address (fitted t) (cell (prop i))) v (omega (arith, place-is 1 (regions (fitted t)) i))
 
 -- behind the last region the table ends
-pub end-start : (n k : ℕ) → ((((Unit {0} × (k ≡ 0 → ⊥)) × (k ≡ 1 → ⊥)) × (k ≡ 2 → ⊥)) × (k ≡ 3 → ⊥)) × (k ≡ 4 → ⊥) → words n ≡ startOf n k
+pub end-start : (n k : ℕ) → (((((Unit {0} × (k ≡ 0 → ⊥)) × (k ≡ 1 → ⊥)) × (k ≡ 2 → ⊥)) × (k ≡ 3 → ⊥)) × (k ≡ 4 → ⊥)) × (k ≡ 5 → ⊥) → words n ≡ startOf n k
 end-start n k o =
-    let h : length (regions n) ≤ k = omega (arith, o .1, o .0 .1, o .0 .0 .1, o .0 .0 .0 .1, o .0 .0 .0 .0 .1) in
+    let h : length (regions n) ≤ k = omega (arith, o .1, o .0 .1, o .0 .0 .1, o .0 .0 .0 .1, o .0 .0 .0 .0 .1, o .0 .0 .0 .0 .0 .1) in
     ap total (sym (take-all k (regions n) h))
 
 pub start-by : (x n k r : ℕ) → x ≡ n → r ≡ startOf x k → r ≡ startOf n k
@@ -57,6 +59,46 @@ module _ (t : List ℕ) (c k : ℕ) (e : k ≡ address (fitted t) (cell (flow (l
 
   pub high-put : (u : List ℕ) (v : ℕ) → u ≡ set t (k + 1) v → u ≡ store (write (cell (flow (highFlow c))) v) t
   high-put u v p = p ∙ ap (λ (m : ℕ). set t m v) next-flow
+
+-- ---- where speech goes
+
+-- what stands behind ephemeral 127 stands behind the table's end
+table-end : (t : List ℕ) (w : ℕ) → 1016 ≤ w → length t ≤ place 5 (regions (fitted t)) w
+unfolding fitted
+table-end t w h = omega (arith, h)
+
+-- word j of a side, found by the first
+word-put : (t u : List ℕ) (i side j k v : ℕ) → side < 2 → j < 4 → k ≡ place 5 (regions (fitted t)) (8 * min (i - lineTerminations (fitted t)) 127 + 4 * side)
+    → u ≡ set t (k + j) v → u ≡ store (write (cell (speech (speechWord i side j))) v) t
+word-put t u i side j k v s h e p = p ∙ by (leb (i - L) 127) refl
+  where
+    L : ℕ
+    L = lineTerminations (fitted t)
+
+    w : ℕ
+    w = 8 * (speechWord i side j / 8 - L) + speechWord i side j % 8
+
+    by : (b : Bool) → leb (i - L) 127 ≡ b → set t (k + j) v ≡ set t (place 5 (regions (fitted t)) w) v
+    by true q =
+        let n : k + j ≡ place 5 (regions (fitted t)) w = omega (arith, e, leb-true (i - L) 127 q) in
+        ap (λ (x : ℕ). set t x v) n
+    by false q =
+        let o : 127 < i - L = leb-false (i - L) 127 q in
+        set-out t (k + j) v (omega (arith, e, o, table-end t (8 * 127 + 4 * side + j) (omega arith))) ∙ sym (set-out t (place 5 (regions (fitted t)) w) v (table-end t w (omega (arith, o))))
+
+pub side-put : (t t₁ t₂ t₃ t₄ : List ℕ) (i side k f a p q : ℕ) → side < 2 → k ≡ place 5 (regions (fitted t)) (8 * min (i - lineTerminations (fitted t)) 127 + 4 * side)
+    → t₁ ≡ set t k f → t₂ ≡ set t₁ (k + 1) a → t₃ ≡ set t₂ (k + 2) p → t₄ ≡ set t₃ (k + 3) q → t₄ ≡ apply (sideWrites i side f a p q []) t
+unfolding sideWrites apply
+side-put t t₁ t₂ t₃ t₄ i side k f a p q s e x₁ x₂ x₃ x₄ =
+    let z : k ≡ k + 0 = omega arith in
+    let y₁ = word-put t t₁ i side 0 k f s (omega arith) e (x₁ ∙ ap (λ (n : ℕ). set t n f) z) in
+    let l₁ : length t₁ ≡ length t = ap length x₁ ∙ length-set t k f in
+    let l₂ : length t₂ ≡ length t = ap length x₂ ∙ length-set t₁ (k + 1) a ∙ l₁ in
+    let l₃ : length t₃ ≡ length t = ap length x₃ ∙ length-set t₂ (k + 2) p ∙ l₂ in
+    let y₂ = word-put t₁ t₂ i side 1 k a s (omega arith) (rw (fitted-same t₁ t l₁) e) x₂ in
+    let y₃ = word-put t₂ t₃ i side 2 k p s (omega arith) (rw (fitted-same t₂ t l₂) e) x₃ in
+    let y₄ = word-put t₃ t₄ i side 3 k q s (omega arith) (rw (fitted-same t₃ t l₃) e) x₄ in
+    y₄ ∙ ap (store (write (cell (speech (speechWord i side 3))) q)) (y₃ ∙ ap (store (write (cell (speech (speechWord i side 2))) p)) (y₂ ∙ ap (store (write (cell (speech (speechWord i side 1))) a)) y₁))
 
 -- a test as a number
 bit-pick : (b : Bool) → boolByte b ≡ pick b 1 0

@@ -1,13 +1,14 @@
 // The lent table, whose size tells the lines fitted, read and written by the number of a termination and by the number of a context.
 ghost use mathlib.Core.Path.{_≡_};
-ghost use Prim.Native.Nat.{_+_, _-_, _*_, _/_, _^_, _<_, _≤_};
+ghost use Prim.Native.Nat.{_+_, _-_, _*_, _/_, _^_, _<_, _≤_, min};
 ghost use mathlib.Core.Bool.{true};
-ghost use mathlib.Core.List.{_++_};
+ghost use mathlib.Core.List.{[], _++_};
 ghost use lib.ListN.{length, getD, set};
 ghost use Rattle.base.specs.Pick.{pick};
 ghost use Rattle.base.specs.Lists.{count, lowestAbsent};
 ghost use Rattle.megaco.specs.Map.{digits, withDigit, inUse};
-ghost use Rattle.megaco.specs.Table.{lineTerminations, terminations, regions, startOf, place, words, fitted, Sized, prop, rec, used, flow, lowFlow, highFlow, ctx, cell, address, get, write, store, places, isEphemeral, exists, known, members, placeIn, freeContext, freeEphemeral, usedEphemerals};
+ghost use Rattle.megaco.specs.Attempt.{sideWrites};
+ghost use Rattle.megaco.specs.Table.{lineTerminations, terminations, regions, startOf, place, words, fitted, Sized, prop, rec, used, flow, lowFlow, highFlow, ctx, cell, address, get, write, store, apply, places, isEphemeral, exists, known, members, placeIn, freeContext, freeEphemeral, usedEphemerals};
 
 // The most lines that can be fitted.
 pub const MOST_LINES: u32 = 16;
@@ -31,8 +32,11 @@ const MAP: usize = 2;
 // The words of the flows, two for each context.
 const FLOWS: usize = 2 * CONTEXTS as usize;
 
+// The words that tell where speech goes, eight for each ephemeral.
+const SPEECH: usize = 8 * EPHEMERALS as usize;
+
 // The words of a table without lines, and those that each line adds.
-pub const NO_LINES: usize = 2 * EPHEMERALS as usize + CONTEXTS as usize + MAP + FLOWS;
+pub const NO_LINES: usize = 2 * EPHEMERALS as usize + CONTEXTS as usize + MAP + FLOWS + SPEECH;
 
 pub const LINE: usize = 2 * CHANNELS;
 
@@ -69,7 +73,7 @@ pub fn line_terminations(lines: u32) -> usize
     CHANNELS * lines as usize
 }
 
-// ---- regions: 0 the contexts, 1 the properties, 2 the records, 3 the map, 4 the flows; behind them the table ends
+// ---- regions: 0 the contexts, 1 the properties, 2 the records, 3 the map, 4 the flows, 5 where speech goes; behind them the table ends
 
 // Where a region starts in a table of so many lines. No other function adds the regions' sizes.
 fn start_of(lines: usize, k: usize) -> usize
@@ -83,7 +87,8 @@ fn start_of(lines: usize, k: usize) -> usize
         2 => n + n,
         3 => n + n + CONTEXTS as usize,
         4 => n + n + CONTEXTS as usize + MAP,
-        _ => n + n + CONTEXTS as usize + MAP + FLOWS,
+        5 => n + n + CONTEXTS as usize + MAP + FLOWS,
+        _ => n + n + CONTEXTS as usize + MAP + FLOWS + SPEECH,
     }
 }
 
@@ -301,6 +306,40 @@ pub fn set_used(table: &mut [u32], i: usize, on: bool)
     let a = word_place(table, 3, k / 32);
     let w = word_at(table, a);
     put_word(table, a, with_digit(w, (k % 32) as u32, on));
+}
+
+// ---- where speech goes
+
+// The number of an ephemeral in the region of speech: from 127 on, past the table's end, they are not told apart.
+const MOST_NUMBER: usize = 127;
+
+// Where the first of the four words of Local (side 0) or Remote (side 1) stands.
+fn side_place(table: &[u32], i: usize, side: usize) -> usize
+    requires { ⌜ side < 2 ⌝ }
+    ensures { λ r. ⌜ (r ≡ place 5 (regions (fitted (now (table .entry)))) (8 * min (i - lineTerminations (fitted (now (table .entry)))) 127 + 4 * side)) × (r ≤ 4096 + length (now (table .entry))) ⌝ }
+{
+    let k = numbers::low(ephemeral_number(table, i), MOST_NUMBER);
+    region_start(table, 5) + (8 * k + 4 * side)
+}
+
+// Sets the four words of Local or Remote: 1, the address, the port and the payload type, or four zeros.
+pub fn set_side(
+    table: &mut [u32],
+    i: usize,
+    side: usize,
+    flag: u32,
+    address: u32,
+    port: u32,
+    payload: u32,
+)
+    requires { ⌜ side < 2 ⌝ }
+    ensures { λ _. ⌜ now (table .exit) ≡ apply (sideWrites i side flag address port payload []) (now (table .entry)) ⌝ }
+{
+    let k = side_place(table, i, side);
+    put_word(table, k, flag);
+    put_word(table, k + 1, address);
+    put_word(table, k + 2, port);
+    put_word(table, k + 3, payload);
 }
 
 // ---- what the words tell

@@ -1,4 +1,4 @@
--- A table of 1,010 words has eight lines.
+-- A table of 1,522 words has eight lines.
 use Prim.Native.Nat.{ℕ}
 use mathlib.Core.Path.{_≡_}
 use mathlib.Core.List.{List}
@@ -7,5 +7,5 @@ use native.Mathlib.Omega.{arith}
 use Rattle.megaco.specs.Table.{fitted, Sized}
 use Rattle.megaco.proofs.Sizes.{fitted-is}
 
-pub eight : (t : List ℕ) → length t ≡ 1010 → Sized t
+pub eight : (t : List ℕ) → length t ≡ 1522 → Sized t
 eight t l = let f : fitted t ≡ 8 = fitted-is 8 t l in record { some = omega arith; few = omega arith; long = omega arith }

@@ -25,7 +25,7 @@ fn main() {
 // ---- lines
 
 fn run(room: &mut [u32], s: &[u8])
-    requires { ⌜ length (now room) ≡ 1011 ⌝ }
+    requires { ⌜ length (now room) ≡ 1523 ⌝ }
 {
     let mut a: usize = 0;
     while a < s.len() {
@@ -38,7 +38,7 @@ fn run(room: &mut [u32], s: &[u8])
 }
 
 fn case(room: &mut [u32], line: &[u8])
-    requires { ⌜ length (now room) ≡ 1011 ⌝ }
+    requires { ⌜ length (now room) ≡ 1523 ⌝ }
 {
     if line.len() < 2 {
         return;
@@ -121,7 +121,14 @@ fn put_busy(t: &mut [u32]) {
     program_io::put_run(t, 752, 753, 1);
 }
 
-// 1: busy; 2: 128 contexts; 3: contexts of 8; 4: 64 ephemerals in contexts of 8; else fresh.
+// 64 ephemerals in contexts of 8.
+fn put_rings(t: &mut [u32]) {
+    put_eights(t, 248);
+    program_io::put_run(t, 624, 632, 1);
+    program_io::put_run(t, 752, 754, 4294967295);
+}
+
+// 1: busy; 2: 128 contexts; 3: contexts of 8; 4: 64 ephemerals in contexts of 8; 5: the same, each word of their speech 1; else fresh.
 fn start(t: &mut [u32], base: u32) {
     program_io::put_run(t, 0, WORDS, 0);
     if base == 1 {
@@ -141,14 +148,17 @@ fn start(t: &mut [u32], base: u32) {
         return;
     }
     if base == 4 {
-        put_eights(t, 248);
-        program_io::put_run(t, 624, 632, 1);
-        program_io::put_run(t, 752, 754, 4294967295);
+        put_rings(t);
+        return;
+    }
+    if base == 5 {
+        put_rings(t);
+        program_io::put_run(t, 1010, WORDS, 1);
     }
 }
 
 fn table_case(t: &mut [u32], line: &[u8])
-    requires { ⌜ length (now t) ≡ 1010 ⌝ }
+    requires { ⌜ length (now t) ≡ 1522 ⌝ }
 {
     start(t, number(line, 1));
     table::put_word(t, number(line, 2) as usize, number(line, 3));
@@ -156,7 +166,7 @@ fn table_case(t: &mut [u32], line: &[u8])
 }
 
 fn report(t: &[u32], c: u32)
-    requires { ⌜ length (now t) ≡ 1010 ⌝ }
+    requires { ⌜ length (now t) ≡ 1522 ⌝ }
 {
     print_sound(t);
     program_io::print_number(b", members ", table::members(t, c) as u64);
@@ -166,7 +176,7 @@ fn report(t: &[u32], c: u32)
 }
 
 fn length_case(room: &mut [u32], n: u32) {
-    program_io::put_run(room, 0, 1011, 0);
+    program_io::put_run(room, 0, 1523, 0);
     let e = n as usize;
     if e <= room.len() {
         print_sound(&room[0..e]);

@@ -1,3 +1,4 @@
 pub mod ClassLaws
 pub mod TextLaws
 pub mod WordLaws
+pub mod OctetLaws

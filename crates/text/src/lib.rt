@@ -1,11 +1,12 @@
 // Leaf readers: bytes and their classes, words in any letter case, white space, rows of bytes, given bytes. Keywords are in crate keywords.
 ghost use mathlib.Core.Path.{_≡_};
 ghost use Prim.Native.Nat.{_<_};
+ghost use mathlib.Core.Bool.{_&&_, not};
 ghost use lib.Dec.{eqb};
 ghost use Rattle.base.specs.Lists.{isAt, same};
-ghost use Rattle.megaco.specs.Bytes.{isLetter, isDigit, isWhite, isLineEnd, isComment, capital, capitals};
+ghost use Rattle.megaco.specs.Bytes.{rightBrace, isLetter, isDigit, isWhite, isLineEnd, isComment, capital, capitals};
 ghost use Rattle.megaco.specs.White.{goesOn, insideAfter, stopAt, whiteAt, sepAt};
-ghost use Rattle.megaco.specs.Tokens.{markAt, signAt, letterAt, rowAt};
+ghost use Rattle.megaco.specs.Tokens.{markAt, signAt, letterAt, rowAt, octetsAt};
 ghost use Rattle.text.specs.Classes.{lowOf, highOf, halfOf, OfMaps};
 use megaco::Class;
 use megaco::Parsed;
@@ -148,7 +149,7 @@ fn is_white(b: u8) -> bool
     (b == b' ') | (b == b'\t') | (b == b'\r') | (b == b'\n')
 }
 
-fn is_line_end(b: u8) -> bool
+pub fn is_line_end(b: u8) -> bool
     ensures { λ r. ⌜ r ≡ isLineEnd b ⌝ }
 {
     (b == b'\r') | (b == b'\n')
@@ -228,6 +229,35 @@ pub fn sep(s: &[u8], at: usize) -> Parsed
     };
     if at < p {
         return Parsed::Next(p);
+    }
+    Parsed::Fault
+}
+
+// ---- the text in the braces of Local or Remote
+
+// Whether a byte ends it, told whether a backslash stands before.
+fn closes(b: u8, escaped: bool) -> bool
+    ensures { λ r. ⌜ r ≡ (eqb b rightBrace && not escaped) ⌝ }
+{
+    (b == b'}') & !escaped
+}
+
+// The first closing brace that has no backslash before it; a byte 0 before it is a fault.
+pub fn octets(s: &[u8], at: usize) -> Parsed
+    ensures { λ r. ⌜ r ≡ octetsAt (now (s .entry)) at ⌝ }
+{
+    let mut i = at;
+    let mut escaped = false;
+    while i < s.len() {
+        let b = s[i];
+        if b == 0 {
+            return Parsed::Fault;
+        }
+        if closes(b, escaped) {
+            return Parsed::Next(i);
+        }
+        escaped = b == b'\\';
+        i += 1;
     }
     Parsed::Fault
 }

@@ -23,6 +23,12 @@ extern "C" {
         out_len: usize,
     ) -> u64;
 
+    pub fn cordafina_text_side(message: *const u8, message_len: usize, k: usize) -> u32;
+
+    pub fn cordafina_text(message: *const u8, message_len: usize, k: usize) -> u64;
+
+    pub fn cordafina_text_name(message: *const u8, message_len: usize, k: usize) -> u64;
+
     pub fn cordafina_lowest_absent(map: u64) -> u32;
 
     pub fn cordafina_in_use(map: u64) -> u32;

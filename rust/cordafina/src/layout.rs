@@ -56,8 +56,16 @@ pub const fn flows_start(lines: u32) -> usize {
     map_start(lines) + 2
 }
 
-/// Words of a table of so many lines: 1010 for eight.
+/// Where the words that tell where speech goes start, for so many lines: eight
+/// for each ephemeral, of Local 1, the address, the port and the payload type, or
+/// four zeros, then the same of Remote.
+#[must_use]
+pub const fn speech_start(lines: u32) -> usize {
+    flows_start(lines) + 2 * CONTEXTS
+}
+
+/// Words of a table of so many lines: 1522 for eight.
 #[must_use]
 pub const fn table_words(lines: u32) -> usize {
-    flows_start(lines) + 2 * CONTEXTS
+    speech_start(lines) + 8 * EPHEMERALS
 }

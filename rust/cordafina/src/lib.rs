@@ -78,6 +78,22 @@
 //! # Ok::<(), cordafina::Refusal>(())
 //! ```
 //!
+//! The texts in the braces of Local and Remote, for the card that sends and
+//! takes the speech, are parts of the message itself, in reading order:
+//!
+//! ```
+//! use cordafina::{texts, Side};
+//!
+//! let message = b"!/1 [10.0.0.1] T=1{C=1{MF=R/1{M{R{v=0}}},MF=r/3{M{L{},R{v=0}}}}}";
+//! let held: Vec<_> = texts(message).map(|text| (text.side, text.name, text.text)).collect();
+//! let [one, three]: [&[u8]; 2] = [b"R/1", b"r/3"];
+//! let [nothing, version]: [&[u8]; 2] = [b"", b"v=0"];
+//! assert_eq!(held[0], (Side::Remote, one, version));
+//! assert_eq!(held[1], (Side::Local, three, nothing));
+//! assert_eq!(held[2], (Side::Remote, three, version));
+//! assert_eq!(held.len(), 3);
+//! ```
+//!
 //! The archive that is linked is the one that `rt staticlib cordafina` writes,
 //! or the one that the variable `CORDAFINA_LIB` names when this crate is built
 //! (from the top folder of the repository on, if the path is not absolute).
@@ -93,16 +109,19 @@ mod layout;
 mod refusal;
 mod table;
 mod termination;
+mod texts;
 
 pub use gateway::Gateway;
 pub use layout::{
-    flows_start, line_terminations, map_start, records_start, table_words, terminations,
+    flows_start, line_terminations, map_start, records_start, speech_start, table_words,
+    terminations,
 };
 pub use layout::{CHANNELS, CONTEXTS, EPHEMERALS, MEMBERS, MESSAGE_BYTES, MID_BYTES};
 pub use layout::{MOST_LINES, OUTPUT_BYTES, REPLY_BYTES};
 pub use refusal::Refusal;
-pub use table::{Context, Table};
+pub use table::{Context, Session, Table};
 pub use termination::{Mode, ServiceState, Termination, UnknownName};
+pub use texts::{text, texts, Side, Text};
 
 /// Answers one message on a table, for a gateway of this own mId: the reply's
 /// length, from the buffer's start on; the bytes past it stay. With a refusal

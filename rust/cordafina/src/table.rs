@@ -2,7 +2,7 @@
 
 use core::{fmt, str};
 
-use crate::layout::{flows_start, line_terminations, map_start, records_start};
+use crate::layout::{flows_start, line_terminations, map_start, records_start, speech_start};
 use crate::layout::{table_words, terminations, CONTEXTS, MEMBERS, MOST_LINES, OUTPUT_BYTES};
 use crate::{contexts_word, in_use, lowest_absent, Mode, Refusal, ServiceState, Termination};
 
@@ -136,6 +136,31 @@ impl Table {
         Some(self.words[terminations(self.lines) + number])
     }
 
+    /// Where the ephemeral's Local says that speech goes; `None` if it says
+    /// nothing, or for a line.
+    #[must_use]
+    pub fn local_of(&self, termination: Termination) -> Option<Session> {
+        self.side_of(termination, 0)
+    }
+
+    /// The same of its Remote.
+    #[must_use]
+    pub fn remote_of(&self, termination: Termination) -> Option<Session> {
+        self.side_of(termination, 4)
+    }
+
+    fn side_of(&self, termination: Termination, side: usize) -> Option<Session> {
+        let number = self.number_of(termination)?;
+        let place = number.checked_sub(line_terminations(self.lines))?;
+        let first = speech_start(self.lines) + 8 * place + side;
+        let [flag, address, port, payload_type] = [0, 1, 2, 3].map(|j| self.words[first + j]);
+        (flag != 0).then_some(Session {
+            address: address.to_be_bytes(),
+            port: port as u16,
+            payload_type: payload_type as u8,
+        })
+    }
+
     // ---- contexts
 
     /// The contexts that exist, ascending.
@@ -231,6 +256,17 @@ impl fmt::Debug for Table {
             .entries(words.filter(|(_, word)| **word != 0))
             .finish()
     }
+}
+
+/// Where speech goes: an address, a port and a payload type of RTP.
+#[derive(Clone, Copy, Debug, PartialEq, Eq)]
+pub struct Session {
+    /// The four numbers of the address, in the order written.
+    pub address: [u8; 4],
+    /// The port.
+    pub port: u16,
+    /// 0 to 127.
+    pub payload_type: u8,
 }
 
 /// A context of a table.

@@ -147,7 +147,7 @@ fn tables_by_their_count() {
     }
     for lines in 1..=MOST_LINES {
         let table = Table::with_lines(lines).unwrap();
-        let words = vec![0; 2 * (31 * lines as usize + 64) + 128 + 2 + 256];
+        let words = vec![0; 2 * (31 * lines as usize + 64) + 128 + 2 + 256 + 512];
         assert_eq!((table.lines(), table.words()), (lines, &words[..]));
         assert_eq!(Table::from_words(lines, &words), Ok(table));
         let refused = Table::from_words(lines, &words[1..]);

@@ -1,6 +1,7 @@
 //! What a table holds, read by name, against its words.
 
-use cordafina::{flows_start, line_terminations, records_start, table_words, terminations};
+use cordafina::{flows_start, line_terminations, records_start, speech_start, table_words};
+use cordafina::{terminations, Session};
 use cordafina::{Gateway, Mode, Refusal, ServiceState, Table, Termination, UnknownName};
 use cordafina::{MEMBERS, MOST_LINES, OUTPUT_BYTES};
 
@@ -212,4 +213,25 @@ fn report_in_its_output() {
     let mut short = [0xA5; OUTPUT_BYTES - 1];
     assert_eq!(table.report(&mut short), Err(Refusal::OutputTooShort));
     assert!(short.iter().all(|&byte| byte == 0xA5));
+}
+
+#[test]
+fn where_speech_goes() {
+    for lines in [1, 8, 16] {
+        let mut words = after(lines, &["T=1{C=${A=$,A=L/1/1}}"]).words().to_vec();
+        let first = speech_start(lines);
+        words[first..][..4].copy_from_slice(&[1, 0x0A00_0001, 65_535, 127]);
+        let table = Table::from_words(lines, &words).unwrap();
+        let there = Session {
+            address: [10, 0, 0, 1],
+            port: 65_535,
+            payload_type: 127,
+        };
+        assert_eq!(table.local_of(Termination::Ephemeral(1)), Some(there));
+        assert_eq!(table.remote_of(Termination::Ephemeral(1)), None);
+        assert_eq!(table.local_of(Termination::Ephemeral(2)), None);
+        assert_eq!(table.local_of(Termination::Line(1, 1)), None);
+        words[first + 2] += 1;
+        assert_eq!(Table::from_words(lines, &words), Err(Refusal::TableUnsound));
+    }
 }

@@ -3,12 +3,12 @@
 use std::collections::BTreeMap;
 use std::fmt;
 
-use reference::table::{Lines, CONTEXTS};
+use reference::table::{Lines, CONTEXTS, EPHEMERALS};
 use reference::{Answer, MESSAGE_BYTES, REPLY_BYTES};
 
 use crate::messages::{Scope, Writer};
 use crate::numbers::Numbers;
-use crate::{damage, limits, tables};
+use crate::{damage, limits, speech, tables};
 
 /// A side: count of lines, message, table, own mId, reply buffer; the result
 /// as C has it.
@@ -355,6 +355,10 @@ pub struct Tally {
     map: [u64; 2],
     /// Calls that change the flows.
     flows: u64,
+    /// Calls taken whose message holds texts, and calls that change where speech
+    /// goes.
+    texts: u64,
+    speech: u64,
     /// Calls whose reply has the code.
     codes: BTreeMap<u32, u64>,
     /// Transactions' replies of exactly 2,048 bytes.
@@ -365,14 +369,19 @@ impl Tally {
     pub fn count(&mut self, case: &Case, outcome: &Outcome) {
         self.calls += 1;
         match outcome.refusal() {
-            0 => self.taken += 1,
+            0 => {
+                self.taken += 1;
+                self.texts += u64::from(!speech::texts(&case.message).is_empty());
+            }
             refusal => *self.refused.entry(refusal).or_default() += 1,
         }
         if outcome.table() != case.table {
             *self.lines.entry(case.lines).or_default() += 1;
-            let flows = case.table.len() - 2 * CONTEXTS;
+            let speech = case.table.len() - 8 * EPHEMERALS;
+            let flows = speech - 2 * CONTEXTS;
             let map = flows - 2;
-            self.flows += u64::from(outcome.table()[flows..] != case.table[flows..]);
+            self.flows += u64::from(outcome.table()[flows..speech] != case.table[flows..speech]);
+            self.speech += u64::from(outcome.table()[speech..] != case.table[speech..]);
             for (half, changes) in self.map.iter_mut().enumerate() {
                 *changes += u64::from(outcome.table()[map + half] != case.table[map + half]);
             }
@@ -412,6 +421,12 @@ impl Tally {
         if self.flows == 0 {
             missing.push("a change of the flows".to_string());
         }
+        if self.texts == 0 {
+            missing.push("a text".to_string());
+        }
+        if self.speech == 0 {
+            missing.push("a change of where speech goes".to_string());
+        }
         if self.full == 0 {
             missing.push("a reply of 2,048 bytes".to_string());
         }
@@ -438,8 +453,8 @@ impl fmt::Display for Tally {
         let [low, high] = self.map;
         write!(
             f,
-            "; changes of the map low:{low} high:{high}, of the flows:{}; codes",
-            self.flows
+            "; changes of the map low:{low} high:{high}, of the flows:{}, of speech:{}; with texts {}; codes",
+            self.flows, self.speech, self.texts
         )?;
         for (code, calls) in &self.codes {
             write!(f, " {code}:{calls}")?;

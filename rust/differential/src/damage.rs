@@ -88,13 +88,41 @@ fn slip(numbers: &mut Numbers, message: &mut Vec<u8>) {
     const AFTER_EQUALS: [&[u8]; 10] = [
         b"**,A=", b"*/1,A=", b"$1,A=", b"*$,A=", b"$$,A=", b"-", b"=", b"0", b"1", b"\"\"",
     ];
+    const AFTER_BRACE: [&[u8]; 12] = [
+        b"L{},",
+        b"R{ },",
+        b"L{a},",
+        b"L=5{},",
+        b"R=5{a},",
+        b"L/x{a},",
+        b"L,",
+        b"L{v=0},",
+        b"L{;c},",
+        b"R{\0},",
+        b"L{\\},",
+        b"AT{M{L{}}},",
+    ];
+    const IN_TEXT: [&[u8]; 10] = [
+        b"\0",
+        b"\\",
+        b"}",
+        b"\\}",
+        b" ",
+        b"\n",
+        b"\r\n",
+        b"\nv=0\n",
+        b"\n;",
+        b"\ns=\\}\n",
+    ];
     const SPACES: [&[u8]; 6] = [b" ", b"\t", b"\n", b";\r", b";", b"\x0b"];
-    let (signs, texts): (&[u8], &[&[u8]]) = match numbers.under(6) {
+    let (signs, texts): (&[u8], &[&[u8]]) = match numbers.under(8) {
         0 => (b"{,", &AFTER_COMMA),
         1 => (b"=", &AFTER_EQUALS),
         2 => (b"/-.:[]<>!", &SPACES),
         3 => (b"0123456789", &[b"0", b" ", b"9", b"a", b"."]),
         4 => (b"{", &[b"}", b"}", b"{", b",", b"=", b"{}"]),
+        5 => (b"{", &AFTER_BRACE),
+        6 => (b"\r\n.08", &IN_TEXT),
         _ => (b"}", &[b"}", b",", b"{}", b"T=0", b"T=1{C=-{MF=ROOT}}"]),
     };
     // Such a sign, from some place on: it goes, or a text comes beside it.
@@ -120,7 +148,7 @@ fn slip(numbers: &mut Numbers, message: &mut Vec<u8>) {
 
 /// Line noise: any bytes, bytes of the grammar, or pieces of messages.
 pub fn noise(numbers: &mut Numbers) -> Vec<u8> {
-    const PIECES: [&[u8]; 24] = [
+    const PIECES: [&[u8]; 27] = [
         b"!/1 [1.2.3.4] ",
         b"MEGACO/1 a ",
         b"!/2 <x> ",
@@ -139,6 +167,9 @@ pub fn noise(numbers: &mut Numbers) -> Vec<u8> {
         b"W-",
         b"{M{O{MO=SR}}}",
         b"{M{TS{SI=\"OS\"}}}",
+        b"{M{L{v=0\nc=IN IP4 1.2.3.4\nm=audio 5 RTP/AVP 0}}}",
+        b"{M{R{}}}",
+        b"{M{L{",
         b"PR=3",
         b"EG",
         b",",

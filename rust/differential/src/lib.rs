@@ -11,4 +11,5 @@ pub mod maps;
 pub mod messages;
 pub mod numbers;
 pub mod pairs;
+pub mod speech;
 pub mod tables;

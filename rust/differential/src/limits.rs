@@ -115,7 +115,7 @@ fn inside(writer: &mut Writer) {
         writer.open_action();
     }
     let length = about_64(writer);
-    match writer.numbers.under(9) {
+    match writer.numbers.under(11) {
         0 => {
             writer.put(b"PR=");
             let priority = writer.numbers.pick(&PRIORITIES);
@@ -163,6 +163,7 @@ fn inside(writer: &mut Writer) {
             }
             writer.put(b"}}}");
         }
+        7 | 8 => writer.odd_speech(),
         _ => {
             let levels = writer.numbers.within(7..=9);
             writer.put(b"MF=L/1/1");

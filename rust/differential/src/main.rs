@@ -129,7 +129,8 @@ fn contexts(seed: u64, count: u64) -> bool {
 
 fn pairs(seed: u64, count: u64) -> bool {
     let mut numbers = Numbers::new(seed);
-    let (mut apart, mut both_table, mut both_map, mut both_flows) = (0, 0, 0, 0);
+    let (mut apart, mut both_table, mut both_map, mut both_flows, mut both_speech) =
+        (0, 0, 0, 0, 0);
     let (mut others, mut unlike) = (0, 0);
     while apart < count {
         let pair = Pair::new(&mut numbers);
@@ -145,6 +146,7 @@ fn pairs(seed: u64, count: u64) -> bool {
                 both_table += u64::from(run.as_ref().is_ok_and(|both| both.table));
                 both_map += u64::from(run.as_ref().is_ok_and(|both| both.map));
                 both_flows += u64::from(run.as_ref().is_ok_and(|both| both.flows));
+                both_speech += u64::from(run.as_ref().is_ok_and(|both| both.speech));
             }
             run => {
                 others += 1;
@@ -154,7 +156,7 @@ fn pairs(seed: u64, count: u64) -> bool {
     }
     println!(
         "seed {seed}, {apart} pairs that are apart, in {both_table} both change the table, in {both_map} the map, in \
-         {both_flows} the flows: 0 end unlike; of {others} other pairs {unlike} end unlike"
+         {both_flows} the flows, in {both_speech} where speech goes: 0 end unlike; of {others} other pairs {unlike} end unlike"
     );
     true
 }

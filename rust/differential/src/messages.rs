@@ -1,11 +1,11 @@
-//! Messages that read well: "Annex B.2, profiled", with every command, item
-//! and name, keywords long and short in any letter case, and white space in
+//! Messages that read well: "Annex B.2, profiled", with every command, item,
+//! text and name, keywords long and short in any letter case, and white space in
 //! odd places.
 
 use reference::table::{write_name, write_number, Lines, CONTEXTS, OUT_OF_SERVICE};
 
 use crate::numbers::Numbers;
-use crate::tables;
+use crate::{speech, tables};
 
 const LETTERS: &[u8] = b"ABCDEFGHIJKLMNOPQRSTUVWXYZabcdefghijklmnopqrstuvwxyz";
 const WORD: &[u8] = b"ABCLMORSTXZabclmorstxz0123456789_";
@@ -33,6 +33,8 @@ const AUDIT: Forms = (b"Audit", b"AT");
 const MEDIA: Forms = (b"Media", b"M");
 const LOCAL_CONTROL: Forms = (b"LocalControl", b"O");
 const TERMINATION_STATE: Forms = (b"TerminationState", b"TS");
+const LOCAL: Forms = (b"Local", b"L");
+const REMOTE: Forms = (b"Remote", b"R");
 const MODE: Forms = (b"Mode", b"MO");
 const SERVICE_STATES: Forms = (b"ServiceStates", b"SI");
 const VALUES: [Forms; 8] = [
@@ -504,8 +506,17 @@ impl<'a> Writer<'a> {
             self.keyword(COMMANDS[kind]);
         }
         self.sign(b'=');
-        self.termination(kind);
+        // Items do not suit a Subtract or, but for Audit, an AuditValue.
+        let speaks = match kind {
+            SUBTRACT | AUDIT_VALUE => self.numbers.one_in(16),
+            _ => self.numbers.one_in(4),
+        };
+        match speaks && !self.numbers.one_in(4) {
+            true => self.ephemeral(kind),
+            false => self.termination(kind),
+        }
         match self.numbers.under(32) {
+            _ if speaks => self.speech(),
             0 => {
                 self.sign(b'{');
                 self.items(1);
@@ -600,11 +611,29 @@ impl<'a> Writer<'a> {
     /// one in null, Modify, Subtract and AuditValue one of the action's context,
     /// Move one of another context.
     fn suited(&mut self, kind: usize) -> usize {
-        self.one_that(|writer, _, context| match kind {
+        self.one_that(|writer, _, context| writer.suits(kind, context))
+    }
+
+    fn suits(&self, kind: usize, context: u32) -> bool {
+        match kind {
             ADD => context == 0,
-            MODIFY | SUBTRACT | AUDIT_VALUE => context == writer.context,
-            _ => context != 0 && context != writer.context,
-        })
+            MODIFY | SUBTRACT | AUDIT_VALUE => context == self.context,
+            _ => context != 0 && context != self.context,
+        }
+    }
+
+    /// An ephemeral that the command can succeed with, if there is one; of an Add
+    /// the one that it makes.
+    fn ephemeral(&mut self, kind: usize) {
+        if kind == ADD && !self.scope.plain {
+            let name = self.numbers.pick(&[b"$" as &[u8], b"R/$"]);
+            return self.letters(name);
+        }
+        let first = self.scope.lines.line_terminations();
+        let termination = self.one_that(|writer, termination, context| {
+            termination >= first && writer.suits(kind, context)
+        });
+        self.name(termination);
     }
 
     /// A termination that fits, by its number and its context, if there is one.
@@ -667,6 +696,101 @@ impl<'a> Writer<'a> {
             self.item_word(MEDIA);
         }
         self.sign(b'}');
+    }
+
+    /// `{..}` with Media that holds Local, Remote or both, and others beside them;
+    /// or now and then with these words where no text stands.
+    fn speech(&mut self) {
+        self.sign(b'{');
+        if self.numbers.one_in(24) {
+            let items: [&[u8]; 5] = [
+                b"L{a}",
+                b"AT{M{R{a}}}",
+                b"X{M{L{a}}}",
+                b"M{O{L{a}}}",
+                b"M{L/x{a}}",
+            ];
+            let items = self.numbers.pick(&items);
+            self.put(items);
+            return self.sign(b'}');
+        }
+        let media = self.item_word(MEDIA);
+        if self.off() {
+            self.sign(b'=');
+            self.plain_value(1);
+        }
+        if !self.off() {
+            self.sign(b'{');
+            if self.numbers.one_in(6) {
+                let local_control = self.numbers.one_in(2);
+                self.inside_media(local_control);
+                self.sign(b',');
+            }
+            let local = self.numbers.one_in(2);
+            self.session(local, media);
+            if self.numbers.one_in(3) {
+                self.sign(b',');
+                let again = self.off();
+                self.session(local == again, media);
+            }
+            if self.numbers.one_in(6) {
+                let local_control = self.numbers.one_in(2);
+                self.sign(b',');
+                self.inside_media(local_control);
+            }
+            self.sign(b'}');
+        }
+        self.sign(b'}');
+    }
+
+    /// Local or Remote with its text, or with an item where no text stands.
+    fn session(&mut self, local: bool, media: bool) {
+        let named = self.item_word(if local { LOCAL } else { REMOTE });
+        let value = self.off();
+        if value {
+            self.sign(b'=');
+            self.plain_value(1);
+        }
+        if self.off() {
+            return;
+        }
+        self.sign(b'{');
+        let text = match media && named && !value {
+            true => speech::text(self.numbers),
+            false => b"a".to_vec(),
+        };
+        self.put(&text);
+        // White space before the brace would be of the text.
+        self.put(b"}");
+        self.white();
+    }
+
+    /// A command on an ephemeral, with items about the places where a text stands or
+    /// with something put into a text; it may not read.
+    pub fn odd_speech(&mut self) {
+        let kind = self
+            .numbers
+            .pick(&[ADD, MODIFY, MODIFY, SUBTRACT, MOVE, AUDIT_VALUE]);
+        self.put(b"O-");
+        self.keyword(COMMANDS[kind]);
+        self.put(b"=");
+        self.ephemeral(kind);
+        self.put(b"{");
+        if self.numbers.one_in(2) {
+            let items = self.numbers.pick(&speech::SHAPES);
+            self.put(items);
+        } else {
+            let mut text = speech::text(self.numbers);
+            let place = match self.numbers.one_in(2) {
+                true => text.len(),
+                false => self.numbers.under(text.len() + 1),
+            };
+            text.insert(place, self.numbers.pick(b"\0\\} \t\r;,"));
+            self.put(b"M{L{");
+            self.put(&text);
+            self.put(b"}}");
+        }
+        self.put(b"}");
     }
 
     /// `{..}` with Audit, which is empty or holds Media.

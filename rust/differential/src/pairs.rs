@@ -30,6 +30,8 @@ pub struct BothChange {
     pub map: bool,
     /// The flows.
     pub flows: bool,
+    /// Where speech goes.
+    pub speech: bool,
 }
 
 impl Pair {
@@ -102,7 +104,8 @@ impl Pair {
         let both_change = BothChange {
             table: both(0..self.lines.words()),
             map: both(self.lines.map()..self.lines.flows()),
-            flows: both(self.lines.flows()..self.lines.words()),
+            flows: both(self.lines.flows()..self.lines.speech()),
+            speech: both(self.lines.speech()..self.lines.words()),
         };
 
         let mut other = self.table.clone();

@@ -1,6 +1,6 @@
 //! Tables: random sound ones, and damaged ones.
 
-use reference::table::{Lines, CONTEXTS, MEMBERS};
+use reference::table::{Lines, CONTEXTS, EPHEMERALS, MEMBERS};
 
 use crate::numbers::Numbers;
 
@@ -67,7 +67,21 @@ pub fn sound(numbers: &mut Numbers, lines: Lines) -> Vec<u32> {
     }
     set_map(lines, &mut table);
     set_flows(numbers, lines, &mut table);
+    set_speech(numbers, lines, &mut table);
     table
+}
+
+/// Sets where the speech of the ephemerals goes: of all, of some or of none.
+fn set_speech(numbers: &mut Numbers, lines: Lines, table: &mut [u32]) {
+    let set = numbers.pick(&[1, 2, 8, 100]);
+    for place in 0..2 * EPHEMERALS {
+        if table[lines.line_terminations() + place / 2] != 0 && numbers.one_in(set) {
+            let address = numbers.word() as u32;
+            let port = numbers.pick(&[0, 1, 5004, 65_535]);
+            let first = lines.speech() + 4 * place;
+            table[first..][..4].copy_from_slice(&[1, address, port, numbers.under(128) as u32]);
+        }
+    }
 }
 
 /// Sets the flows of each context: all, none or some of those between two
@@ -114,6 +128,7 @@ pub fn lowest(numbers: &mut Numbers, lines: Lines) -> Vec<u32> {
     }
     set_map(lines, &mut table);
     set_flows(numbers, lines, &mut table);
+    set_speech(numbers, lines, &mut table);
     table
 }
 
@@ -159,7 +174,7 @@ pub fn damaged(numbers: &mut Numbers, lines: Lines) -> Vec<u32> {
     let context = numbers.within(1..=CONTEXTS);
     let record = records + context - 1;
     let termination = numbers.under(lines.terminations());
-    let kind = numbers.under(18);
+    let kind = numbers.under(20);
     match kind {
         0 => {
             // One line less or more is 62 words.
@@ -229,6 +244,19 @@ pub fn damaged(numbers: &mut Numbers, lines: Lines) -> Vec<u32> {
             let member = table[termination].max(1).min(CONTEXTS as u32) as usize;
             let first = lines.flows() + 2 * (member - 1);
             table[first + numbers.under(2)] ^= 1 << numbers.under(32);
+        }
+        // "sound only so, absent ones zero"
+        18 => table[lines.speech() + numbers.under(8 * EPHEMERALS)] ^= 1 << numbers.under(32),
+        19 => {
+            let first = lines.speech() + 4 * numbers.under(2 * EPHEMERALS);
+            let port = numbers.pick(&[65_535, 65_536]);
+            let side = [
+                numbers.pick(&[0, 1, 1, 2]),
+                0,
+                port,
+                numbers.pick(&[127, 128]),
+            ];
+            table[first..][..4].copy_from_slice(&side);
         }
         // "at most 8 terminations in each non-null context"
         _ => {

@@ -8,9 +8,13 @@ use differential::contexts;
 use differential::maps::{ask, Questions, REFERENCE};
 use differential::numbers::Numbers;
 use differential::pairs::{BothChange, Pair};
+use differential::speech::texts;
 use differential::tables;
 use reference::table::{Lines, Name, CONTEXTS};
-use reference::text::{keyword, read, Action, ContextId, Direction, Item, Property, Triple, Value};
+use reference::text::{
+    keyword, read, Action, Command, ContextId, Direction, Item, Property, Triple, Value,
+};
+use reference::MESSAGE_BYTES;
 
 fn length(word: u64) -> usize {
     word as u32 as usize
@@ -153,7 +157,7 @@ fn map(table: &mut [u32]) -> &mut [u32] {
 /// The words of a table's flows, two a context.
 fn flows(table: &mut [u32]) -> &mut [u32] {
     match tables::lines_of(table.len()) {
-        Some(lines) => &mut table[lines.flows()..],
+        Some(lines) => &mut table[lines.flows()..lines.speech()],
         None => &mut [],
     }
 }
@@ -402,7 +406,247 @@ fn transpose(table: &mut [u32]) {
     }
 }
 
-const DEFECTS: [(&str, Call); 33] = [
+/// The words of a table's speech, eight an ephemeral.
+fn speech(table: &mut [u32]) -> &mut [u32] {
+    match tables::lines_of(table.len()) {
+        Some(lines) => &mut table[lines.speech()..],
+        None => &mut [],
+    }
+}
+
+/// A callee that takes each text as another, which is no longer.
+fn takes_texts(
+    (lines, message, table, own, reply): (u32, &[u8], &mut [u32], &[u8], &mut [u8]),
+    other: impl Fn(&[u8]) -> Vec<u8>,
+) -> u64 {
+    let mut taken = Vec::new();
+    let mut rest = message;
+    if message.len() <= MESSAGE_BYTES {
+        for text in texts(message) {
+            let before = text.as_ptr() as usize - rest.as_ptr() as usize;
+            taken.extend_from_slice(&rest[..before]);
+            taken.extend(other(text));
+            rest = &rest[before + text.len()..];
+        }
+    }
+    taken.extend_from_slice(rest);
+    reference_word(lines, &taken, table, own, reply)
+}
+
+/// A callee that takes each line of each text as another, all in the order that
+/// they are given.
+fn takes_lines(
+    call: (u32, &[u8], &mut [u32], &[u8], &mut [u8]),
+    other: impl Fn(&mut Vec<&[u8]>),
+) -> u64 {
+    takes_texts(call, |text| {
+        let mut lines = text.split(|byte| b"\r\n".contains(byte)).collect();
+        other(&mut lines);
+        lines.join(&b'\n')
+    })
+}
+
+/// The bytes with one part for another of the same length, wherever it stands.
+fn replaced(bytes: &[u8], part: &[u8], other: &[u8]) -> Vec<u8> {
+    let mut bytes = bytes.to_vec();
+    for start in 0..bytes.len() {
+        if bytes[start..].starts_with(part) {
+            bytes[start..start + part.len()].copy_from_slice(other);
+        }
+    }
+    bytes
+}
+
+/// Local and Remote have a text in any place, not in a level 1 Media alone.
+fn text_in_any_place(
+    lines: u32,
+    message: &[u8],
+    table: &mut [u32],
+    own: &[u8],
+    reply: &mut [u8],
+) -> u64 {
+    let any_place = |start: usize| {
+        let [b'{' | b',', b'L' | b'l' | b'R' | b'r', b'{', rest @ ..] = &message[start..] else {
+            return None;
+        };
+        // A text without fault, in the place of which an item reads.
+        let end = (0..rest.len()).find(|&at| rest[at] == b'}' && !rest[..at].ends_with(b"\\"))?;
+        let taken = [&message[..start + 3], b"a", &rest[end..]].concat();
+        let fits =
+            taken.len() <= MESSAGE_BYTES && !rest[..end].iter().any(|byte| b"\0;".contains(byte));
+        (fits && read(&taken).is_ok()).then_some(taken)
+    };
+    let taken = match read(message) {
+        Err(_) if message.len() <= MESSAGE_BYTES => (0..message.len()).find_map(any_place),
+        _ => None,
+    };
+    let taken = taken.unwrap_or_else(|| message.to_vec());
+    reference_word(lines, &taken, table, own, reply)
+}
+
+fn speaks(command: &Command) -> bool {
+    let mut in_media = command.items.iter().flat_map(|item| &item.items);
+    in_media.any(|item| item.text.is_some())
+}
+
+/// 447 on a line comes before 433, 435 and 503.
+fn judges_447_first(
+    lines: u32,
+    message: &[u8],
+    table: &mut [u32],
+    own: &[u8],
+    reply: &mut [u8],
+) -> u64 {
+    let word = reference_word(lines, message, table, own, reply);
+    let transactions = read(message).unwrap_or_default();
+    let actions = transactions.iter().flat_map(|one| &one.actions);
+    let commands: Vec<&Command> = actions.flat_map(|action| &action.commands).collect();
+    for end in 0..length(word) {
+        let (name, code) = reply[..length(word)].split_at_mut(end);
+        let place_tests: [&[u8]; 3] = [b"{ER=433", b"{ER=435", b"{ER=503"];
+        if !place_tests.iter().any(|one| code.starts_with(one)) {
+            continue;
+        }
+        let start = name
+            .iter()
+            .rposition(|&byte| byte == b'=')
+            .map_or(0, |at| at + 1);
+        let name = &name[start..];
+        // Each command of that name has a text, so this one has.
+        let mut of_name = commands
+            .iter()
+            .filter(|one| one.termination == name)
+            .peekable();
+        let fitted = Lines::fitted(lines).expect("the call is taken");
+        let on_line = match Name::of(fitted, name) {
+            Name::Termination(number) => number < fitted.line_terminations(),
+            _ => false,
+        };
+        if on_line && of_name.peek().is_some() && of_name.all(|one| speaks(one)) {
+            code[4..7].copy_from_slice(b"447");
+        }
+    }
+    word
+}
+
+const DEFECTS: [(&str, Call); 46] = [
+    (
+        "a text ends at an escaped brace",
+        |lines, message, table, own, reply| {
+            takes_texts((lines, message, table, own, reply), |text| {
+                replaced(text, b"\\}", b"_}")
+            })
+        },
+    ),
+    (
+        "a backslash is escaped by another",
+        |lines, message, table, own, reply| {
+            takes_texts((lines, message, table, own, reply), |text| {
+                replaced(text, b"\\\\}", b"__}")
+            })
+        },
+    ),
+    (
+        "byte 0 is taken in a text",
+        |lines, message, table, own, reply| {
+            // As byte 1, which is a fault in all other places.
+            reference_word(lines, &replaced(message, b"\0", b"\x01"), table, own, reply)
+        },
+    ),
+    (
+        "Local and Remote have a text in any place",
+        text_in_any_place,
+    ),
+    (
+        "the order of the lines is not judged",
+        |lines, message, table, own, reply| {
+            takes_lines((lines, message, table, own, reply), |lines| {
+                lines.sort_by_key(|line| match line.first() {
+                    Some(b'v') => 0,
+                    Some(b'c') => 1,
+                    Some(b'm') => 2,
+                    _ => 3,
+                });
+            })
+        },
+    ),
+    (
+        "spaces at a line's end are taken",
+        |lines, message, table, own, reply| {
+            takes_lines((lines, message, table, own, reply), |lines| {
+                lines
+                    .iter_mut()
+                    .for_each(|line| *line = line.trim_ascii_end());
+            })
+        },
+    ),
+    (
+        "port 65536 is port 0",
+        |lines, message, table, own, reply| {
+            takes_texts((lines, message, table, own, reply), |text| {
+                replaced(text, b"audio 65536", b"audio 00000")
+            })
+        },
+    ),
+    ("type 128 is type 0", |lines, message, table, own, reply| {
+        takes_texts((lines, message, table, own, reply), |text| {
+            replaced(text, b"RTP/AVP 128", b"RTP/AVP 000")
+        })
+    }),
+    (
+        "Local is kept in Remote's place",
+        |lines, message, table, own, reply| {
+            let exchange = |side: &mut [u32]| side.rotate_left(4);
+            speech(table).chunks_exact_mut(8).for_each(exchange);
+            let word = reference_word(lines, message, table, own, reply);
+            speech(table).chunks_exact_mut(8).for_each(exchange);
+            word
+        },
+    ),
+    (
+        "the first number of an address is lowest",
+        |lines, message, table, own, reply| {
+            let backward = |side: &mut [u32]| side[1] = side[1].swap_bytes();
+            speech(table).chunks_exact_mut(4).for_each(backward);
+            let word = reference_word(lines, message, table, own, reply);
+            speech(table).chunks_exact_mut(4).for_each(backward);
+            word
+        },
+    ),
+    (
+        "one side given, the other is released",
+        |lines, message, table, own, reply| {
+            let before = speech(table).to_vec();
+            let word = reference_word(lines, message, table, own, reply);
+            for (new, old) in speech(table)
+                .chunks_exact_mut(8)
+                .zip(before.chunks_exact(8))
+            {
+                let (local, remote) = new.split_at_mut(4);
+                match (local == &old[..4], remote == &old[4..]) {
+                    (false, true) if local[0] == 1 => remote.fill(0),
+                    (true, false) if remote[0] == 1 => local.fill(0),
+                    _ => {}
+                }
+            }
+            word
+        },
+    ),
+    (
+        "a Subtract keeps where speech goes",
+        |lines, message, table, own, reply| {
+            let before = speech(table).to_vec();
+            let word = reference_word(lines, message, table, own, reply);
+            let exists = tables::lines_of(table.len()).map(|lines| tables::map(lines, table));
+            for (place, &old) in before.iter().enumerate() {
+                if exists.is_some_and(|map| map >> (place / 8) & 1 == 0) {
+                    speech(table)[place] = old;
+                }
+            }
+            word
+        },
+    ),
+    ("447 before the place test", judges_447_first),
     ("503 is judged after the items", judges_after_items),
     ("503 for Test", test_503),
     ("503 before 433", judges_before_433),
@@ -716,12 +960,24 @@ fn each_defect_is_found() {
 
 #[test]
 fn the_reference_is_like_itself() {
-    let mut cases = Cases::new(2);
-    for _ in 0..5_000 {
-        let case = cases.draw();
-        match compare(&case, reference_word, GUARD) {
-            Ok(outcome) => cases.left(outcome.table()),
-            Err(found) => panic!("{found}"),
+    // Also where texts and lines are taken as they are.
+    const SAME: [Call; 3] = [
+        reference_word,
+        |lines, message, table, own, reply| {
+            takes_texts((lines, message, table, own, reply), <[u8]>::to_vec)
+        },
+        |lines, message, table, own, reply| {
+            takes_lines((lines, message, table, own, reply), |_| {})
+        },
+    ];
+    for same in SAME {
+        let mut cases = Cases::new(2);
+        for _ in 0..5_000 {
+            let case = cases.draw();
+            match compare(&case, same, GUARD) {
+                Ok(outcome) => cases.left(outcome.table()),
+                Err(found) => panic!("{found}"),
+            }
         }
     }
 }
@@ -749,6 +1005,7 @@ fn most_pairs_are_apart() {
     assert!(apart.len() > 3_200, "{} of 4,000", apart.len());
     assert!(both.iter().filter(|both| both.table).count() > 200);
     assert!(both.iter().filter(|both| both.map).count() > 20);
+    assert!(both.iter().filter(|both| both.speech).count() > 20);
 }
 
 #[test]

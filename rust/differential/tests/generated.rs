@@ -3,7 +3,8 @@
 use differential::calls::{compare, reference_word, Cases, Tally, GUARD};
 use differential::messages::{Scope, Writer};
 use differential::numbers::Numbers;
-use differential::tables;
+use differential::{speech, tables};
+use reference::sdp::session;
 use reference::table::{Lines, Table};
 use reference::text::{read, Fault};
 
@@ -18,10 +19,11 @@ fn counts_of_lines() {
     assert!([1, 8, 9, 16].iter().all(|&often| found[often] > 200));
     for count in 1..=16 {
         let lines = Lines::fitted(count);
-        assert_eq!(tables::lines_of(62 * count as usize + 514), lines);
+        assert_eq!(tables::lines_of(62 * count as usize + 1_026), lines);
     }
-    // Nor a table without the flows, or without map and flows.
-    assert_eq!([0, 752, 754].map(tables::lines_of), [None; 3]);
+    // Nor a table without the words of speech, without those and the flows, or
+    // without the map too.
+    assert_eq!([0, 752, 754, 1_010].map(tables::lines_of), [None; 4]);
 }
 
 #[test]
@@ -64,6 +66,38 @@ fn messages_read_well() {
         }
     }
     assert!((10..500).contains(&other_versions));
+}
+
+#[test]
+fn texts_are_in_the_subset_or_not() {
+    let mut numbers = Numbers::new(1);
+    let texts: Vec<Vec<u8>> = (0..4_000).map(|_| speech::text(&mut numbers)).collect();
+    let empty = texts.iter().filter(|text| text.is_empty()).count();
+    let good = texts.iter().filter(|text| session(text).is_some()).count();
+    assert!((300..800).contains(&empty), "{empty} empty");
+    assert!((1_500..2_800).contains(&good), "{good} in the subset");
+    // Of the commands some 10 to 15 % have a text.
+    let (mut commands, mut with_text) = (0, 0);
+    for _ in 0..5_000 {
+        let lines = tables::lines(&mut numbers);
+        let table = tables::sound(&mut numbers, lines);
+        let scope = Scope::whole(&mut numbers, lines, &table);
+        let message = Writer::new(&mut numbers, &table, &scope).message();
+        for transaction in read(&message).unwrap_or_default() {
+            for command in transaction
+                .actions
+                .iter()
+                .flat_map(|action| &action.commands)
+            {
+                let mut items = command.items.iter().flat_map(|item| &item.items);
+                commands += 1;
+                with_text += usize::from(items.any(|item| item.text.is_some()));
+            }
+        }
+    }
+    let share = 1_000 * with_text / commands;
+    println!("{empty} empty, {good} in the subset; {share} of 1,000 commands");
+    assert!((90..160).contains(&share), "{share} of 1,000 commands");
 }
 
 #[test]

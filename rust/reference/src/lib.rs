@@ -1,5 +1,5 @@
 //! A small Megaco (H.248.1) text gateway, in plain Rust, after document 01 and
-//! document 02's requests 10, 5, 2 and 6.
+//! document 02's requests 10, 5, 2, 1, 6 and 11.
 //!
 //! The count of lines, one message, a lent table and a lent reply buffer go in;
 //! an [`Answer`] comes out. The whole message is read to a tree before anything
@@ -9,6 +9,7 @@ pub mod listing;
 pub mod map;
 pub mod reply;
 pub mod run;
+pub mod sdp;
 pub mod table;
 pub mod text;
 

@@ -4,7 +4,8 @@ use std::ops::ControlFlow::{self, Break, Continue};
 use std::ops::Range;
 
 use crate::reply::Reply;
-use crate::table::{self, Name, Record, Table, Values, MEMBERS, OUT_OF_SERVICE};
+use crate::sdp;
+use crate::table::{self, Name, Record, Session, Table, Values, MEMBERS, OUT_OF_SERVICE};
 use crate::text::{
     keyword, Action, Command, ContextId, Direction, Item, Property, Transaction, Triple, Value,
 };
@@ -397,6 +398,12 @@ impl Runner<'_, '_> {
             Kind::Move if self.table.state_of(termination) == OUT_OF_SERVICE => return Err(503),
             _ => {}
         }
+        // "447 on a line, in Add, Modify and Move after the place test and 503"
+        if termination < self.table.lines().line_terminations()
+            && (values.local.is_some() || values.remote.is_some())
+        {
+            return Err(447);
+        }
         match kind {
             Kind::Subtract => {
                 self.table.subtract(termination);
@@ -511,6 +518,8 @@ fn judge_audit(items: &[Item]) -> Result<bool, Code> {
 fn judge_media(items: &[Item], values: &mut Values) -> Result<(), Code> {
     let mut local_control = false;
     let mut termination_state = false;
+    let mut local = false;
+    let mut remote = false;
     for item in items {
         if names(item, b"LocalControl", b"O") {
             once(&mut local_control)?;
@@ -520,11 +529,27 @@ fn judge_media(items: &[Item], values: &mut Values) -> Result<(), Code> {
             once(&mut termination_state)?;
             descriptor_shape(item)?;
             values.state = judge_property(&item.items, b"ServiceStates", b"SI", table::state)?;
+        } else if names(item, b"Local", b"L") {
+            once(&mut local)?;
+            values.local = Some(judge_text(item)?);
+        } else if names(item, b"Remote", b"R") {
+            once(&mut remote)?;
+            values.remote = Some(judge_text(item)?);
         } else {
             return Err(444);
         }
     }
     Ok(())
+}
+
+/// "442 for either word with a value or without braces, 449 for text outside the
+/// subset". Gives the session, none where "empty text releases it".
+fn judge_text(item: &Item) -> Result<Option<Session>, Code> {
+    match item.text {
+        None => Err(442),
+        Some(b"") => Ok(None),
+        Some(text) => sdp::session(text).map(Some).ok_or(449),
+    }
 }
 
 /// The items of a descriptor that holds one property alone.

@@ -6,7 +6,8 @@
 //! context its square of flows. Where each part starts follows from the count
 //! of lines that are fitted; with eight of them the first three are document
 //! 01's words 0..311, 312..623 and 624..751, the map is in words 752 and 753,
-//! and the flows are in words 754..1009.
+//! the flows are in words 754..1009, and where the speech of the ephemerals goes
+//! in words 1010..1521.
 
 use std::ops::Range;
 
@@ -72,9 +73,16 @@ impl Lines {
         self.map() + 2
     }
 
+    /// Where the words of the ephemerals' speech start: "Per ephemeral 1,
+    /// address (first number highest), port and type are kept, for Local and
+    /// then for Remote, or four zeros, in 512 words at the table's end".
+    pub const fn speech(self) -> usize {
+        self.flows() + 2 * CONTEXTS
+    }
+
     /// The words of a table.
     pub const fn words(self) -> usize {
-        self.flows() + 2 * CONTEXTS
+        self.speech() + 8 * EPHEMERALS
     }
 }
 
@@ -98,11 +106,23 @@ impl Record {
     }
 }
 
-/// The property values a command gives.
+/// Where speech goes.
+#[derive(Clone, Copy, Debug, PartialEq, Eq)]
+pub struct Session {
+    /// "first number highest"
+    pub address: u32,
+    pub port: u32,
+    pub payload_type: u32,
+}
+
+/// The property values a command gives; of Local and Remote a session, or that
+/// "empty text releases it".
 #[derive(Clone, Copy, Debug, Default, PartialEq, Eq)]
 pub struct Values {
     pub mode: Option<u32>,
     pub state: Option<u32>,
+    pub local: Option<Option<Session>>,
+    pub remote: Option<Option<Session>>,
 }
 
 /// A sound table, with counts of what stands in it.
@@ -154,7 +174,8 @@ impl<'t> Table<'t> {
         let (stands_in, rest) = words.split_at(lines.properties());
         let (properties, rest) = rest.split_at(lines.terminations());
         let (records, rest) = rest.split_at(CONTEXTS);
-        let (map, squares) = rest.split_at(2);
+        let (map, rest) = rest.split_at(2);
+        let (squares, speech) = rest.split_at(2 * CONTEXTS);
         for (termination, (&context, &property)) in stands_in.iter().zip(properties).enumerate() {
             // "each context word at most 128"
             *members.get_mut(context as usize)? += 1;
@@ -181,6 +202,17 @@ impl<'t> Table<'t> {
             // "the diagonal and unused places 0"
             let held = u64::from(squares[2 * place]) | u64::from(squares[2 * place + 1]) << 32;
             if held & !square(usize::from(count), |_, _| true) != 0 {
+                return None;
+            }
+        }
+        // "sound only so, absent ones zero"
+        for (place, side) in speech.chunks(4).enumerate() {
+            let exists = stands_in[lines.line_terminations() + place / 2] != 0;
+            let sound = match *side {
+                [1, _, port, payload_type] => exists && port <= 65_535 && payload_type <= 127,
+                _ => side.iter().all(|&word| word == 0),
+            };
+            if !sound {
                 return None;
             }
         }
@@ -350,6 +382,19 @@ impl<'t> Table<'t> {
         let mode = values.mode.unwrap_or(*property % 8);
         let state = values.state.unwrap_or(*property / 8);
         *property = mode + 8 * state;
+        for (side, given) in [values.local, values.remote].into_iter().enumerate() {
+            if let Some(session) = given {
+                self.set_side(termination, side, session);
+            }
+        }
+    }
+
+    /// Sets where an ephemeral's speech goes, Local (0) or Remote (1).
+    fn set_side(&mut self, termination: usize, side: usize, session: Option<Session>) {
+        let ephemeral = termination - self.lines.line_terminations();
+        let first = self.lines.speech() + 8 * ephemeral + 4 * side;
+        let words = session.map_or([0; 4], |it| [1, it.address, it.port, it.payload_type]);
+        self.words[first..][..4].copy_from_slice(&words);
     }
 
     /// "Subtract removes an ephemeral; a line returns to null with mode 0, its
@@ -362,6 +407,11 @@ impl<'t> Table<'t> {
         } else {
             0
         };
+        // "Subtract forgets them"
+        if termination >= self.lines.line_terminations() {
+            self.set_side(termination, 0, None);
+            self.set_side(termination, 1, None);
+        }
     }
 }
 

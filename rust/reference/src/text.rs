@@ -88,6 +88,8 @@ pub struct Item<'m> {
     /// Whether it has braces: those of Audit may be empty.
     pub braces: bool,
     pub items: Vec<Item<'m>>,
+    /// What Local or Remote of a level 1 Media has in braces, in place of items.
+    pub text: Option<&'m [u8]>,
 }
 
 #[derive(Clone, Copy, Debug)]
@@ -458,7 +460,7 @@ impl<'m> Reader<'m> {
                 None => {
                     self.equals()?;
                     let termination = self.termination()?;
-                    let items = self.braces(LEVELS)?;
+                    let items = self.braces(LEVELS, false)?;
                     commands.push(Command {
                         optional,
                         wildcarded,
@@ -547,7 +549,8 @@ impl<'m> Reader<'m> {
     }
 
     /// "optional `{` items `}`", with so many levels left; empty without braces.
-    fn braces(&mut self, levels: u32) -> Reads<Vec<Item<'m>>> {
+    /// `media` for those of a level 1 Media.
+    fn braces(&mut self, levels: u32, media: bool) -> Reads<Vec<Item<'m>>> {
         self.white()?;
         if !self.take(b'{') {
             return Ok(Vec::new());
@@ -555,22 +558,22 @@ impl<'m> Reader<'m> {
         if levels == 0 {
             return Err(Broken);
         }
-        self.items(levels)
+        self.items(levels, media)
     }
 
     /// "Items are one or more, joined by commas", through the closing brace.
-    fn items(&mut self, levels: u32) -> Reads<Vec<Item<'m>>> {
+    fn items(&mut self, levels: u32, media: bool) -> Reads<Vec<Item<'m>>> {
         let mut items = Vec::new();
         loop {
             self.white()?;
-            items.push(self.item(levels)?);
+            items.push(self.item(levels, media)?);
             if !self.another()? {
                 return Ok(items);
             }
         }
     }
 
-    fn item(&mut self, levels: u32) -> Reads<Item<'m>> {
+    fn item(&mut self, levels: u32, in_media: bool) -> Reads<Item<'m>> {
         let word = self.word()?;
         let second = if self.take(b'/') {
             Some(self.word()?)
@@ -586,13 +589,22 @@ impl<'m> Reader<'m> {
         };
         self.white()?;
         let braces = self.peek() == Some(b'{');
+        let is = |long, short| second.is_none() && keyword(word, long, short);
+        // "Accept Local/L and Remote/R in a level 1 Media; where a brace comes
+        // next after the word, text runs"
+        let speech = in_media && (is(b"Local", b"L") || is(b"Remote", b"R"));
+        let text = if speech && braces && value.is_none() {
+            Some(self.text()?)
+        } else {
+            None
+        };
         // "Audit/AT may have empty braces, at level 1 of any command, document
         // 01's one exception"
-        let audit = levels == LEVELS && second.is_none() && keyword(word, b"Audit", b"AT");
-        let items = if audit && self.empty_braces()? {
+        let audit = levels == LEVELS && is(b"Audit", b"AT");
+        let items = if text.is_some() || audit && self.empty_braces()? {
             Vec::new()
         } else {
-            self.braces(levels - 1)?
+            self.braces(levels - 1, levels == LEVELS && is(b"Media", b"M"))?
         };
         Ok(Item {
             word,
@@ -600,7 +612,26 @@ impl<'m> Reader<'m> {
             value,
             braces,
             items,
+            text,
         })
+    }
+
+    /// The text in braces: "from after its white space up to the first `}` that
+    /// has no backslash before it, byte 0 being a fault".
+    fn text(&mut self) -> Reads<&'m [u8]> {
+        self.expect(b'{')?;
+        self.white()?;
+        let start = self.at;
+        // No white space ends in a backslash, nor does `{`.
+        while self.peek() != Some(b'}') || self.bytes[self.at - 1] == b'\\' {
+            match self.peek() {
+                None | Some(0) => return Err(Broken),
+                Some(_) => self.at += 1,
+            }
+        }
+        let text = &self.bytes[start..self.at];
+        self.at += 1;
+        Ok(text)
     }
 
     /// Takes braces with nothing but white space inside, if such stand here.

@@ -1,9 +1,10 @@
 //! The session, the short cases and the boundaries of document 01, on eight
-//! lines; and document 02's requests 10, on other counts, 5 and 2.
+//! lines; and document 02's requests 10, on other counts, 5, 2, 6 and 11.
 
 use reference::listing::listing;
 use reference::map::{in_use, lowest_absent};
-use reference::table::{write_name, Lines, Name};
+use reference::sdp;
+use reference::table::{write_name, Lines, Name, Session};
 use reference::{answer, Answer};
 
 const OWN: &[u8] = b"[10.0.0.9]";
@@ -38,12 +39,12 @@ fn inside_on(lines: u32, request: &str, table: &mut [u32]) -> String {
 }
 
 fn fresh(request: &str) -> String {
-    inside(request, &mut [0; 1010])
+    inside(request, &mut [0; 1522])
 }
 
 /// From a table with L/1/1 alone in context 1.
 fn context_1(request: &str) -> String {
-    let mut table = [0; 1010];
+    let mut table = [0; 1522];
     inside("T=1{C=${A=L/1/1}}", &mut table);
     inside(request, &mut table)
 }
@@ -82,7 +83,7 @@ fn session() {
         &[(4, 2), (316, 3), (625, 1)],
         &[(4, 2), (316, 3), (625, 1)],
     ];
-    let mut table = [0; 1010];
+    let mut table = [0; 1522];
     for ((request, reply), after) in SESSION.iter().zip(after) {
         assert_eq!(inside(request, &mut table), *reply);
         assert_eq!(words_of(&table), after);
@@ -150,9 +151,9 @@ fn short_cases() {
         ("T=1{C=${A=R/1}}", "P=1{C=${A=R/1{ER=430{}}}}"),
         ("T=1{C=-{MF=*}}", "P=1{ER=533{}}"),
     ] {
-        let mut table = [0; 1010];
+        let mut table = [0; 1522];
         assert_eq!(inside(request, &mut table), reply, "{request}");
-        assert_eq!(table, [0; 1010], "{request}");
+        assert_eq!(table, [0; 1522], "{request}");
     }
 }
 
@@ -161,7 +162,7 @@ fn turned_down() {
     let message = b"!/1 [10.0.0.1] T=7{C=${A=L/1/5,A=$}}";
     let long = [b' '; 4_097];
     let own_65 = [b'a'; 65];
-    let sound = [0; 1010];
+    let sound = [0; 1522];
     let mut unsound = sound;
     unsound[751] = 1;
     for (message, words, own, length, expected) in [
@@ -193,20 +194,20 @@ fn turned_down() {
     assert_eq!(Answer::LinesUnfit.number(), 8);
     // A longer buffer, and an own mId of just 64 bytes, are fine.
     let mut reply = vec![FILL; 20_000];
-    let taken = answer(8, message, &mut [0; 1010], &own_65[..64], &mut reply);
+    let taken = answer(8, message, &mut [0; 1522], &own_65[..64], &mut reply);
     assert_eq!(taken, Answer::Taken(4 + 64 + 1 + 23));
 }
 
 #[test]
 fn tables_not_sound() {
     // A sound one: L/1/1 and R/1 in context 3, priority 15 and emergency.
-    let mut sound = [0; 1010];
+    let mut sound = [0; 1522];
     sound[0] = 3;
     sound[248] = 3;
     sound[626] = 32;
     sound[312] = 20;
     sound[752] = 1;
-    let taken = |table: &[u32; 1010]| {
+    let taken = |table: &[u32; 1522]| {
         let mut reply = vec![FILL; 16_640];
         let got = answer(8, b"x", &mut table.clone(), OWN, &mut reply);
         got != Answer::TableUnsound
@@ -269,7 +270,7 @@ fn headers() {
         ("! /1 [1.1.1.1] T=1{C=-{MF=ROOT}}", "ER=400{}"),
         ("!", "ER=400{}"),
     ] {
-        let mut table = [0; 1010];
+        let mut table = [0; 1522];
         assert_eq!(whole(message.as_bytes(), &mut table), reply, "{message:?}");
     }
 }
@@ -369,9 +370,9 @@ fn boundaries() {
 fn message_of_4096() {
     let mut message = format!("{HEADER_IN}T=1{{C=${{A=$}}}}").into_bytes();
     message.resize(4_096, b' ');
-    assert_eq!(whole(&message, &mut [0; 1010]), "P=1{C=1{A=R/1}}");
+    assert_eq!(whole(&message, &mut [0; 1522]), "P=1{C=1{A=R/1}}");
     message.push(b' ');
-    let refused = answer(8, &message, &mut [0; 1010], OWN, &mut [0; 16_640]);
+    let refused = answer(8, &message, &mut [0; 1522], OWN, &mut [0; 16_640]);
     assert_eq!(refused, Answer::MessageUnfit);
 }
 
@@ -412,7 +413,7 @@ fn out_of_service_does_not_move() {
     let request = "T=1{C=${A=L/1/1{M{TS{SI=OS}}}},C=${A=L/1/2},C=-{MF=L/1/3{M{TS{SI=OS}}}}}\
                    T=2{C=1{O-MV=L/1/3,O-MV=L/1/1},C=${O-MV=*,O-MV=L/1/1{M{TS{SI=IV}}},PR=1}}";
     assert_eq!(fresh(request), "P=2{ER=403{}}");
-    let mut table = [0; 1010];
+    let mut table = [0; 1522];
     assert_eq!(
         inside(&request.replace(",PR=1", ""), &mut table),
         "P=1{C=1{A=L/1/1},C=2{A=L/1/2},C=-{MF=L/1/3}}\
@@ -438,7 +439,7 @@ fn out_of_service_does_not_move() {
 
 #[test]
 fn out_of_service_before_no_context_and_no_room() {
-    let mut table = [0; 1010];
+    let mut table = [0; 1522];
     for place in 0..128 {
         (table[place], table[624 + place]) = (place as u32 + 1, 1);
     }
@@ -456,7 +457,7 @@ fn out_of_service_before_no_context_and_no_room() {
 
 #[test]
 fn subtracted_line_keeps_its_state() {
-    let mut table = [0; 1010];
+    let mut table = [0; 1522];
     let request = "T=1{C=${A=L/1/1{M{TS{SI=te},O{mode=LoopBack}}},A=$,S=L/1/1}}";
     assert_eq!(
         inside(request, &mut table),
@@ -468,7 +469,7 @@ fn subtracted_line_keeps_its_state() {
 #[test]
 fn no_context_left() {
     // Contexts 1..128, each with one line termination; no ephemeral.
-    let mut table = [0; 1010];
+    let mut table = [0; 1522];
     for context in 1..=128 {
         table[context as usize - 1] = context;
         table[623 + context as usize] = 1;
@@ -487,10 +488,10 @@ fn no_context_left() {
 
 /// The count, the words of its table, and where properties and records start.
 const SIZES: [(u32, usize, usize, usize); 4] = [
-    (1, 576, 95, 190),
-    (8, 1_010, 312, 624),
-    (9, 1_072, 343, 686),
-    (16, 1_506, 560, 1_120),
+    (1, 1_088, 95, 190),
+    (8, 1_522, 312, 624),
+    (9, 1_584, 343, 686),
+    (16, 2_018, 560, 1_120),
 ];
 
 #[test]
@@ -514,7 +515,7 @@ fn sizes_follow_from_the_count() {
 fn count_outside_1_to_16() {
     // "8 for a count outside 1..16, before 3": nothing else is right either.
     for count in [0, 17, 18, 255, 256, 264, 65_544, 1 << 31, u32::MAX] {
-        for (words, length) in [(0, 0), (1010, 16_640), (1_312, 16_640)] {
+        for (words, length) in [(0, 0), (1522, 16_640), (1_824, 16_640)] {
             let mut table = vec![7; words];
             let mut reply = vec![FILL; length];
             let got = answer(count, b"", &mut table, b"", &mut reply);
@@ -613,13 +614,13 @@ fn other_counts() {
         assert_eq!(words_of(&table), []);
     }
     // The session has the same replies on sixteen lines.
-    let mut table = vec![0; 1_506];
+    let mut table = vec![0; 2_018];
     for (request, reply) in SESSION {
         assert_eq!(inside_on(16, request, &mut table), reply);
     }
     assert_eq!(words_of(&table), [(4, 2), (564, 3), (1_121, 1)]);
     // One line has 64 ephemerals too.
-    let mut table = vec![0; 576];
+    let mut table = vec![0; 1_088];
     for context in 1..=8 {
         let reply = inside_on(1, "T=1{C=${A=$,A=$,A=$,A=$,A=$,A=$,A=$,A=$}}", &mut table);
         assert!(
@@ -687,7 +688,7 @@ fn map_of_the_ephemerals() {
 }
 
 /// The flows of context 1 on eight lines: bit 8i + j, low half first.
-fn flows(table: &[u32; 1010]) -> u64 {
+fn flows(table: &[u32; 1522]) -> u64 {
     u64::from(table[754]) | u64::from(table[755]) << 32
 }
 
@@ -699,7 +700,7 @@ fn pairs(all: &[(u32, u32)]) -> u64 {
 
 #[test]
 fn figure_7() {
-    let mut table = [0; 1010];
+    let mut table = [0; 1522];
     inside("T=1{C=${A=L/1/1,A=L/1/2,A=L/1/3}}", &mut table);
     let all = pairs(&[(0, 1), (1, 0), (0, 2), (2, 0), (1, 2), (2, 1)]);
     assert_eq!(flows(&table), all);
@@ -720,7 +721,7 @@ fn figure_7() {
 #[test]
 fn topology() {
     // L/1/1 and R/1 in context 1, L/2/1 alone in context 2.
-    let mut start = [0; 1010];
+    let mut start = [0; 1522];
     inside("T=1{C=${A=L/1/1,A=$},C=${A=L/2/1}}", &mut start);
     for (request, reply) in [
         ("C=1{TP{L/1/1,R/1,OW}}", "C=1{PR=0}"),
@@ -787,7 +788,7 @@ fn topology() {
 #[test]
 fn flows_not_sound() {
     // Three members: any flow between two of them is sound, no other is.
-    let mut sound = [0; 1010];
+    let mut sound = [0; 1522];
     inside("T=1{C=${A=L/1/1,A=L/1/2,A=L/1/3}}", &mut sound);
     for bit in 0..64 {
         let mut table = sound;
@@ -868,7 +869,7 @@ fn line_noise() {
         "\u{7f}",
     ];
     let mut numbers = Numbers(0x9E37_79B9_7F4A_7C15);
-    let mut table = [0; 1010];
+    let mut table = [0; 1522];
     for round in 0..20_000 {
         let mut message = b"!/1 [1.2.3.4] T=5{C=${A=$".to_vec();
         for _ in 0..numbers.next(12) {
@@ -884,7 +885,382 @@ fn line_noise() {
         let sound = answer(8, b"x", &mut table, OWN, &mut [0; 16_640]);
         assert_ne!(sound, Answer::TableUnsound);
         if round % 64 == 0 {
-            table = [0; 1010];
+            table = [0; 1522];
         }
     }
+}
+
+#[test]
+fn speech_sound_only_so() {
+    // R/1 in context 1, which is all that there is.
+    let mut sound = [0; 1522];
+    inside("T=1{C=${A=$}}", &mut sound);
+    let taken = |place: usize, side: [u32; 4]| {
+        let mut table = sound;
+        table[place..][..4].copy_from_slice(&side);
+        answer(8, b"x", &mut table, OWN, &mut [0; 16_640]) != Answer::TableUnsound
+    };
+    for place in [1010, 1014] {
+        assert!(taken(place, [1, 0, 0, 0]));
+        assert!(taken(place, [1, u32::MAX, 65_535, 127]));
+        assert!(!taken(place, [1, 0, 65_536, 0]));
+        assert!(!taken(place, [1, 0, 0, 128]));
+        assert!(!taken(place, [2, 0, 0, 0]));
+        for side in [[0, 1, 0, 0], [0, 0, 1, 0], [0, 0, 0, 1]] {
+            assert!(!taken(place, side));
+        }
+    }
+    // "absent ones zero"
+    for place in (1018..1522).step_by(4) {
+        assert!(!taken(place, [1, 0, 0, 0]));
+    }
+    // "Subtract forgets them", and a Move keeps them.
+    let mut table = sound;
+    table[1010..1018].copy_from_slice(&[1, 2, 3, 4, 1, 6, 7, 8]);
+    inside("T=1{C=${MV=R/1}}", &mut table);
+    assert_eq!(table[1010..1018], [1, 2, 3, 4, 1, 6, 7, 8]);
+    inside("T=1{C=2{S=R/1}}", &mut table);
+    assert_eq!(table, [0; 1522]);
+}
+
+/// A text of the subset, and the words that are kept of it.
+const SDP: &str = "v=0\nc=IN IP4 1.2.3.4\nm=audio 5000 RTP/AVP 8";
+const KEPT: [u32; 4] = [1, 0x0102_0304, 5_000, 8];
+
+#[test]
+fn texts_of_the_subset() {
+    let session = |address, port, payload_type| Session {
+        address,
+        port,
+        payload_type,
+    };
+    let read = |text: &str| sdp::session(text.as_bytes());
+    assert_eq!(read(SDP), Some(session(0x0102_0304, 5_000, 8)));
+    let other = |from: &str, to: &str| read(&SDP.replacen(from, to, 1));
+    // "a line ends at CR, LF, both or the text's end"
+    for end in ["\r", "\r\n", "\n\r", "\n\n", "\n \t\n"] {
+        assert!(read(&SDP.replace('\n', end)).is_some(), "{end:?}");
+        assert!(read(&format!("{SDP}{end}")).is_some(), "{end:?}");
+    }
+    // "lines of another letter and `=`, skipped; letter case counting"
+    for line in [
+        "s=",
+        "o=- 1 \u{80}\u{1}{\\}",
+        "V=0",
+        "C=IN IP4 9.9.9.9",
+        "M=audio 1 RTP/AVP 1",
+    ] {
+        assert!(
+            read(&format!("{line}\n{SDP}\r\n{line}")).is_some(),
+            "{line}"
+        );
+        assert!(other("\n", &format!("\n{line}\n")).is_some(), "{line}");
+    }
+    // Numbers, on both sides of each limit; leading zeros.
+    for (address, word) in [
+        ("0.0.0.0", Some(0)),
+        ("255.255.255.255", Some(u32::MAX)),
+        ("001.020.003.255", Some(0x0114_03FF)),
+        ("256.0.0.0", None),
+        ("0.0.0.256", None),
+        ("0001.0.0.0", None),
+        ("1.2.3", None),
+        ("1.2.3.", None),
+        ("1..3.4", None),
+        ("1.2.3.4.5", None),
+        ("1.2.3.4/127", None),
+        ("", None),
+    ] {
+        let kept = other("1.2.3.4", address).map(|kept| kept.address);
+        assert_eq!(kept, word, "{address}");
+    }
+    for (port, word) in [
+        ("0", Some(0)),
+        ("65535", Some(65_535)),
+        ("00001", Some(1)),
+        ("65536", None),
+        ("99999", None),
+        ("000001", None),
+        ("", None),
+        ("5000/2", None),
+        ("-1", None),
+    ] {
+        let kept = other("5000", port).map(|kept| kept.port);
+        assert_eq!(kept, word, "{port}");
+    }
+    for (payload_type, word) in [
+        ("0", Some(0)),
+        ("127", Some(127)),
+        ("007", Some(7)),
+        ("128", None),
+        ("0007", None),
+        ("", None),
+        ("0 8", None),
+    ] {
+        let kept = other("AVP 8", &format!("AVP {payload_type}")).map(|kept| kept.payload_type);
+        assert_eq!(kept, word, "{payload_type}");
+    }
+    // Every other line is the one that it must be, each once and in that order.
+    for (from, to) in [
+        ("v=0", "v=1"),
+        ("v=0", "v=00"),
+        ("v=0", " v=0"),
+        ("v=0", "v=0 "),
+        ("v=0", "v"),
+        ("v=0", "V=0"),
+        ("v=0\n", ""),
+        ("v=0", "v=0\nv=0"),
+        ("v=0", "v=0\n=1"),
+        ("v=0", "v=0\n1=1"),
+        ("v=0", "v=0\nss=1"),
+        ("v=0", "v=0\n\u{b}"),
+        ("v=0", "s =0\nv=0"),
+        ("IN IP4", "IN  IP4"),
+        ("IN IP4", "IN\tIP4"),
+        ("IN IP4", "in IP4"),
+        ("IN IP4", "IN IP6"),
+        ("4\n", "4 \n"),
+        ("audio", "video"),
+        ("audio", "Audio"),
+        ("audio 5000", "audio  5000"),
+        ("RTP/AVP", "RTP/SAVP"),
+        ("RTP/AVP", "rtp/avp"),
+        ("AVP 8", "AVP  8"),
+        ("AVP 8", "AVP 8 "),
+        ("AVP 8", "AVP 8\t"),
+        ("AVP 8", "AVP"),
+        ("AVP 8", "AVP 8\nm=audio 5000 RTP/AVP 8"),
+        ("AVP 8", "AVP 8\nc=IN IP4 1.2.3.4"),
+    ] {
+        assert_ne!(SDP.replacen(from, to, 1), SDP);
+        assert_eq!(other(from, to), None, "{to}");
+    }
+    let lines: Vec<&str> = SDP.lines().collect();
+    for order in [[0, 2, 1], [1, 0, 2], [1, 2, 0], [2, 0, 1], [2, 1, 0]] {
+        let text = order.map(|place| lines[place]).join("\n");
+        assert_eq!(read(&text), None, "{text}");
+    }
+    for missing in 0..3 {
+        let text = [lines[missing], lines[(missing + 1) % 3]].join("\n");
+        assert_eq!(read(&text), None, "{text}");
+    }
+    assert_eq!(read("s=x"), None);
+}
+
+/// L/1/1 and R/1 in context 1, R/1 with a session for either side.
+fn speaking() -> [u32; 1522] {
+    let mut table = [0; 1522];
+    inside("T=1{C=${A=L/1/1,A=$}}", &mut table);
+    table[1010..1018].copy_from_slice(&[1, 2, 3, 4, 1, 6, 7, 8]);
+    table
+}
+
+#[test]
+fn where_a_text_stands() {
+    // The items of a Modify of R/1, and the code or 0; 403 is of the reading.
+    for (items, code) in [
+        (&format!("M{{L{{{SDP}}}}}")[..], 0),
+        (&format!("media{{ LOCAL ;c\n{{ ;}}\r\n{SDP}\r\n}} }}"), 0),
+        (&format!("M{{L{{{SDP}\ns=\\}}}}}}"), 0),
+        (&format!("M{{L{{{SDP}\ns=\\\\}} }}}}"), 0),
+        (
+            &format!("M{{L{{{SDP}}},R{{{SDP}}},O{{MO=SR}},TS{{SI=TE}}}}"),
+            0,
+        ),
+        ("M{L{}}", 0),
+        ("M{R{ ;c\r\t}}", 0),
+        (&format!("M{{L{{{SDP} }}}}"), 449),
+        (&format!("M{{L{{{SDP}\\}}}}}}"), 449),
+        ("M{L{\\}}}", 449),
+        ("M{L{v=0}}", 449),
+        ("M{L{v=0;c}}", 449),
+        ("M{L{v=0},ZZ}", 449),
+        ("M{ZZ,L{v=0}}", 444),
+        ("M{L{},l{v=0}}", 448),
+        ("M{L{},L}", 448),
+        ("M{R{},Remote=5}", 448),
+        ("M{L}", 442),
+        ("M{L=5}", 442),
+        ("M{L=5{a}}", 442),
+        ("M{R=\"5\"{a{b}},L{v=0}}", 442),
+        ("M{L/x{a}}", 444),
+        ("M=5{L{v=0}}", 442),
+        ("M=5{L{}}", 442),
+        ("M/x{L{a}}", 444),
+        ("L{a}", 444),
+        ("AT{M{L{a}}}", 444),
+        ("X{M{L{a}}}", 444),
+        ("M{L=5{}}", 403),
+        ("M{L/x{}}", 403),
+        ("M/x{L{}}", 403),
+        ("L{}", 403),
+        ("AT{M{L{}}}", 403),
+        ("X{M{L{}}}", 403),
+        ("M{O{L{}}}", 403),
+        ("M{LL{}}", 403),
+        ("M{L{;c}}", 403),
+        ("M{L{\\}}", 403),
+        ("M{L{\0}}", 403),
+        ("M{L{s=\0}}", 403),
+        ("M{L{v=0", 403),
+        ("M{L{", 403),
+        ("M{L{}", 403),
+        ("M{L{}{}}", 403),
+        ("M{L={}}", 403),
+    ] {
+        let mut table = speaking();
+        let got = inside(&format!("T=1{{C=1{{MF=R/1{{{items}}}}}}}"), &mut table);
+        let reply = match code {
+            0 => "P=1{C=1{MF=R/1}}".to_string(),
+            403 => "P=1{ER=403{}}".to_string(),
+            _ => format!("P=1{{C=1{{MF=R/1{{ER={code}{{}}}}}}}}"),
+        };
+        assert_eq!(got, reply, "{items:?}");
+        assert_eq!(table == speaking(), code != 0, "{items:?}");
+    }
+    // Bytes 80..FF stand in a text.
+    let message = [
+        HEADER_IN.as_bytes(),
+        b"T=1{C=1{MF=R/1{M{L{\x80\xff\x01}}}}}",
+    ]
+    .concat();
+    assert_eq!(
+        whole(&message, &mut speaking()),
+        "P=1{C=1{MF=R/1{ER=449{}}}}"
+    );
+}
+
+#[test]
+fn speech_given() {
+    // "given one replaces whole, absent one stays"; "empty text releases it"
+    let other = SDP.replace("5000", "1").replace("AVP 8", "AVP 0");
+    for (items, kept) in [
+        (format!("L{{{SDP}}}"), [KEPT, [1, 6, 7, 8]]),
+        (format!("R{{{SDP}}}"), [[1, 2, 3, 4], KEPT]),
+        (format!("R{{{SDP}}},L{{}}"), [[0; 4], KEPT]),
+        (format!("L{{{SDP}}},R{{ }}"), [KEPT, [0; 4]]),
+        (
+            format!("L{{{SDP}}},R{{{other}}}"),
+            [KEPT, [1, 0x0102_0304, 1, 0]],
+        ),
+        ("O{MO=SR}".to_string(), [[1, 2, 3, 4], [1, 6, 7, 8]]),
+    ] {
+        for command in ["C=1{MF", "C=${MV"] {
+            let mut table = speaking();
+            inside(
+                &format!("T=1{{{command}=R/1{{M{{{items}}}}}}}}}"),
+                &mut table,
+            );
+            assert_eq!(table[1010..1018], *kept.as_flattened(), "{command} {items}");
+        }
+    }
+    // An Add gives it; a new one has none; the last ephemeral of any count.
+    for (count, words, ..) in SIZES {
+        let mut table = vec![0; words];
+        for _ in 1..=8 {
+            let request = "T=1{C=${A=$,A=$,A=$,A=$,A=$,A=$,A=$,A=$}}";
+            inside_on(count, request, &mut table);
+        }
+        assert!(table[words - 512..].iter().all(|&word| word == 0));
+        let request = format!("T=1{{C=8{{S=R/64,A=${{M{{R{{{SDP}}}}}}}}}}}");
+        inside_on(count, &request, &mut table);
+        assert_eq!(words_of(&table[words - 512..]).len(), 4);
+        assert_eq!(table[words - 4..], KEPT);
+        inside_on(count, "T=1{C=8{S=R/64,A=$}}", &mut table);
+        assert!(table[words - 512..].iter().all(|&word| word == 0));
+    }
+    // "audits answer as before", and the table stays.
+    let mut table = speaking();
+    assert_eq!(
+        inside("T=1{C=1{AV=R/1{AT{M}}}}", &mut table),
+        "P=1{C=1{AV=R/1{M{TS{SI=IV},O{MO=IN}}}}}"
+    );
+    assert_eq!(table, speaking());
+}
+
+#[test]
+fn speech_on_a_line() {
+    // L/1/1 and R/1 in context 1, L/1/2 out of service in 2, others in null.
+    let mut start = speaking();
+    inside("T=1{C=${A=L/1/2{M{TS{SI=OS}}}}}", &mut start);
+    let text = format!("{{M{{L{{{SDP}}}}}}}");
+    let codes = |codes: &[u32], names: &[&str], word: &str| -> String {
+        let pairs = codes.iter().zip(names);
+        let all: Vec<String> = pairs
+            .map(|(code, name)| format!("{word}={name}{{ER={code}{{}}}}"))
+            .collect();
+        all.join(",")
+    };
+    for (context, word, names, expected) in [
+        // After the place test, which the name test comes before.
+        (
+            "1",
+            "A",
+            vec!["L/1/3", "L/1/1", "L/9/1", "R/2"],
+            vec![447, 433, 430, 430],
+        ),
+        (
+            "1",
+            "MF",
+            vec!["L/1/1", "L/1/2", "L/1/3"],
+            vec![447, 435, 435],
+        ),
+        (
+            "-",
+            "MF",
+            vec!["L/1/1", "L/1/3", "ROOT"],
+            vec![435, 447, 447],
+        ),
+        // After 503 too.
+        (
+            "1",
+            "MV",
+            vec!["L/1/1", "L/1/2", "L/1/3"],
+            vec![433, 503, 435],
+        ),
+        ("2", "MV", vec!["L/1/1", "L/1/2"], vec![447, 433]),
+        ("$", "MV", vec!["L/1/1", "L/1/2"], vec![447, 503]),
+        // Any item on these; before the names.
+        ("1", "S", vec!["L/1/1", "R/1", "x"], vec![447, 447, 447]),
+        ("1", "AV", vec!["L/1/1", "R/1", "x"], vec![447, 447, 447]),
+    ] {
+        for text in [&text[..], "{M{R{}}}"] {
+            let commands: Vec<String> = names
+                .iter()
+                .map(|name| format!("O-{word}={name}{text}"))
+                .collect();
+            let request = format!("T=1{{C={context}{{{}}}}}", commands.join(","));
+            let mut table = start;
+            let reply = format!("P=1{{C={context}{{{}}}}}", codes(&expected, &names, word));
+            assert_eq!(inside(&request, &mut table), reply, "{request}");
+            assert_eq!(table, start);
+        }
+    }
+    // An unknown command's texts are read too.
+    assert_eq!(
+        inside("T=1{C=1{N=R/1{M{L{}}}}}", &mut start),
+        "P=1{C=1{ER=443{}}}"
+    );
+    assert_eq!(inside("T=1{C=1{N=R/1{M{L{}", &mut start), "P=1{ER=403{}}");
+    // `MF=*` over lines and ephemerals: each by itself.
+    assert_eq!(
+        inside(&format!("T=1{{C=1{{O-MF=*{text}}}}}"), &mut start),
+        "P=1{C=1{MF=L/1/1{ER=447{}},MF=R/1}}"
+    );
+    assert_eq!(start[1010..1014], KEPT);
+    // 447 before 412 and 434.
+    let mut table = [0; 1522];
+    for place in 0..128 {
+        (table[place], table[624 + place]) = (place as u32 + 1, 1);
+    }
+    let request = format!("T=1{{C=${{O-A=${text},O-A=L/8/1{text},O-MV=L/1/1{text}}}}}");
+    assert_eq!(
+        inside(&request, &mut table),
+        "P=1{C=${A=${ER=412{}},A=L/8/1{ER=447{}},MV=L/1/1{ER=447{}}}}"
+    );
+    table[200..207].fill(128);
+    assert_eq!(
+        inside(&request.replace("C=$", "C=128"), &mut table),
+        "P=1{C=128{A=${ER=434{}},A=L/8/1{ER=447{}},MV=L/1/1{ER=447{}}}}"
+    );
 }

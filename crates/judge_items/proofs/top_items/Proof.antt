@@ -4,19 +4,19 @@ use mathlib.Core.Path.{_≡_}
 use mathlib.Core.Bool.{false}
 use lib.ListN.{length}
 use Rattle.read_command.specs.Production.{listEnd}
-use Rattle.read_command.specs.Places.{itemAt, itemsAt}
+use Rattle.read_command.specs.Places.{topItemAt, topAt}
 use Rattle.megaco.specs.Items.{topItems}
 use Rattle.judge_items.proofs.OneLaws.{top-one, top-ends}
-use Rattle.judge_items.proofs.ListLaws.{judgeAll, levelLeft, stands, top-starts, all-none, all-wrong, all-right, all-more, items-begin}
+use Rattle.judge_items.proofs.ListLaws.{judgeAll, topLeft, stands, top-starts, all-none, all-wrong, all-right, all-more}
 use Rattle.judge_items.proofs.CallLaws.{known-by, known-wrong}
-use Rattle.command_places.proofs.EndLaws.{all-end-none, all-end-last, all-end-more}
+use Rattle.command_places.proofs.EndLaws.{all-end-none, all-end-last, all-end-more, top-end-start}
 use Rattle.judge_items.proofs.top_items.Statement.{statement}
 use Rattle.judge_items.proofs.top_items.Tie as tie
 
 abbrev Inv-loop : tie.InvT-loop
 Inv-loop s at i₀ n₀ seen₀ vs₀ i n seen vs =
-    (topItems (itemsAt 8 s at .tree) false vs₀ ≡ judgeAll topItems stands (levelLeft 7 s n i) seen vs)
-    × (itemsAt 8 s at .end ≡ listEnd (λ j. itemAt 7 (itemsAt 7 s) s j .end) s (length s + 1 - n) i)
+    (topItems (topAt s at .tree) false vs₀ ≡ judgeAll topItems stands (topLeft s n i) seen vs)
+    × (topAt s at .end ≡ listEnd (λ j. topItemAt s j .end) s (length s + 1 - n) i)
 
 abbrev μ-loop : tie.MeasureT-loop
 μ-loop s at i₀ n₀ seen₀ vs₀ i n seen vs = length s + 1 - n
@@ -27,7 +27,7 @@ top-items-spec =
     (tie.spec
     Inv-loop
     μ-loop
-    (λ c. (top-starts _ _ _, items-begin 7 _ _))
+    (λ c. (top-starts _ _ _, top-end-start _ _))
     (λ c. search needs)
     (λ c κs. search needs)
     (λ c κs. search needs)

@@ -1,6 +1,5 @@
 use Rattle.read_command.specs.Places.{commandAt}
 use Rattle.read_command.proofs.ListLaws.{steps}
-use Rattle.read_command.proofs.ItemLaws.{braces-own}
 use borrow.Author.Needs.{needs}
 use Rattle.read_command.proofs.command.Statement.{statement}
 use Rattle.read_command.proofs.command.Tie as tie
@@ -14,4 +13,4 @@ command-spec =
     (λ c. search needs)
     (λ c. unfold commandAt in search steps depth 9)
     (λ c κs. search needs)
-    (λ c. unfold commandAt in search (steps, braces-own) depth 9))
+    (λ c. unfold commandAt in search steps depth 9))

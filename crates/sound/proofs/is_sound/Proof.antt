@@ -10,5 +10,6 @@ is-sound-spec =
     (λ c κs. search needs)
     (λ c κs. search sized-facts)
     (λ c κs. search sized-facts)
+    (λ c κs. search sized-facts)
     (λ c. search sound-by)
     (λ c. search unsound))

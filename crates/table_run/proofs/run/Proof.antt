@@ -6,7 +6,7 @@ use Rattle.table_run.proofs.run.Statement.{statement}
 use Rattle.table_run.proofs.run.Tie as tie
 
 abbrev Inv-loop : tie.InvT-loop
-Inv-loop room₀ s a₀ t5 room a = length room ≡ 1011
+Inv-loop room₀ s a₀ t5 room a = length room ≡ 1523
 
 abbrev μ-loop : tie.MeasureT-loop
 μ-loop room₀ s a₀ t5 room a = length s - a

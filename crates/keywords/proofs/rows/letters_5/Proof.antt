@@ -23,4 +23,7 @@ letters-5-spec =
     (λ c κs. unfold tokenAt formsOf longOf in refl)
     (λ c κs. search needs)
     (λ c. rw (letters-5-is _) (search (pick-yes-by, pick-no-by) depth 20))
+    (λ c κs. unfold tokenAt formsOf longOf in refl)
+    (λ c κs. search needs)
+    (λ c. rw (letters-5-is _) (search (pick-yes-by, pick-no-by) depth 20))
     (λ c. unfold tokenOf in rw (letters-5-is _) (search (pick-yes-by, pick-no-by) depth 20)))

@@ -20,4 +20,7 @@ letters-6-spec =
     (λ c κs. unfold tokenAt formsOf longOf in refl)
     (λ c κs. search needs)
     (λ c. rw (letters-6-is _) (search (pick-yes-by, pick-no-by) depth 20))
+    (λ c κs. unfold tokenAt formsOf longOf in refl)
+    (λ c κs. search needs)
+    (λ c. rw (letters-6-is _) (search (pick-yes-by, pick-no-by) depth 20))
     (λ c. unfold tokenOf in rw (letters-6-is _) (search (pick-yes-by, pick-no-by) depth 20)))

@@ -1,0 +1,4 @@
+pub mod Steps
+pub mod LineLaws
+pub mod Theorems
+pub mod Statements

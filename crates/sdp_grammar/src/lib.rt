@@ -1,0 +1,1 @@
+// The grammar of our SDP subset. There is no code here: see specs/ and proofs/.
