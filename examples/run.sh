@@ -48,13 +48,15 @@ if [ "$declared" != "$defined" ] || [ -n "$wanted" ]; then
 fi
 echo "examples: the archive has the" $(echo "$declared" | wc -l) "functions that the headers declare"
 
-# Who hears whom, as the header shows it.
-cc -std=c99 -O2 $warnings -I include tests/flows.c "$archive" -o "$out/flows"
-"$out/flows"
-if command -v c++ > /dev/null; then
-    c++ -std=c++11 -O2 $warnings -I include -x c++ tests/flows.c -x none "$archive" -o "$out/flows"
-    "$out/flows"
-fi
+# Who hears whom, and packets with their figures, as the header shows them.
+for test in flows packets; do
+    cc -std=c99 -O2 $warnings -I include "tests/$test.c" "$archive" -o "$out/$test"
+    "$out/$test"
+    if command -v c++ > /dev/null; then
+        c++ -std=c++11 -O2 $warnings -I include -x c++ "tests/$test.c" -x none "$archive" -o "$out/$test"
+        "$out/$test"
+    fi
+done
 
 # Stack: held to what the headers say.
 cc -std=c99 -O2 $warnings -I include tests/stack.c "$archive" -o "$out/stack"

@@ -1,11 +1,11 @@
 /*
- * The Megaco trunk gateway, for C99 and C++: the call, the contexts as text, the
- * texts of Local and Remote in a message, two questions about the ephemerals in use,
- * who hears whom, and digit maps.
+ * The Megaco trunk gateway, for C99 and C++: the call, packets and their figures,
+ * the contexts as text, the texts of Local and Remote in a message, two questions
+ * about the ephemerals in use, who hears whom, and digit maps.
  *
  * A call takes the count of lines that the shelf has, one H.248.1 (Megaco) text
- * message and a table that the caller lends, runs the message on the table, and
- * writes the reply into a buffer that the caller lends. docs/REFERENCE.md says
+ * message, a table and 64 blocks of figures that the caller lends, runs the message
+ * on them, and writes the reply into a buffer that the caller lends. docs/REFERENCE.md says
  * what a message may say and what is answered; the code is proved equal to the
  * definition in crates/megaco/specs.
  *
@@ -36,14 +36,14 @@
  * by a program that was compiled with an older header. All zero stays the fresh
  * table.
  */
-#define CORDAFINA_VERSION 5
+#define CORDAFINA_VERSION 6
 
 /*
  * Stack that a call of any function here uses at most, but for the plain digit
  * matcher. Measured and rounded up: tests/stack.c runs each function on a painted
  * stack, on some 2,700 messages, and fails if one takes more. The deepest was
- * 8,848 bytes before CR 11. It does not grow with a message: items nest 8 levels, a
- * number is written in 10 digits, and nothing else calls itself.
+ * 9,344 bytes. It does not grow with a message: items nest 8 levels, a number is
+ * written in 10 digits, and nothing else calls itself.
  */
 #define CORDAFINA_STACK_BYTES 12288
 
@@ -97,6 +97,27 @@
 /* Words of a table: exactly so many, 1522 for eight lines. */
 #define CORDAFINA_TABLE_WORDS(n) (CORDAFINA_FLOWS(n) + 768)
 
+/*
+ * The figures of an ephemeral, its block (RFC 1889 A.8): packets received, held at
+ * 4294967295; the transit of the last one, arrival less RTP time modulo 2^32; the
+ * jitter J, low half first, of which a reply tells the sixteenth part. The 64 blocks,
+ * that of R/k being block k - 1, are lent as words, four a block: an array of 64 of
+ * these, by cordafina_block_words, or one of words. All zero are fresh blocks. Sound is
+ * a block with J at most 2^35 and, where it has had no packet, all zero; blocks of
+ * absent ephemerals may hold anything sound.
+ */
+typedef struct cordafina_block {
+    uint32_t packets;
+    uint32_t transit;
+    uint32_t jitter_low;
+    uint32_t jitter_high;
+} cordafina_block;
+/* Words of the blocks: exactly so many. */
+#define CORDAFINA_BLOCK_WORDS 256
+/* 64 blocks are these words, and nothing between them: else this does not compile. */
+typedef char cordafina_blocks_are_words[
+    sizeof(cordafina_block[CORDAFINA_EPHEMERALS]) == CORDAFINA_BLOCK_WORDS * sizeof(uint32_t) ? 1 : -1];
+
 /* A termination's mode and state, from its properties. */
 #define CORDAFINA_MODE(properties) ((properties) % 8)
 #define CORDAFINA_STATE(properties) ((properties) / 8)
@@ -130,10 +151,11 @@
  */
 #define CORDAFINA_TAKEN 0             /* not turned down: there is a reply, or a text */
 #define CORDAFINA_MESSAGE_UNFIT 1     /* message of 0 or over 4,096 bytes */
-#define CORDAFINA_TABLE_UNSOUND 2     /* table not of the count's words, or not sound */
+#define CORDAFINA_TABLE_UNSOUND 2     /* table not of the count's words, not 64 blocks, or either not sound */
 #define CORDAFINA_REPLY_TOO_SHORT 3   /* reply buffer under 16,640 bytes */
 #define CORDAFINA_MID_UNFIT 4         /* own mId not an mId, or over 64 bytes */
 #define CORDAFINA_LINES_UNFIT 8       /* count of lines outside 1 to 16 */
+#define CORDAFINA_EPHEMERAL_ABSENT 9  /* packet of an ephemeral that does not exist, or outside 1 to 64 */
 #define CORDAFINA_OUTPUT_TOO_SHORT 11 /* output under 8,192 bytes */
 
 /* What cordafina_text_side gives. */
@@ -151,6 +173,7 @@ extern "C" {
  *   lines                  the count of lines, 1 to 16
  *   message, message_len   the message's bytes; read only
  *   table, table_len       the table, its length in words; read and written
+ *   blocks, blocks_len     the figures of the ephemerals, their length in words (256); read and written
  *   own_mid, own_mid_len   the gateway's own mId, as `[10.0.0.9]`; read only
  *   reply, reply_len       where the reply goes, from the first byte on
  *
@@ -159,34 +182,66 @@ extern "C" {
  * The refusals are judged in the order 8, 3, 2, 4, 1, and the first that holds
  * is given, with length 0. Any other call is taken and has a reply, whatever the
  * message is: one that does not read is answered by an error text and changes
- * no word of the table. The reply is not ended by a zero byte.
+ * no word of the table or of the blocks. The reply is not ended by a zero byte.
  *
- * Ownership. The four areas are the caller's before, during and after the
+ * Ownership. The five areas are the caller's before, during and after the
  * call. The library keeps no pointer, has no state and no heap, and frees
- * nothing. The table is all there is of the gateway's memory: keep it between
- * calls with its count of lines, copy it, or store it.
+ * nothing. The table and the blocks are all there is of the gateway's memory: keep
+ * them between calls with the count of lines, copy them, or store them. A new
+ * ephemeral's block is set to zero; no call changes a block otherwise.
  *
  * What stays. A call turned down writes no byte of the reply and no word of
- * the table. A call taken writes the first cordafina_length(..) bytes of the
- * reply, and the bytes past them stay. A table that was sound stays sound. The
- * message and the own mId are never written, nor is anything outside the table
- * and the reply buffer.
+ * the table or of the blocks. A call taken writes the first cordafina_length(..) bytes of the
+ * reply, and the bytes past them stay. Table and blocks that were sound stay sound.
+ * The message and the own mId are never written, nor is anything outside the table,
+ * the blocks and the reply buffer.
  *
  * What the caller sees to. Contents, lengths and the count of lines need no
  * check beforehand: line noise, a damaged table, one of another count and a
  * short buffer are answered. But each pointer
- * must be that of a readable (table, reply: writable) area of the length given,
- * not null even where that is 0; the table is aligned as a uint32_t is; and
- * neither the table nor the reply overlaps any other of the four areas.
+ * must be that of a readable (table, blocks, reply: writable) area of the length
+ * given, not null even where that is 0; table and blocks are aligned as a uint32_t
+ * is; and none of the three overlaps any other of the five areas.
  *
- * Threads. Calls may run at the same time where no table and no reply buffer
- * is used by two of them. Messages and own mIds may be shared.
+ * Threads. Calls may run at the same time where no table, no blocks and no reply
+ * buffer are used by two of them. Messages and own mIds may be shared.
  */
 uint64_t cordafina_answer(uint32_t lines,
                           const uint8_t *message, size_t message_len,
                           uint32_t *table, size_t table_len,
+                          uint32_t *blocks, size_t blocks_len,
                           const uint8_t *own_mid, size_t own_mid_len,
                           uint8_t *reply, size_t reply_len);
+
+/*
+ * Counts one RTP packet of R/n in its block.
+ *
+ *   lines                  the count of lines, 1 to 16
+ *   table, table_len       the table, its length in words; read only
+ *   blocks, blocks_len     the blocks, their length in words (256); read and written
+ *   n                      the ephemeral's number, 1 to 64
+ *   arrival, stamp         when it came, and its RTP time, in the same units, modulo 2^32
+ *
+ * The result is CORDAFINA_TAKEN or a refusal, judged in the order 8, 2, 9; a refusal
+ * changes nothing. No call and no other packet may run on the same table or blocks at
+ * the same time. Pointers and ownership are as above.
+ */
+uint32_t cordafina_packet(uint32_t lines,
+                          const uint32_t *table, size_t table_len,
+                          uint32_t *blocks, size_t blocks_len,
+                          uint32_t n, uint32_t arrival, uint32_t stamp);
+
+/* 64 blocks as words, to be lent. */
+static inline uint32_t *cordafina_block_words(cordafina_block *blocks)
+{
+    return (uint32_t *)blocks;
+}
+
+/* The jitter that a reply tells of a block: J / 16, rounded down. */
+static inline uint64_t cordafina_jitter(const cordafina_block *block)
+{
+    return (block->jitter_low | (uint64_t)block->jitter_high << 32) / 16;
+}
 
 /*
  * The contexts of a table as text, for people: `contexts` and their count, then a
@@ -316,12 +371,13 @@ static inline const char *cordafina_refusal_text(int refusal)
     switch (refusal) {
     case CORDAFINA_TAKEN: return "not turned down";
     case CORDAFINA_MESSAGE_UNFIT: return "message of 0 or over 4,096 bytes";
-    case CORDAFINA_TABLE_UNSOUND: return "table not of its count's words, or not sound";
+    case CORDAFINA_TABLE_UNSOUND: return "table not of its count's words, not 64 blocks, or either not sound";
     case CORDAFINA_REPLY_TOO_SHORT: return "reply buffer under 16,640 bytes";
     case CORDAFINA_MID_UNFIT: return "own mId not an mId, or over 64 bytes";
     case CORDAFINA_BAD_MAP: return "digit map malformed or too large";
     case CORDAFINA_BAD_STRING: return "dialled string over 32 symbols, or with a foreign one";
     case CORDAFINA_LINES_UNFIT: return "count of lines outside 1 to 16";
+    case CORDAFINA_EPHEMERAL_ABSENT: return "packet of an ephemeral that does not exist";
     case CORDAFINA_OUTPUT_TOO_SHORT: return "output under 8,192 bytes";
     default: return "no refusal of this version";
     }

@@ -9,6 +9,7 @@
 
 /* With room behind it, where no word may be read. */
 static uint32_t table[CORDAFINA_TABLE_WORDS(CORDAFINA_MOST_LINES) + 16];
+static uint32_t blocks[CORDAFINA_BLOCK_WORDS];
 static uint8_t reply[CORDAFINA_REPLY_BYTES];
 static uint32_t lines;
 static int failed, checks;
@@ -32,7 +33,7 @@ static void request(const char *text)
     strcpy(message, head);
     strcat(message, text);
     answer = cordafina_answer(lines, (const uint8_t *)message, strlen(message), table, CORDAFINA_TABLE_WORDS(lines),
-                              (const uint8_t *)own, strlen(own), reply, sizeof reply);
+                              blocks, CORDAFINA_BLOCK_WORDS, (const uint8_t *)own, strlen(own), reply, sizeof reply);
     length = cordafina_length(answer);
     for (place = 0; place + 2 < length && memcmp(reply + place, "ER=", 3) != 0; place++) {
     }

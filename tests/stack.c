@@ -43,6 +43,7 @@ static size_t used(void (*f)(void))
 
 static const char own[] = "[10.0.0.9]";
 static uint32_t table[CORDAFINA_TABLE_WORDS(CORDAFINA_MOST_LINES)];
+static uint32_t blocks[CORDAFINA_BLOCK_WORDS];
 static uint8_t reply[CORDAFINA_REPLY_BYTES];
 static uint8_t out[CORDAFINA_OUTPUT_BYTES];
 static uint32_t cells[CORDAFINA_MAP_CELLS];
@@ -57,8 +58,8 @@ static void nothing(void)
 
 static void answer(void)
 {
-    cordafina_answer(lines, (const uint8_t *)text, length, table, CORDAFINA_TABLE_WORDS(lines), (const uint8_t *)own,
-                     sizeof own - 1, reply, sizeof reply);
+    cordafina_answer(lines, (const uint8_t *)text, length, table, CORDAFINA_TABLE_WORDS(lines), blocks, CORDAFINA_BLOCK_WORDS,
+                     (const uint8_t *)own, sizeof own - 1, reply, sizeof reply);
 }
 
 static void contexts(void)
@@ -77,6 +78,7 @@ static void questions(void)
 {
     cordafina_lowest_absent(cordafina_map(lines, table));
     cordafina_in_use(cordafina_map(lines, table));
+    cordafina_packet(lines, table, CORDAFINA_TABLE_WORDS(lines), blocks, CORDAFINA_BLOCK_WORDS, 1, 5, 3);
 }
 
 static void load(void)
@@ -127,7 +129,7 @@ static size_t most(size_t a, size_t b)
     return a < b ? b : a;
 }
 
-/* The most that was used by the call, the contexts, the texts and the questions about the map, and how many messages were answered. */
+/* The most that was used by the call, the contexts, the texts, and the questions about the map with a packet; how many messages were answered. */
 static size_t by_call, by_contexts, by_texts, by_questions, calls;
 
 static void message(const char *bytes, size_t count)
@@ -180,7 +182,7 @@ int main(int count, char **files)
             second = most(second, used(plain));
         }
     }
-    printf("stack: of %zu calls the deepest %zu bytes, contexts %zu, texts %zu, the map %zu, digit maps %zu, the plain matcher %zu;",
+    printf("stack: of %zu calls the deepest %zu bytes, contexts %zu, texts %zu, the map and a packet %zu, digit maps %zu, the plain matcher %zu;",
            calls, by_call, by_contexts, by_texts, by_questions, first, second);
     printf(" %zu of each are this test's\n", base);
     if (most(most(by_call, by_contexts), most(most(by_texts, by_questions), first)) > CORDAFINA_STACK_BYTES || second > CORDAFINA_PLAIN_STACK_BYTES) {

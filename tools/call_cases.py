@@ -5,11 +5,12 @@ Takes the rows at a boundary first, then rows that show a code, a refusal, a rep
 tools/evaluate.py does, and adds the calls of SESSION and SINGLE, which stand in this file: document 01 gives their replies and
 tables, or its rules decide them. Nothing is taken from the program: a row's reply, its table and its buffer are the recorded ones.
 
-Input, for each call: a line of 36 bytes (six numbers of five digits: the bytes of the own mId, the bytes of the message, the
-runs of equal words that are not 0, the lines told, the words of the table, the bytes of the buffer), the own mId, the message,
-the runs (from, to: five digits each; the word: ten digits, and a space), a line end.
-Output, for each call: its number, the refusal or the reply's length and its bytes, the sum of the table and the sum of the
-whole buffer, which is filled with 170 before the call.
+Input, for each call: a line of 48 bytes (eight numbers of five digits: the bytes of the own mId, the bytes of the message, the
+runs of equal words that are not 0, the lines told, the words of the table, the bytes of the buffer, the runs of the blocks, the words
+of the blocks), the own mId, the message, the runs of the table and those of the blocks (from, to: five digits each; the word: ten
+digits, and a space), a line end.
+Output, for each call: its number, the refusal or the reply's length and its bytes, the sum of the table, the sum of the blocks and
+the sum of the whole buffer, which is filled with 170 before the call.
 """
 import collections
 import os
@@ -21,7 +22,7 @@ sys.dont_write_bytecode = True
 import command
 
 OWN, HEAD = b"[10.0.0.9]", b"!/1 [10.0.0.1] "
-LINES, WORDS, BUFFER = 8, 1522, 16640
+LINES, WORDS, BUFFER, BLOCKS = 8, 1522, 16640, 256
 FEW = 12          # how many rows are to show the same thing
 LONGEST = 300     # bytes of a message, boundaries aside
 ROOM = 800000     # bytes of the input
@@ -52,10 +53,21 @@ def runs(pairs):
     return out
 
 
+def blocks(row, what="blocks"):
+    """The words of the blocks, 64 blocks of zeros where a row has none."""
+    held = row.get(what) or {"len": BLOCKS, "words": []}
+    words = [0] * held["len"]
+    for i, v in held["words"]:
+        words[i] = v
+    return words
+
+
 def record(row):
     message, own, held = bytes.fromhex(row["message"]), bytes.fromhex(row["own"]), runs(row["table"])
-    head = b"%05d %05d %05d %05d %05d %05d\n" % (len(own), len(message), len(held), row.get("lines", LINES), row["table_len"], row["buf"])
-    return head + own + message + b"".join(b"%05d%05d%010d " % tuple(w) for w in held) + b"\n"
+    lent = blocks(row)
+    figures = runs([(i, v) for i, v in enumerate(lent) if v])
+    head = b"%05d %05d %05d %05d %05d %05d %05d %05d\n" % (len(own), len(message), len(held), row.get("lines", LINES), row["table_len"], row["buf"], len(figures), len(lent))
+    return head + own + message + b"".join(b"%05d%05d%010d " % tuple(w) for w in held + figures) + b"\n"
 
 
 def total(numbers):
@@ -71,7 +83,7 @@ def row_text(k, row):
         table[i] = v
     buffer = reply + b"\xaa" * (row["buf"] - len(reply))
     said = b"refused %d" % row["refusal"] if row["refusal"] else b"taken %d %s" % (len(reply), reply)
-    return b"%d %s %d %d\n" % (k, said, total(table), total(buffer))
+    return b"%d %s %d %d %d\n" % (k, said, total(table), total(blocks(row, "blocks_after")), total(buffer))
 
 
 # ---- the calls of document 01
@@ -81,7 +93,7 @@ SESSION = [
     (b"T=7{C=${A=L/1/5,A=$}}", b"P=7{C=1{A=L/1/5,A=R/1}}", {4: 1, 248: 1, 624: 1, 752: 1}),
     (b"T=8{C=1{A=L/1/5}}", b"P=8{C=1{A=L/1/5{ER=433{}}}}", {4: 1, 248: 1, 624: 1, 752: 1}),
     (b"T=9{C=${MV=L/1/5}}", b"P=9{C=2{MV=L/1/5}}", {4: 2, 248: 1, 624: 1, 625: 1, 752: 1}),
-    (b"T=10{C=1{S=*,A=L/2/1}}", b"P=10{C=1{S=R/1,A=L/2/1{ER=411{}}}}", {4: 2, 625: 1}),
+    (b"T=10{C=1{S=*,A=L/2/1}}", b"P=10{C=1{S=R/1{SA{rtp/pr=0,rtp/jit=0}},A=L/2/1{ER=411{}}}}", {4: 2, 625: 1}),
     (b"T=11{C=2{O-S=L/8/31,MF=L/1/5{M{O{MO=SR}}}}}", b"P=11{C=2{S=L/8/31{ER=435{}},MF=L/1/5}}", {4: 2, 316: 3, 625: 1}),
     (b"T=12{C=2{S=L/8/31,S=L/1/5}}", b"P=12{C=2{S=L/8/31{ER=435{}}}}", {4: 2, 316: 3, 625: 1}),
 ]
@@ -166,12 +178,20 @@ def last(n):
 
 # ---- the choice
 
+def row_changes(r):
+    return not r["refusal"] and blocks(r) != blocks(r, "blocks_after")
+
+
 def marks(r):
     """What a row shows: its kind, its refusal, the lengths lent, the codes of its reply and its reports, full tables, wildcards."""
     kind = re.sub(r"byte \d+ ", "byte ", r["kind"])
     lines = r.get("lines", LINES)
     found = {("kind", kind), ("refusal", r["refusal"]), ("lines", lines), ("table", r["table_len"]), ("buffer", r["buf"])}
     reply, message, words = bytes.fromhex(r["reply"]), bytes.fromhex(r["message"]), dict(map(tuple, r["table"]))
+    if row_changes(r):
+        found.add(("blocks", "renewed"))
+    found |= {("blocks", "reported")} if b"SA{" in reply else set()
+    found.add(("blocks", len(blocks(r))))
     found |= {("code", c.decode()) for c in re.findall(rb"ER=(\d+)", reply)}
     found |= {("report", c.decode()) for c in re.findall(rb"[{,]([A-Z]+=[A-Z$*])", reply)}
     found |= {("failed", c) for c in re.findall(rb"([A-Z]+)=[^{},]+\{ER=(\d+)", reply)}
@@ -186,15 +206,16 @@ def marks(r):
 
 
 def choose(rows, room):
-    rows = [r for r in rows if r["table_len"] <= 2100 and r["buf"] <= 20000 and r.get("lines", LINES) < 100000]
+    rows = [r for r in rows if r["table_len"] <= 2100 and len(blocks(r)) <= 300 and r["buf"] <= 20000 and r.get("lines", LINES) < 100000]
     random.Random(1).shuffle(rows)
     edges = [r for r in rows if r["kind"].startswith("e") and not r["kind"].startswith("e byte ")]
     edges = [r for r in edges if not re.search(r"reply of 20(4[0-6]|5[1-9]|6)", r["kind"])]
     edges += [r for r in rows if r["table_len"] != words(r)]
+    edges += sorted((r for r in rows if row_changes(r)), key=lambda r: len(record(r)))[:FEW]
     rest = [r for r in rows if r["table_len"] == words(r) and (r["kind"][0] != "e" or r["kind"].startswith("e byte "))]
     rest = sorted((r for r in rest if len(r["message"]) // 2 <= LONGEST), key=lambda r: len(record(r)) // 1000)
     have, taken = collections.Counter(), []
-    for r in edges + rest:
+    for r in edges + [r for r in rest if r not in edges]:
         few = FEW if len(record(r)) < 1000 else 4
         if any(have[m] < few for m in marks(r)) and len(record(r)) <= room:
             room -= len(record(r))
@@ -215,7 +236,7 @@ def main():
     with open(os.path.join(crate, "stdout"), "wb") as f:
         f.write(b"".join(row_text(k, r) for k, r in enumerate(taken, 1)))
     shown = collections.Counter(m for r in taken for m in marks(r))
-    for what in ("code", "refusal", "topology", "direction", "report", "wildcard", "lines", "table", "buffer"):
+    for what in ("code", "refusal", "topology", "direction", "report", "wildcard", "lines", "table", "buffer", "blocks"):
         print(what, " ".join("%s:%d" % (c.decode() if isinstance(c, bytes) else c, n) for (k, c), n in sorted(shown.items(), key=str) if k == what))
     every = {m for r in rows for m in marks(r)}
     print(len(taken), "calls; shown by no call:", sorted(map(str, every - set(shown))))

@@ -4,7 +4,8 @@
 Takes N rows (default 300), of messages of at most BYTES bytes (default 200), those first that show a code, a refusal, a
 report, a count of lines or a kind (by its first letter) that few before them show. A row without `lines` has eight. Each row is a theorem `holds row ≡ true`, proved by
 computation, in a crate `rows` that is written into a temporary repository beside copies of `base` and `megaco`. The refusal,
-the whole table and the whole reply buffer, filled with 170 before the call, are compared. It stands outside the gate.
+the whole table, the blocks and the whole reply buffer, filled with 170 before the call, are compared. A row without `blocks` has 64 of zeros. It
+stands outside the gate.
 """
 import collections, os, random, re, shutil, subprocess, sys, tempfile
 
@@ -23,6 +24,11 @@ def table(length, pairs):
     for i, v in pairs:
         text = f'(set {text} {i} {v})'
     return text
+
+
+def blocks(held):
+    """The words of the blocks, 64 of zeros where a row has none."""
+    return table(held['len'], held['words']) if held else table(256, [])
 
 
 def marks(row):
@@ -80,12 +86,12 @@ use Rattle.megaco.specs.State.{state}
 use Rattle.megaco.specs.Call.{Called, call}
 use Rattle.megaco.proofs.Opened.{opened}
 
-abbrev fits : Called → ℕ → ℕ → List ℕ → List ℕ → Bool
-fits c b n a u = eqb (c .refusal) n && eqb (c .size) (length a) && same (c .reply) (a ++ replicate (b - length a) 170) && same (c .state .table) u
+abbrev fits : Called → ℕ → ℕ → List ℕ → List ℕ → List ℕ → Bool
+fits c b n a u f = eqb (c .refusal) n && eqb (c .size) (length a) && same (c .reply) (a ++ replicate (b - length a) 170) && same (c .state .table) u && same (c .state .blocks) f
 
-unfoldable holds : ℕ → List ℕ → List ℕ → List ℕ → ℕ → ℕ → List ℕ → List ℕ → Bool
+unfoldable holds : ℕ → List ℕ → List ℕ → List ℕ → List ℕ → ℕ → ℕ → List ℕ → List ℕ → List ℕ → Bool
 unfolding opened
-holds l m t own b n a u = fits (call l m (state t) own (replicate b 170)) b n a u
+holds l m t f own b n a u g = fits (call l m (state t f) own (replicate b 170)) b n a u g
 
 '''
     per = 25
@@ -97,7 +103,7 @@ holds l m t own b n a u = fits (call l m (state t) own (replicate b 170)) b n a 
             f.write(head)
             for i, r in enumerate(taken[k:k + per]):
                 f.write(f'''-- {ascii(r['kind'])}: {bytes.fromhex(r['message'])!r}
-row{k + i} : holds {r.get('lines', 8)} {number_list(bytes.fromhex(r['message']))} {table(r['table_len'], r['table'])} {number_list(bytes.fromhex(r['own']))} {r['buf']} {r['refusal']} {number_list(bytes.fromhex(r['reply']))} {table(r['table_len'], r['after'])} ≡ true
+row{k + i} : holds {r.get('lines', 8)} {number_list(bytes.fromhex(r['message']))} {table(r['table_len'], r['table'])} {blocks(r.get('blocks'))} {number_list(bytes.fromhex(r['own']))} {r['buf']} {r['refusal']} {number_list(bytes.fromhex(r['reply']))} {table(r['table_len'], r['after'])} {blocks(r.get('blocks_after'))} ≡ true
 unfolding holds
 row{k + i} = refl
 

@@ -20,12 +20,14 @@ int main(void)
 {
     static const char own[] = "[10.0.0.9]";
     static uint32_t table[CORDAFINA_TABLE_WORDS(LINES)];
+    static uint32_t blocks[CORDAFINA_BLOCK_WORDS];
     static uint8_t reply[CORDAFINA_REPLY_BYTES];
     static uint8_t text[CORDAFINA_OUTPUT_BYTES];
 
     for (size_t i = 0; i < sizeof messages / sizeof messages[0]; i++) {
         uint64_t answer = cordafina_answer(LINES, (const uint8_t *)messages[i], strlen(messages[i]),
                                            table, CORDAFINA_TABLE_WORDS(LINES),
+                                           blocks, CORDAFINA_BLOCK_WORDS,
                                            (const uint8_t *)own, strlen(own),
                                            reply, sizeof reply);
         if (cordafina_refusal(answer) != CORDAFINA_TAKEN) {

@@ -22,7 +22,7 @@ public:
     std::string answer(const std::string &message)
     {
         return taken(cordafina_answer(lines_, bytes(message), message.size(), table_.data(), table_.size(),
-                                      bytes(own_), own_.size(), reply_.data(), reply_.size()),
+                                      blocks_.data(), blocks_.size(), bytes(own_), own_.size(), reply_.data(), reply_.size()),
                      reply_);
     }
 
@@ -53,6 +53,7 @@ private:
     std::string own_;
     std::uint32_t lines_;
     std::vector<std::uint32_t> table_;
+    std::vector<std::uint32_t> blocks_ = std::vector<std::uint32_t>(CORDAFINA_BLOCK_WORDS);
     std::vector<std::uint8_t> reply_;
 };
 

@@ -1,5 +1,5 @@
 -- An audit leaves the state as it is.
-use Prim.Native.Nat.{ℕ}
+use Prim.Native.Nat.{ℕ, _-_}
 use mathlib.Core.Path.{_≡_, refl, sym, ap, _∙_, subst}
 use mathlib.Core.Bool.{Bool, true, false}
 use mathlib.Core.List.{List, [], _∷_}
@@ -7,11 +7,13 @@ use mathlib.Core.Option.{Option, none, some}
 use Rattle.base.specs.Pick.{pick}
 use Rattle.base.proofs.TestLaws.{pick-of}
 use Rattle.megaco.specs.Tree.{Items, Command, command, Action, action, transaction}
-use Rattle.megaco.specs.Table.{Write, apply}
-use Rattle.megaco.specs.State.{State, wrote}
+use Rattle.megaco.specs.Table.{lineTerminations, fitted, Write, apply}
+use Rattle.megaco.specs.Blocks.{blockAt, cleared}
+use Rattle.megaco.specs.State.{State, wrote, renewed}
+use Rattle.megaco.specs.declared.Block.{Block}
 use Rattle.megaco.specs.Reply.{Acted}
 use Rattle.megaco.specs.Topology.{Link, linksOf, triplesOf}
-use Rattle.megaco.specs.Attempt.{judge, checks, changes, seen, numberOf, look, concluded, effect, Effect}
+use Rattle.megaco.specs.Attempt.{judge, checks, changes, seen, numberOf, look, renews, concluded, effect, Effect}
 use Rattle.megaco.specs.Command.{Outcome, attempts, commandError, actionError, Targets, noTarget, gateway, targets, runTargets, opOf, forbiddenInNull, noContext, fromTest4, fromTest2, unlessOptional, fromTest1, runCommand}
 use Rattle.megaco.specs.Action.{startChecks, startWrites, anyGiven, over15, startedBy, started}
 use Rattle.megaco.specs.Transaction.{Step, start, commandStep, commandSteps, noCommands, steps, Course, course, begin, advance, proceed, step, run, fresh, runTransaction}
@@ -21,22 +23,35 @@ use Rattle.audits.specs.Audits.{IsAudit, Stays, Audits, OnlyAudits, Tran
 -- ---- a command
 
 module _ (wild : Bool) (name : List ℕ) (given : ℕ) (vs : Values) where
-  no-writes : (i : ℕ) (at : Context) (v : View) → effect AuditValue wild name given vs i at v .writes ≡ []
+  no-writes : (i : ℕ) (at : Context) (v : View) (b : Block) → effect AuditValue wild name given vs i at v b .writes ≡ []
   unfolding effect concluded changes
-  no-writes i at v = by (judge (checks AuditValue at i vs v))
+  no-writes i at v b = by (judge (checks AuditValue at i vs v))
     where
-      by : (x : Checked) → concluded AuditValue wild name given vs i at v x .writes ≡ []
+      by : (x : Checked) → concluded AuditValue wild name given vs i at v b x .writes ≡ []
       by Passes = refl
       by (Fails code) = refl
 
-  pub effect-keeps : (i : ℕ) (at : Context) (st : State) → wrote (effect AuditValue wild name given vs i at (look at i (st .table)) .writes) st ≡ st
-  unfolding apply
-  effect-keeps i at st = ap (λ (ws : List Write). wrote ws st) (no-writes i at (look at i (st .table)))
+  no-blocks : (i : ℕ) (at : Context) (v : View) (b : Block) → effect AuditValue wild name given vs i at v b .blocks ≡ []
+  unfolding effect concluded renews
+  no-blocks i at v b = by (judge (checks AuditValue at i vs v))
+    where
+      by : (x : Checked) → concluded AuditValue wild name given vs i at v b x .blocks ≡ []
+      by Passes = refl
+      by (Fails code) = refl
+
+  -- what an attempt comes to, by the view and the block of its termination
+  abbrev pub effectIn : ℕ → Context → State → Effect
+  effectIn i at st = effect AuditValue wild name given vs i at (look at i (st .table)) (blockAt (i - lineTerminations (fitted (st .table))) (st .blocks))
+
+  pub effect-keeps : (i : ℕ) (at : Context) (st : State) → renewed (effectIn i at st .blocks) (wrote (effectIn i at st .writes) st) ≡ st
+  unfolding apply cleared
+  effect-keeps i at st =
+      ap (λ (ks : List ℕ). renewed ks (wrote (effectIn i at st .writes) st)) (no-blocks i at _ _) ∙ ap (λ (ws : List Write). wrote ws st) (no-writes i at (look at i (st .table)) (blockAt (i - lineTerminations (fitted (st .table))) (st .blocks)))
 
   attempts-keep : (is : List ℕ) (at : Context) (st : State) → attempts AuditValue wild name given vs is at st .state ≡ st
   unfolding attempts
   attempts-keep [] at st = refl
-  attempts-keep (i ∷ is) at st = attempts-keep is _ _ ∙ effect-keeps i at st
+  attempts-keep (i ∷ is) at st = attempts-keep is (effectIn i at st .at) (renewed (effectIn i at st .blocks) (wrote (effectIn i at st .writes) st)) ∙ effect-keeps i at st
 
 targets-keep : (name : List ℕ) (given : ℕ) (vs : Values) (a : Targets) (at : Context) (st : State) → runTargets AuditValue name given vs a at st .state ≡ st
 unfolding runTargets commandError

@@ -1,5 +1,5 @@
 -- What audits report: of each termination what the table holds.
-use Prim.Native.Nat.{ℕ}
+use Prim.Native.Nat.{ℕ, _-_}
 use mathlib.Core.Path.{_≡_, refl, sym, ap, ap₂, _∙_, subst}
 use mathlib.Core.Bool.{Bool, true, false, not}
 use mathlib.Core.List.{List, [], _∷_}
@@ -10,12 +10,14 @@ use Rattle.base.specs.Pick.{pick}
 use Rattle.base.specs.Bytes.{text}
 use Rattle.base.proofs.TestLaws.{pick-of, clash}
 use Rattle.megaco.specs.Tree.{Items, Command, command}
-use Rattle.megaco.specs.Table.{fitted, ctx, cell, prop, get, exists}
-use Rattle.megaco.specs.State.{State, wrote}
+use Rattle.megaco.specs.Table.{lineTerminations, fitted, ctx, cell, prop, get, exists}
+use Rattle.megaco.specs.State.{State, wrote, renewed}
+use Rattle.megaco.specs.Blocks.{blockAt}
+use Rattle.megaco.specs.declared.Block.{Block}
 use Rattle.megaco.specs.Names.{nameOf, nameText}
 use Rattle.megaco.specs.Items.{given?, judgeItems}
 use Rattle.megaco.specs.Reply.{nothing, Report, done, refused, failed}
-use Rattle.megaco.specs.Attempt.{Check, check, judge, checks, seen, numberOf, look, isChoose, settled, detailOf, concluded, effect, Effect}
+use Rattle.megaco.specs.Attempt.{Check, check, judge, checks, seen, numberOf, look, isChoose, settled, detailOf, toldOf, concluded, effect, Effect}
 use Rattle.megaco.specs.Command.{Outcome, attempts, commandError, actionError, Targets, noTarget, gateway, targets, isNull, isSubtract, inPlace, notForRoot, targetsOf, runTargets, opOf, forbiddenInNull, noContext, fromTest4, fromTest2, unlessOptional, fromTest1, runCommand}
 use Rattle.protocol.specs.Types.{Context, Null, Numbered, Choose, All, Op, AuditValue, Name, Termination, Judged, Wrong, Right, Checked, Passes, Fails, Values}
 use Rattle.audits.specs.Audits.{IsAudit, heldReport, Honest, of-one, of-root, of-none, of-action, AllHonest, no-more, more, ReportsHeld, ReportsNamed, reportsOf}
@@ -36,19 +38,19 @@ module _ (wild : Bool) (name : List ℕ) (given : ℕ) (vs : Values) where
   abbrev pub reported : Context → List ℕ → ℕ → Bool → Report
   reported at t i b = pick b (heldReport vs t i) (refused AuditValue (pick wild (nameText (fitted t) i) name) 435)
 
-  effect-reports : (i : ℕ) (at : Context) (t : List ℕ) → effect AuditValue wild name given vs i at (look at i t) .report ≡ reported at t i (eqb (get t (ctx i)) (numberOf at))
+  effect-reports : (i : ℕ) (at : Context) (t : List ℕ) (x : Block) → effect AuditValue wild name given vs i at (look at i t) x .report ≡ reported at t i (eqb (get t (ctx i)) (numberOf at))
   unfolding effect checks judge look
-  effect-reports i at t = by (eqb (get t (ctx i)) (numberOf at))
+  effect-reports i at t x = by (eqb (get t (ctx i)) (numberOf at))
     where
-      by : (b : Bool) → concluded AuditValue wild name given vs i at (look at i t) (pick (not b) (Fails 435) Passes) .report ≡ reported at t i b
-      by true = unfold concluded pick in refl
+      by : (b : Bool) → concluded AuditValue wild name given vs i at (look at i t) x (pick (not b) (Fails 435) Passes) .report ≡ reported at t i b
+      by true = unfold concluded toldOf pick in refl
       by false = unfold concluded pick in refl
 
-  effect-at : (i : ℕ) (at : Context) (t : List ℕ) → isChoose at ≡ false → effect AuditValue wild name given vs i at (look at i t) .at ≡ at
+  effect-at : (i : ℕ) (at : Context) (t : List ℕ) (b : Block) → isChoose at ≡ false → effect AuditValue wild name given vs i at (look at i t) b .at ≡ at
   unfolding effect
-  effect-at i at t n = by (judge (checks AuditValue at i vs (look at i t)))
+  effect-at i at t b n = by (judge (checks AuditValue at i vs (look at i t)))
     where
-      by : (x : Checked) → concluded AuditValue wild name given vs i at (look at i t) x .at ≡ at
+      by : (x : Checked) → concluded AuditValue wild name given vs i at (look at i t) b x .at ≡ at
       by Passes = unfold concluded settled pick in rw n
       by (Fails code) = unfold concluded in refl
 
@@ -57,10 +59,11 @@ module _ (wild : Bool) (name : List ℕ) (given : ℕ) (vs : Values) where
   unfolding attempts
   attempts-report [] at st n = refl
   attempts-report (i ∷ is) at st n =
-      let e : Effect = effect AuditValue wild name given vs i at (look at i (st .table)) in
+      let b : Block = blockAt (i - lineTerminations (fitted (st .table))) (st .blocks) in
+      let e : Effect = effect AuditValue wild name given vs i at (look at i (st .table)) b in
       let r : Context → State → List Report = λ c u. attempts AuditValue wild name given vs is c u .reports in
-      let same : r (e .at) (wrote (e .writes) st) ≡ r at st = ap₂ r (effect-at i at (st .table) n) (effect-keeps wild name given vs i at st) in
-      ap₂ (λ (x : Report) (xs : List Report). x ∷ xs) (effect-reports i at (st .table)) (same ∙ attempts-report is at st n)
+      let same : r (e .at) (renewed (e .blocks) (wrote (e .writes) st)) ≡ r at st = ap₂ r (effect-at i at (st .table) b n) (effect-keeps wild name given vs i at st) in
+      ap₂ (λ (x : Report) (xs : List Report). x ∷ xs) (effect-reports i at (st .table) b) (same ∙ attempts-report is at st n)
 
   -- ---- all are honest
 

@@ -1,26 +1,35 @@
-// Recorded calls. The input has for each call a line of 36 bytes (six numbers of five digits: the bytes of the gateway's own mId,
-// the bytes of the message, the runs of words that are not 0, the count of lines, the words of the table, the bytes of the reply buffer),
-// then the mId, the message, the runs (21 bytes each: from, to, word) and a line end. Each call has one line of output: its number, the
-// refusal or the reply's length and its bytes, the sum of the table and the sum of the whole buffer. tools/call_cases.py writes the
-// input and the output.
+// Recorded calls. The input has for each call a line of 48 bytes (eight numbers of five digits: the bytes of the gateway's own mId,
+// the bytes of the message, the runs of words that are not 0, the count of lines, the words of the table, the bytes of the reply buffer,
+// the runs of words of blocks, the words of the blocks), then the mId, the message, the runs (21 bytes each: from, to, word) and a line end.
+// Each call has one line of output: its number, the refusal or the reply's length and its bytes, the sum of the table, the sum of the blocks
+// and the sum of the whole buffer. tools/call_cases.py writes the input and the output.
 use gateway::CallOutcome;
 use libc::STDIN_FILENO;
 ghost use Prim.Native.Nat.{_<_};
 ghost use mathlib.Core.Path.{_≡_};
 ghost use lib.ListN.{length};
 
+// Where the parts of a call end: the mId, the message, the runs of the table, those of the blocks.
+struct Ends {
+    own: usize,
+    message: usize,
+    runs: usize,
+    figures: usize,
+}
+
 fn main() {
     let mut room = io::large_buffer();
     let mut table = [0u32; 2100];
+    let mut blocks = [0u32; 300];
     let mut reply = [0u8; 20000];
-    run(&mut room, &mut table, &mut reply);
+    run(&mut room, &mut table, &mut blocks, &mut reply);
 }
 
 // Nothing says that the input ends, so the numbers of the calls end.
-fn run(room: &mut [u8], table: &mut [u32], reply: &mut [u8]) {
+fn run(room: &mut [u8], table: &mut [u32], blocks: &mut [u32], reply: &mut [u8]) {
     let mut k: u64 = 1;
     while k < 1000000 {
-        if one(k, room, table, reply) {
+        if one(k, room, table, blocks, reply) {
             k += 1;
         } else {
             return;
@@ -29,9 +38,9 @@ fn run(room: &mut [u8], table: &mut [u32], reply: &mut [u8]) {
 }
 
 // Reads one call and prints its line; whether there was one.
-fn one(k: u64, room: &mut [u8], table: &mut [u32], reply: &mut [u8]) -> bool {
-    let mut head = [0u8; 36];
-    if io::read_full(STDIN_FILENO, &mut head) < 36 {
+fn one(k: u64, room: &mut [u8], table: &mut [u32], blocks: &mut [u32], reply: &mut [u8]) -> bool {
+    let mut head = [0u8; 48];
+    if io::read_full(STDIN_FILENO, &mut head) < 48 {
         return false;
     }
     let own = program_io::number(&head);
@@ -40,19 +49,28 @@ fn one(k: u64, room: &mut [u8], table: &mut [u32], reply: &mut [u8]) -> bool {
     let lines = program_io::number(&head[18..]) as u32;
     let words = program_io::number(&head[24..]);
     let buffer = program_io::number(&head[30..]);
-    if runs < room.len() {
-        let e = runs + 1;
+    let figures = runs + program_io::number(&head[36..]) * 21;
+    let lent = program_io::number(&head[42..]);
+    if figures < room.len() {
+        let e = figures + 1;
         if io::read_full(STDIN_FILENO, &mut room[0..e]) < e {
             return false;
         }
-        lend(
+        let ends = Ends {
+            own: own,
+            message: message,
+            runs: runs,
+            figures: figures,
+        };
+        part(
             k,
-            &room[0..own],
-            &room[own..message],
-            &room[message..runs],
+            room,
+            ends,
             lines,
             table,
             words,
+            blocks,
+            lent,
             reply,
             buffer,
         );
@@ -61,29 +79,77 @@ fn one(k: u64, room: &mut [u8], table: &mut [u32], reply: &mut [u8]) -> bool {
     false
 }
 
-// Lends as much of the table and of the buffer as the call has.
+// The parts of a call.
+fn part(
+    k: u64,
+    room: &[u8],
+    ends: Ends,
+    lines: u32,
+    table: &mut [u32],
+    words: usize,
+    blocks: &mut [u32],
+    lent: usize,
+    reply: &mut [u8],
+    buffer: usize,
+) {
+    let own = ends.own;
+    let message = ends.message;
+    let runs = ends.runs;
+    let figures = ends.figures;
+    if own <= message {
+        if message <= runs {
+            if runs <= figures {
+                if figures <= room.len() {
+                    lend(
+                        k,
+                        &room[0..own],
+                        &room[own..message],
+                        &room[message..runs],
+                        &room[runs..figures],
+                        lines,
+                        table,
+                        words,
+                        blocks,
+                        lent,
+                        reply,
+                        buffer,
+                    );
+                }
+            }
+        }
+    }
+}
+
+// Lends as much of the table, of the blocks and of the buffer as the call has.
 fn lend(
     k: u64,
     own: &[u8],
     message: &[u8],
     runs: &[u8],
+    figures: &[u8],
     lines: u32,
     table: &mut [u32],
     words: usize,
+    blocks: &mut [u32],
+    lent: usize,
     reply: &mut [u8],
     buffer: usize,
 ) {
     if words <= table.len() {
-        if buffer <= reply.len() {
-            call(
-                k,
-                own,
-                message,
-                runs,
-                lines,
-                &mut table[0..words],
-                &mut reply[0..buffer],
-            );
+        if lent <= blocks.len() {
+            if buffer <= reply.len() {
+                call(
+                    k,
+                    own,
+                    message,
+                    runs,
+                    figures,
+                    lines,
+                    &mut table[0..words],
+                    &mut blocks[0..lent],
+                    &mut reply[0..buffer],
+                );
+            }
         }
     }
 }
@@ -93,25 +159,28 @@ fn call(
     own: &[u8],
     message: &[u8],
     runs: &[u8],
+    figures: &[u8],
     lines: u32,
     table: &mut [u32],
+    blocks: &mut [u32],
     reply: &mut [u8],
 ) {
-    prepare(table, reply, runs);
-    let a = gateway::answer(lines, message, table, own, reply);
+    put_words(table, runs);
+    put_words(blocks, figures);
+    let b = reply.len();
+    fill(reply, b);
+    let a = gateway::answer(lines, message, table, blocks, own, reply);
     print_outcome(k, a, reply);
-    print_sums(table, reply);
+    print_sums(table, blocks, reply);
 }
 
 // ---- what is lent
 
-// The table of the runs, and a buffer of bytes 170.
-fn prepare(table: &mut [u32], reply: &mut [u8], runs: &[u8]) {
+// The words of the runs.
+fn put_words(table: &mut [u32], runs: &[u8]) {
     let n = table.len();
     program_io::put_run(table, 0, n, 0);
     put_runs(table, runs);
-    let b = reply.len();
-    fill(reply, b);
 }
 
 fn put_runs(table: &mut [u32], runs: &[u8]) {
@@ -208,8 +277,9 @@ fn print_reply(reply: &[u8], n: usize) {
     }
 }
 
-fn print_sums(table: &[u32], reply: &[u8]) {
+fn print_sums(table: &[u32], blocks: &[u32], reply: &[u8]) {
     program_io::print_number(b" ", sum_words(table) as u64);
+    program_io::print_number(b" ", sum_words(blocks) as u64);
     program_io::print_number(b" ", sum_bytes(reply) as u64);
     program_io::print(b"\n");
 }

@@ -83,16 +83,16 @@ module _ (at : Context) (t : List ℕ) (n : ℕ) (x : Bool) (e : n ≡ numberOf 
 
 -- ---- a command's tests
 
-module _ (op : Op) (name : List ℕ) (items : Bool) (given : ℕ) (at : Context) (first : Bool) (t o : List ℕ) (p : ℕ) (t′ : State) (o′ : List ℕ) where
+module _ (op : Op) (name : List ℕ) (items : Bool) (given : ℕ) (at : Context) (first : Bool) (t bs o : List ℕ) (p : ℕ) (t′ : State) (o′ : List ℕ) where
   pub named-targets : (vs : Values) (k : ℕ) (n : Name) (b : Bool) (x : Target) (w : CommandOutcome) → k ≡ fitted t → n ≡ nameOf k name → b ≡ notForRoot op items vs → x ≡ targetOf op at b n t
-      → RunsTo (runTargets op name given vs (targetsIn x op at t) at (state t)) first o p t′ o′ w → RunsTo (fromTest4 op name given items (Right vs) at (state t)) first o p t′ o′ w
+      → RunsTo (runTargets op name given vs (targetsIn x op at t) at (state t bs)) first o p t′ o′ w → RunsTo (fromTest4 op name given items (Right vs) at (state t bs)) first o p t′ o′ w
   unfolding fromTest4
   named-targets vs k n b x w l e g f d =
-      subst (λ (a : Rattle.megaco.specs.Command.Targets). RunsTo (runTargets op name given vs a at (state t)) first o p t′ o′ w)
+      subst (λ (a : Rattle.megaco.specs.Command.Targets). RunsTo (runTargets op name given vs a at (state t bs)) first o p t′ o′ w)
       (ap (λ (y : Target). targetsIn y op at t) f ∙ target-is op at t b n ∙ ap (λ (m : Name). targetsOf op at b m t) (e ∙ ap (λ (j : ℕ). nameOf j name) l) ∙ ap (λ (z : Bool). targetsOf op at z (nameOf (fitted t) name) t) g) d
 
-  pub judged-right : (j : Judged) (vs : Values) (w : CommandOutcome) → j ≡ Right vs → RunsTo (fromTest4 op name given items (Right vs) at (state t)) first o p t′ o′ w
-      → RunsTo (fromTest4 op name given items j at (state t)) first o p t′ o′ w
+  pub judged-right : (j : Judged) (vs : Values) (w : CommandOutcome) → j ≡ Right vs → RunsTo (fromTest4 op name given items (Right vs) at (state t bs)) first o p t′ o′ w
+      → RunsTo (fromTest4 op name given items j at (state t bs)) first o p t′ o′ w
   judged-right j vs w e d = rw e d
 
 pub judged-wrong : (op : Op) (name : List ℕ) (items : Bool) (turn : Turn) (t : State) (o o′ : List ℕ) (j : Judged) (code : ℕ) (w : CommandOutcome) → j ≡ Wrong code → CommandFailed op name code turn o o′ w

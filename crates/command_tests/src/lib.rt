@@ -101,16 +101,17 @@ fn run_named(
     values: Values,
     turn: Turn,
     table: &mut [u32],
+    blocks: &mut [u32],
     out: &mut [u8],
 ) -> CommandOutcome
     requires { ⌜ (Sized (now table)) × InRange values ⌝ }
-    ensures { λ r. ⌜ RunsTo (fromTest4 op (now (name .entry)) (turn .given) items (Right values) (turn .at) (state (now (table .entry)))) (turn .first) (now (out .entry)) (turn .next) (state (now (table .exit))) (now (out .exit)) r ⌝ }
+    ensures { λ r. ⌜ RunsTo (fromTest4 op (now (name .entry)) (turn .given) items (Right values) (turn .at) (state (now (table .entry)) (now (blocks .entry)))) (turn .first) (now (out .entry)) (turn .next) (state (now (table .exit)) (now (blocks .exit))) (now (out .exit)) r ⌝ }
 {
     let n = names::name_of(table::lines(table), name);
     let at = turn.at;
     let b = not_for_root(op, items, values);
     let x = targets::target_of(op, at, b, n, table);
-    run_attempts::run_targets(op, name, values, x, turn, table, out)
+    run_attempts::run_targets(op, name, values, x, turn, table, blocks, out)
 }
 
 // Test 4 after test 3.
@@ -121,13 +122,14 @@ pub fn run_judged(
     judged: Judged,
     turn: Turn,
     table: &mut [u32],
+    blocks: &mut [u32],
     out: &mut [u8],
 ) -> CommandOutcome
     requires { ⌜ (Sized (now table)) × JudgedInRange judged ⌝ }
-    ensures { λ r. ⌜ RunsTo (fromTest4 op (now (name .entry)) (turn .given) items judged (turn .at) (state (now (table .entry)))) (turn .first) (now (out .entry)) (turn .next) (state (now (table .exit))) (now (out .exit)) r ⌝ }
+    ensures { λ r. ⌜ RunsTo (fromTest4 op (now (name .entry)) (turn .given) items judged (turn .at) (state (now (table .entry)) (now (blocks .entry)))) (turn .first) (now (out .entry)) (turn .next) (state (now (table .exit)) (now (blocks .exit))) (now (out .exit)) r ⌝ }
 {
     match judged {
         Judged::Wrong(code) => run_attempts::command_error(op, name, code, turn, out),
-        Judged::Right(values) => run_named(op, name, items, values, turn, table, out),
+        Judged::Right(values) => run_named(op, name, items, values, turn, table, blocks, out),
     }
 }

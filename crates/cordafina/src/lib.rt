@@ -9,8 +9,8 @@ ghost use mathlib.Core.Path.{_≡_};
 ghost use Rattle.base.specs.Lists.{lowestAbsent};
 ghost use Rattle.megaco.specs.Map.{digits, inUse};
 ghost use Rattle.megaco.specs.State.{state};
-ghost use Rattle.megaco.specs.Call.{call};
-ghost use Rattle.gateway.specs.Answers.{numberOf, Packed};
+ghost use Rattle.megaco.specs.Call.{call, packet};
+ghost use Rattle.gateway.specs.Answers.{numberOf, Packed, Counted};
 
 // An answer as one number: the reply's length in the low 32 bits, the number of the refusal in the high 32, 0 for a call that is taken.
 fn number_of(a: CallOutcome) -> u64
@@ -26,19 +26,35 @@ fn number_of(a: CallOutcome) -> u64
     }
 }
 
-// The call: the lines fitted, one message, the lent table, the gateway's own mId and the lent reply buffer.
+// The call: the lines fitted, one message, the lent table, the lent blocks, the gateway's own mId and the lent reply buffer.
 #[no_mangle]
 pub extern "C" fn cordafina_answer(
     lines: u32,
     message: &[u8],
     table: &mut [u32],
+    blocks: &mut [u32],
     own: &[u8],
     reply: &mut [u8],
 ) -> u64
-    ensures { λ r. ⌜ Packed (call lines (now (message .entry)) (state (now (table .entry))) (now (own .entry)) (now (reply .entry))) (state (now (table .exit))) (now (reply .exit)) r ⌝ }
+    ensures { λ r. ⌜ Packed (call lines (now (message .entry)) (state (now (table .entry)) (now (blocks .entry))) (now (own .entry)) (now (reply .entry))) (state (now (table .exit)) (now (blocks .exit))) (now (reply .exit)) r ⌝ }
 {
-    let a = gateway::answer(lines, message, table, own, reply);
+    let a = gateway::answer(lines, message, table, blocks, own, reply);
     number_of(a)
+}
+
+// A packet of `R/n`, which updates its block: the number of the refusal, or 0.
+#[no_mangle]
+pub extern "C" fn cordafina_packet(
+    lines: u32,
+    table: &[u32],
+    blocks: &mut [u32],
+    n: u32,
+    arrival: u32,
+    stamp: u32,
+) -> u32
+    ensures { λ r. ⌜ Counted (packet lines (state (now (table .entry)) (now (blocks .entry))) n arrival stamp) (now (blocks .exit)) r ⌝ }
+{
+    gateway::packet(lines, table, blocks, n, arrival, stamp)
 }
 
 // ---- the map of the ephemerals, given as one number: word 2N + 128 of a table of N terminations is its low half, the next its high half

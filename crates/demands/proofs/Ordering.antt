@@ -18,7 +18,7 @@ use Rattle.laws.proofs.Demand.{either-order, any-mixture}
 use Rattle.gateway.specs.Answers.{refusalOf, sizeOf}
 use Rattle.gateway.specs.declared.CallOutcome.the-variants.{Taken}
 use Rattle.grammar.specs.Grammar.{megacoMessage}
-use Rattle.demands.specs.Demands.{Made, LinesFit, BufferFits, TableFits, OwnFits, MessageFits, allFit, InRange, replyWith, Leaves, Conditions, Sent, replyOf, Alike, Demand-3}
+use Rattle.demands.specs.Demands.{Made, LinesFit, BufferFits, StateFits, OwnFits, MessageFits, allFit, InRange, replyWith, Leaves, Conditions, Sent, replyOf, Alike, Demand-3}
 use Rattle.demands.proofs.Turning.{number-is, demand-1}
 use Rattle.demands.proofs.Admitting.{front, demand-2}
 
@@ -39,16 +39,16 @@ alone x st = ap (λ (z : List ℕ). ran (runTransaction x st .state) z) (then-no
 pub record Done {n : ℕ} {m : List ℕ} {st : State} {own o : List ℕ} (c : Made n m st own o) (x : Transaction) : Type 0 where
   pub taken : refusalOf (c .answer) ≡ 0
   pub leaves : Leaves c (runTransaction x st)
-  pub fits : TableFits n (c .state .table)
+  pub fits : StateFits n (c .state)
 
-done : {n : ℕ} {m : List ℕ} {st : State} {own o : List ℕ} (c : Made n m st own o) (x : Transaction) → megacoMessage m 1 (x ∷ []) → MessageFits m → OwnFits own → BufferFits o → TableFits n (st .table) → Done c x
+done : {n : ℕ} {m : List ℕ} {st : State} {own o : List ℕ} (c : Made n m st own o) (x : Transaction) → megacoMessage m 1 (x ∷ []) → MessageFits m → OwnFits own → BufferFits o → StateFits n st → Done c x
 done {n} {m} {st} {own} {o} c x d f w b s =
     let e : refusalOf (c .answer) ≡ 0 = number-is c 0 .1 (allFit (lines-fit n (st .table) (s .0) (s .1)) b s w f) in
     let r : InRange st o c = demand-1 n m st own o c .taken e in
     record {
       taken = e;
       leaves = subst (Leaves c) (alone x st) (demand-2 n m st own o c e .gives (x ∷ []) d);
-      fits = (r .size ∙ s .0, r .again);
+      fits = (r .size ∙ s .0, r .again, r .blocks-again);
     }
 
 -- what was replied
@@ -73,14 +73,15 @@ module _ {st : State} {x y : Transaction} (r : EitherOrder st x y) (s : sound (s
   calls-alike : (n : ℕ) (own m k : List ℕ) → Sent n st own m k x y → (o₁ o₂ o₃ o₄ : List ℕ) → BufferFits o₁ → BufferFits o₂ → BufferFits o₃ → BufferFits o₄
       → (a : Made n m st own o₁) (b : Made n k (a .state) own o₂) (c : Made n k st own o₃) (d : Made n m (c .state) own o₄) → Alike a b c d
   calls-alike n own m k e o₁ o₂ o₃ o₄ f₁ f₂ f₃ f₄ a b c d =
-      let A : Done a x = done a x (e .one) (e .size-one) (e .own-fits) f₁ (e .lines, s) in
+      let A : Done a x = done a x (e .one) (e .size-one) (e .own-fits) f₁ (e .lines, s, e .blocks) in
       let B : Done b y = done b y (e .two) (e .size-two) (e .own-fits) f₂ (A .fits) in
-      let C : Done c y = done c y (e .two) (e .size-two) (e .own-fits) f₃ (e .lines, s) in
+      let C : Done c y = done c y (e .two) (e .size-two) (e .own-fits) f₃ (e .lines, s, e .blocks) in
       let D : Done d x = done d x (e .one) (e .size-one) (e .own-fits) f₄ (C .fits) in
       let B′ : Leaves b (runTransaction y (runTransaction x st .state)) = subst (λ (z : State). Leaves b (runTransaction y z)) (A .leaves .state) (B .leaves) in
       let D′ : Leaves d (runTransaction x (runTransaction y st .state)) = subst (λ (z : State). Leaves d (runTransaction x z)) (C .leaves .state) (D .leaves) in
       record {
         taken = (A .taken, B .taken, C .taken, D .taken);
+        blocks = ap (λ (z : State). z .blocks) (B′ .state) ∙ r .blocks;
         state = B′ .state ∙ r .state ∙ sym (D′ .state);
         answer-one = same-answer (A .leaves) D′ (r .reply-one);
         answer-two = same-answer B′ (C .leaves) (r .reply-two);

@@ -1,6 +1,7 @@
 -- The three demands, met.
 use Rattle.laws.proofs.Sound.{sound-whole, whole-sound}
-use Rattle.demands.specs.Demands.{From-C, Soundness, Demand-1, Demand-2, Demand-3, Pair}
+use Rattle.laws.proofs.Figures.{sound-blocks, blocks-sound}
+use Rattle.demands.specs.Demands.{From-C, Soundness, Demand-1, Packets, Demand-2, Demand-3, Pair}
 use Rattle.demands.proofs.Turning
 use Rattle.demands.proofs.Admitting
 use Rattle.demands.proofs.Ordering
@@ -10,10 +11,13 @@ pub from-c : From-C
 from-c = Turning.from-c
 
 pub soundness : Soundness
-soundness t = (sound-whole t, whole-sound t)
+soundness = (λ t. (sound-whole t, whole-sound t), λ b. (sound-blocks b, blocks-sound b))
 
 pub demand-1 : Demand-1
 demand-1 = Turning.demand-1
+
+pub packets : Packets
+packets = Turning.packets
 
 pub demand-2 : Demand-2
 demand-2 = Admitting.demand-2

@@ -1,61 +1,35 @@
--- Demand 1: which calls are turned down, and what every call leaves.
+-- Demand 1: which calls are turned down, and what every call leaves; the same of a packet.
 use Prim.Native.Nat.{ℕ, _+_, _*_}
 use mathlib.Core.Path.{_≡_, refl, sym, ap, subst, _∙_}
 use mathlib.Core.Logic.{_↔_, _≢_}
-use mathlib.Core.Bool.{Bool, true, false, not, _&&_, _||_}
+use mathlib.Core.Bool.{not, _||_}
 use mathlib.Core.List.{List}
 use lib.ListN.{length}
-use lib.Dec.{ltb, leb, eqb}
-use borrow.Author.Tests.{ltb-true, ltb-false, lt-ltb, le-ltb, leb-true, le-leb, eqb-true, eqb-false, eq-eqb, ne-eqb, not-false}
+use lib.Dec.{ltb, eqb}
+use borrow.Author.Tests.{ltb-false, le-ltb, eqb-false, ne-eqb, not-false}
 use native.Mathlib.Omega.{arith}
 use Rattle.base.specs.Pick.{pick}
 use Rattle.base.proofs.PickLaws.{pick-ind}
-use Rattle.base.proofs.TestLaws.{clash, and-both, both-and, or-neither}
+use Rattle.base.proofs.TestLaws.{or-neither}
 use Rattle.megaco.specs.Tokens.{isMid}
-use Rattle.megaco.specs.Table.{words, mostLines, sound}
 use Rattle.megaco.specs.State.{State}
-use Rattle.megaco.specs.Names.{within}
 use Rattle.megaco.specs.Call.{Called, written, replied, taken, call}
 use Rattle.grammar.proofs.OwnLaws.{own-mid}
 use Rattle.laws.proofs.Bounds.{refusal-keeps, call-bounded}
 use Rattle.laws.proofs.Runs.{call-length}
 use Rattle.laws.proofs.Kept.{call-sound}
+use Rattle.laws.proofs.Figures.{call-length-blocks, call-blocks-sound}
+use Rattle.laws.proofs.Packets.{Tests, unfit, raised, not-up, lines-test, state-test, packet-number, packet-down, packet-taken}
+use Rattle.laws.specs.Packets.{Updates}
 use Rattle.gateway.specs.Answers.{refusalOf, sizeOf}
 use Rattle.gateway.specs.declared.CallOutcome.{CallOutcome}
 use Rattle.gateway.specs.declared.CallOutcome.the-variants.{Taken, ReplyTooShort, TableUnsound, MidUnfit, MessageUnfit, LinesUnfit}
-use Rattle.demands.specs.Demands.{Made, From-C, LinesFit, BufferFits, TableFits, OwnFits, MessageFits, Refusal, linesUnfit, bufferUnfit, tableUnfit, ownUnfit, messageUnfit, allFit, Untouched, InRange, Demand-1}
+use Rattle.demands.specs.Demands.{Made, From-C, LinesFit, BufferFits, StateFits, OwnFits, MessageFits, Refusal, linesUnfit, bufferUnfit, stateUnfit, ownUnfit, messageUnfit, allFit, Untouched, InRange, Demand-1, Packets}
 
 -- ---- each test of the call, and what it tests
 
--- a test that is up exactly when something does not hold
-abbrev Tests : Bool → Type 0 → Type 0
-Tests b G = b ≡ false ↔ G
-
-unfit : {b : Bool} {G : Type 0} → Tests b G → b ≡ true → ¬ G
-unfit q e g = clash (sym e ∙ q .1 g)
-
-raised : (b : Bool) {G : Type 0} → Tests b G → ¬ G → b ≡ true
-raised true q h = refl
-raised false q h = absurd (h (q .0 refl))
-
-not-up : (b : Bool) → b ≡ true → not b ≡ false
-not-up b e = rw e
-
-lines-test : (n : ℕ) → Tests (not (within n mostLines)) (LinesFit n)
-unfolding within
-lines-test n = (
-  λ e. let b = and-both (ltb 0 n) (leb n 16) (not-false _ e) in (omega (arith, ltb-true 0 n (b .0)), leb-true n 16 (b .1)),
-  λ h. not-up _ (both-and (ltb 0 n) (leb n 16) (lt-ltb 0 n (omega (arith, h .0))) (le-leb n 16 (h .1))),
-)
-
 buffer-test : (o : List ℕ) → Tests (ltb (length o) 16640) (BufferFits o)
 buffer-test o = (ltb-false (length o) 16640, le-ltb (length o) 16640)
-
-table-test : (n : ℕ) (t : List ℕ) → Tests (not (eqb (length t) (words n) && sound t)) (TableFits n t)
-table-test n t = (
-  λ e. let b = and-both (eqb (length t) (words n)) (sound t) (not-false _ e) in (eqb-true (length t) (words n) (b .0), b .1),
-  λ h. not-up _ (both-and (eqb (length t) (words n)) (sound t) (eq-eqb (length t) (words n) (h .0)) (h .1)),
-)
 
 own-test : (own : List ℕ) → Tests (not (isMid own)) (OwnFits own)
 own-test own = (λ e. own-mid own .0 (not-false _ e), λ h. not-up _ (own-mid own .1 h))
@@ -78,8 +52,8 @@ module _ (n : ℕ) (m : List ℕ) (st : State) (own o : List ℕ) where
       let a = lines-test n .0 e in
       pick-ind P _ _ _ (λ z. bufferUnfit a (unfit (buffer-test o) z)) λ f.
       let b = buffer-test o .0 f in
-      pick-ind P _ _ _ (λ z. tableUnfit a b (unfit (table-test n (st .table)) z)) λ g.
-      let c = table-test n (st .table) .0 g in
+      pick-ind P _ _ _ (λ z. stateUnfit a b (unfit (state-test n st) z)) λ g.
+      let c = state-test n st .0 g in
       pick-ind P _ _ _ (λ z. ownUnfit a b c (unfit (own-test own) z)) λ h.
       let d = own-test own .0 h in
       pick-ind P _ _ _ (λ z. messageUnfit a b c d (unfit (message-test m) z)) λ i.
@@ -89,30 +63,30 @@ module _ (n : ℕ) (m : List ℕ) (st : State) (own o : List ℕ) where
   unfolding call taken replied written pick
   refusal-call k (linesUnfit h) = rw (raised _ (lines-test n) h)
   refusal-call k (bufferUnfit a h) = rw (lines-test n .1 a, raised _ (buffer-test o) h)
-  refusal-call k (tableUnfit a b h) = rw (lines-test n .1 a, buffer-test o .1 b, raised _ (table-test n (st .table)) h)
-  refusal-call k (ownUnfit a b c h) = rw (lines-test n .1 a, buffer-test o .1 b, table-test n (st .table) .1 c, raised _ (own-test own) h)
-  refusal-call k (messageUnfit a b c d h) = rw (lines-test n .1 a, buffer-test o .1 b, table-test n (st .table) .1 c, own-test own .1 d, raised _ (message-test m) h)
-  refusal-call k (allFit a b c d h) = rw (lines-test n .1 a, buffer-test o .1 b, table-test n (st .table) .1 c, own-test own .1 d, message-test m .1 h)
+  refusal-call k (stateUnfit a b h) = rw (lines-test n .1 a, buffer-test o .1 b, raised _ (state-test n st) h)
+  refusal-call k (ownUnfit a b c h) = rw (lines-test n .1 a, buffer-test o .1 b, state-test n st .1 c, raised _ (own-test own) h)
+  refusal-call k (messageUnfit a b c d h) = rw (lines-test n .1 a, buffer-test o .1 b, state-test n st .1 c, own-test own .1 d, raised _ (message-test m) h)
+  refusal-call k (allFit a b c d h) = rw (lines-test n .1 a, buffer-test o .1 b, state-test n st .1 c, own-test own .1 d, message-test m .1 h)
 
 -- what a call that is taken has passed
 pub record Fits (n : ℕ) (m : List ℕ) (st : State) (own o : List ℕ) : Type 0 where
   pub lines : LinesFit n
   pub buffer : BufferFits o
-  pub table : TableFits n (st .table)
+  pub lent : StateFits n st
   pub own-fits : OwnFits own
   pub message : MessageFits m
 
 pub fits : {n : ℕ} {m : List ℕ} {st : State} {own o : List ℕ} (k : ℕ) → k ≡ 0 → Refusal n m st own o k → Fits n m st own o
 fits k e (linesUnfit h) = absurd (omega (arith, e))
 fits k e (bufferUnfit a h) = absurd (omega (arith, e))
-fits k e (tableUnfit a b h) = absurd (omega (arith, e))
+fits k e (stateUnfit a b h) = absurd (omega (arith, e))
 fits k e (ownUnfit a b c h) = absurd (omega (arith, e))
 fits k e (messageUnfit a b c d h) = absurd (omega (arith, e))
-fits k e (allFit a b c d h) = record { lines = a; buffer = b; table = c; own-fits = d; message = h }
+fits k e (allFit a b c d h) = record { lines = a; buffer = b; lent = c; own-fits = d; message = h }
 
 pub fit-call : {n : ℕ} {m : List ℕ} {st : State} {own o : List ℕ} → Fits n m st own o → call n m st own o ≡ taken m st own o
 unfolding call pick
-fit-call {n} {m} {st} {own} {o} f = rw (lines-test n .1 (f .lines), buffer-test o .1 (f .buffer), table-test n (st .table) .1 (f .table), own-test own .1 (f .own-fits), message-test m .1 (f .message))
+fit-call {n} {m} {st} {own} {o} f = rw (lines-test n .1 (f .lines), buffer-test o .1 (f .buffer), state-test n st .1 (f .lent), own-test own .1 (f .own-fits), message-test m .1 (f .message))
 
 -- ---- demand 1
 
@@ -137,11 +111,23 @@ module _ {n : ℕ} {m : List ℕ} {st : State} {own o : List ℕ} (c : Made n m 
         long = ap length (c .promise .reply) ∙ b .long;
         past = rw (c .promise .size, c .promise .reply) (b .past);
         size = ap (λ (z : State). length (z .table)) (c .promise .state) ∙ call-length n m st own o;
-        again = rw (c .promise .state) (call-sound n m st own o (f .table .1));
+        again = rw (c .promise .state) (call-sound n m st own o (f .lent .1));
+        blocks-size = ap (λ (z : State). length (z .blocks)) (c .promise .state) ∙ call-length-blocks n m st own o;
+        blocks-again = rw (c .promise .state) (call-blocks-sound n m st own o (f .lent .2));
       }
 
 pub demand-1 : Demand-1
 demand-1 n m st own o c = record { number = number-is c; down = untouched c; taken = in-range c }
+
+-- ---- a packet
+
+pub packets : Packets
+packets n st k arrival stamp c =
+    record {
+      number = λ r. (λ e. packet-number n st k arrival stamp r .0 (sym (c .promise .refusal) ∙ e), λ v. c .promise .refusal ∙ packet-number n st k arrival stamp r .1 v);
+      down = λ h. c .promise .blocks ∙ packet-down n st k arrival stamp (λ e. h (c .promise .refusal ∙ e));
+      taken = λ e. subst (λ (b : List ℕ). Updates (st .blocks) b k arrival stamp) (sym (c .promise .blocks)) (packet-taken n st k arrival stamp (sym (c .promise .refusal) ∙ e));
+    }
 
 -- ---- an answer for each refusal: a call from C
 
@@ -154,7 +140,7 @@ outcomes : {n : ℕ} {m : List ℕ} {st : State} {own o : List ℕ} {k : ℕ} (s
 unfolding refusalOf sizeOf
 outcomes s z (linesUnfit h) = record { outcome = LinesUnfit; refusal = refl; size = sym (z (λ e. omega (arith, e))) }
 outcomes s z (bufferUnfit a h) = record { outcome = ReplyTooShort; refusal = refl; size = sym (z (λ e. omega (arith, e))) }
-outcomes s z (tableUnfit a b h) = record { outcome = TableUnsound; refusal = refl; size = sym (z (λ e. omega (arith, e))) }
+outcomes s z (stateUnfit a b h) = record { outcome = TableUnsound; refusal = refl; size = sym (z (λ e. omega (arith, e))) }
 outcomes s z (ownUnfit a b c h) = record { outcome = MidUnfit; refusal = refl; size = sym (z (λ e. omega (arith, e))) }
 outcomes s z (messageUnfit a b c d h) = record { outcome = MessageUnfit; refusal = refl; size = sym (z (λ e. omega (arith, e))) }
 outcomes s z (allFit a b c d h) = record { outcome = Taken s; refusal = refl; size = refl }

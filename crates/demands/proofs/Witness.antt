@@ -11,14 +11,14 @@ use Rattle.base.specs.Lists.{same}
 use Rattle.base.specs.Bytes.{text}
 use Rattle.base.proofs.TestLaws.{clash}
 use Rattle.megaco.specs.Tree.{Transaction}
-use Rattle.megaco.specs.State.{State, state}
+use Rattle.megaco.specs.Blocks.{blocksAreSound}
 use Rattle.megaco.specs.Tokens.{isMid}
 use Rattle.megaco.specs.Table.{words}
 use Rattle.grammar.specs.Grammar.{atMost, transactionList, lastRequest, nextRequest, megacoMessage}
 use Rattle.grammar.specs.Grammar
 use Rattle.grammar.proofs.Theorems
 use Rattle.grammar.proofs.OwnLaws.{own-mid}
-use Rattle.laws.specs.Witness.{message, read, start, one, two}
+use Rattle.laws.specs.Witness.{message, read, start, lent, one, two}
 use Rattle.laws.proofs.Witness.{tests, reads-one, reads-two, start-sound, both-change, apart}
 use Rattle.demands.specs.Demands.{WellFormed, Pair}
 
@@ -44,6 +44,10 @@ start-long : length start ≡ words 8
 unfolding tests
 start-long = refl
 
+lent-sound : blocksAreSound (lent start .blocks) ≡ true
+unfolding tests
+lent-sound = refl
+
 abbrev own : List ℕ
 own = text "[10.0.0.9]"
 
@@ -61,7 +65,7 @@ pub pair : Pair
 pair =
     record {
       lines = 8;
-      state = state start;
+      state = lent start;
       own = own;
       one = message one;
       two = message two;
@@ -86,6 +90,7 @@ pair =
             size-one = (leb-true 1 _ refl, leb-true _ 4096 refl);
             size-two = (leb-true 1 _ refl, leb-true _ 4096 refl);
             lines = start-long;
+            blocks = lent-sound;
             own-fits = own-mid own .0 own-is;
           };
       changes-one = other _ _ (both-change .0);

@@ -1,5 +1,5 @@
 -- The maintainer's three demands, sentence by sentence, each one statement about calls of `gateway::answer` through its promise.
--- Proved in proofs/Theorems.antt: `demand-1`, `demand-2`, `demand-3`.
+-- Proved in proofs/Theorems.antt: `demand-1`, `demand-2`, `demand-3`; of packets, which document 02 adds, `packets`.
 use Prim.Native.Nat.{ℕ, _+_, _*_, _≤_}
 use mathlib.Core.Path.{_≡_}
 use mathlib.Core.Logic.{_↔_, _≢_, _⊎_}
@@ -11,18 +11,22 @@ use Rattle.megaco.specs.Table.{words, fitted, sound}
 use Rattle.megaco.specs.State.{State}
 use Rattle.megaco.specs.Reply.{headerText, errorText, replyText}
 use Rattle.megaco.specs.Transaction.{Ran, ran, runTransaction, runTransactions}
-use Rattle.megaco.specs.Call.{call}
+use Rattle.megaco.specs.Call.{call, packet}
 use Rattle.grammar.specs.Grammar.{mId, transactionRequest, megacoMessage}
 use Rattle.grammar.specs.Faults.{Fault403, Fault406}
 use Rattle.laws.specs.Sound.{Whole}
+use Rattle.megaco.specs.Blocks.{blocksAreSound}
+use Rattle.laws.specs.Figures.{SoundBlocks}
+use Rattle.laws.specs.Packets.{PacketRefusal, Updates}
+pub use Rattle.laws.specs.Packets.{LinesFit, StateFits}
 use Rattle.laws.specs.Mix.{Mixture, mixed, stepsOf, bothFresh}
 use Rattle.laws.specs.Apart.{ContextsPlain, NamesPlain, TerminationsApart, ContextsApart}
 use Rattle.laws.specs.Demand.{EitherOrder, AsOneAfterOther}
-use Rattle.gateway.specs.Answers.{refusalOf, sizeOf, Answered, Packed}
+use Rattle.gateway.specs.Answers.{refusalOf, sizeOf, Answered, Packed, Counted}
 use Rattle.gateway.specs.declared.CallOutcome.{CallOutcome}
 use Rattle.gateway.specs.declared.CallOutcome.the-variants.{Taken}
 
--- a call of `answer` that was made with n lines, the message m, the state st (the table), the gateway's own mId and the reply buffer o: the
+-- a call of `answer` that was made with n lines, the message m, the state st (the table and the blocks), the gateway's own mId and the reply buffer o: the
 -- state and the buffer that it left and what it answered, of which its contract promises `Answered`. It has no `requires`
 pub record Made (n : ℕ) (m : List ℕ) (st : State) (own o : List ℕ) : Type 0 where
   pub state : State
@@ -35,22 +39,15 @@ abbrev pub From-C : Type 0
 From-C = (n : ℕ) (m : List ℕ) (st : State) (own o : List ℕ) (st′ : State) (o′ : List ℕ) (r : ℕ) → Packed (call n m st own o) st′ o′ r
     → (c : Made n m st own o) × (c .state ≡ st′) × (c .buffer ≡ o′) × (r ≡ sizeOf (c .answer) + 4294967296 * refusalOf (c .answer))
 
--- soundness, which the call tests, as facts about each termination and each context
+-- soundness, which the call tests, as facts about each termination, each context and each block
 abbrev pub Soundness : Type 0
-Soundness = (t : List ℕ) → sound t ≡ true ↔ Whole t
+Soundness = ((t : List ℕ) → sound t ≡ true ↔ Whole t) × ((b : List ℕ) → blocksAreSound b ≡ true ↔ SoundBlocks b)
 
 -- ---- demand 1
 
--- 'Calls turned down': what must hold of a call that is taken
-abbrev pub LinesFit : ℕ → Type 0
-LinesFit n = (1 ≤ n) × (n ≤ 16)
-
+-- 'Calls turned down': what must hold of a call that is taken; `LinesFit` and `StateFits` stand with the packets, in laws
 abbrev pub BufferFits : List ℕ → Type 0
 BufferFits o = 16640 ≤ length o
-
--- of the size of n lines, and sound
-abbrev pub TableFits : ℕ → List ℕ → Type 0
-TableFits n t = (length t ≡ words n) × (sound t ≡ true)
 
 abbrev pub OwnFits : List ℕ → Type 0
 OwnFits own = mId own × (length own ≤ 64)
@@ -62,10 +59,10 @@ MessageFits m = (1 ≤ length m) × (length m ≤ 4096)
 pub data Refusal (n : ℕ) (m : List ℕ) (st : State) (own o : List ℕ) : ℕ → Type 0 where
   linesUnfit : ¬ LinesFit n → Refusal n m st own o 8
   bufferUnfit : LinesFit n → ¬ BufferFits o → Refusal n m st own o 3
-  tableUnfit : LinesFit n → BufferFits o → ¬ TableFits n (st .table) → Refusal n m st own o 2
-  ownUnfit : LinesFit n → BufferFits o → TableFits n (st .table) → ¬ OwnFits own → Refusal n m st own o 4
-  messageUnfit : LinesFit n → BufferFits o → TableFits n (st .table) → OwnFits own → ¬ MessageFits m → Refusal n m st own o 1
-  allFit : LinesFit n → BufferFits o → TableFits n (st .table) → OwnFits own → MessageFits m → Refusal n m st own o 0
+  stateUnfit : LinesFit n → BufferFits o → ¬ StateFits n st → Refusal n m st own o 2
+  ownUnfit : LinesFit n → BufferFits o → StateFits n st → ¬ OwnFits own → Refusal n m st own o 4
+  messageUnfit : LinesFit n → BufferFits o → StateFits n st → OwnFits own → ¬ MessageFits m → Refusal n m st own o 1
+  allFit : LinesFit n → BufferFits o → StateFits n st → OwnFits own → MessageFits m → Refusal n m st own o 0
 
 -- a call that is turned down: "Each gives length 0 and changes neither reply buffer nor table"
 pub record Untouched (st : State) (o : List ℕ) {n : ℕ} {m own : List ℕ} (c : Made n m st own o) : Type 0 where
@@ -73,18 +70,21 @@ pub record Untouched (st : State) (o : List ℕ) {n : ℕ} {m own : List ℕ} (c
   pub state : c .state ≡ st
   pub buffer : c .buffer ≡ o
 
--- a call that is taken: the reply lies within the buffer, "and bytes past its length stay"; the table is of the same size and sound again
+-- a call that is taken: the reply lies within the buffer, "and bytes past its length stay"; the table is of the same size and sound again,
+-- and so are the blocks
 pub record InRange (st : State) (o : List ℕ) {n : ℕ} {m own : List ℕ} (c : Made n m st own o) : Type 0 where
   pub within : sizeOf (c .answer) ≤ length o
   pub long : length (c .buffer) ≡ length o
   pub past : drop (sizeOf (c .answer)) (c .buffer) ≡ drop (sizeOf (c .answer)) o
   pub size : length (c .state .table) ≡ length (st .table)
   pub again : sound (c .state .table) ≡ true
+  pub blocks-size : length (c .state .blocks) ≡ length (st .blocks)
+  pub blocks-again : blocksAreSound (c .state .blocks) ≡ true
 
 pub record Answers {n : ℕ} {m : List ℕ} {st : State} {own o : List ℕ} (c : Made n m st own o) : Type 0 where
   -- "it answers as document 01 says"
   pub number : (k : ℕ) → refusalOf (c .answer) ≡ k ↔ Refusal n m st own o k
-  -- "A call it turns down writes no byte of the reply and no word of the table"
+  -- "A call it turns down writes no byte of the reply and no word of the table", nor of the blocks
   pub down : refusalOf (c .answer) ≢ 0 → Untouched st o c
   -- "it touches nothing out of range"
   pub taken : refusalOf (c .answer) ≡ 0 → InRange st o c
@@ -94,6 +94,26 @@ Demand-1 =
     -- "Feed it line noise, a message of one byte, a table somebody trampled, a reply buffer too short": any count and any four slices.
     -- "Callers check nothing beforehand": no condition. "it ends, it touches nothing out of range": that `answer` is proved at all
     (n : ℕ) (m : List ℕ) (st : State) (own o : List ℕ) (c : Made n m st own o) → Answers c
+
+-- ---- the same of a packet (document 02, CR 12)
+
+-- a call of `packet`, or of `cordafina_packet` from C, that was made with n lines, the state st, the number k of an ephemeral and the two times: the blocks
+-- that it left and what it answered, of which both contracts promise `Counted`. The table is lent to be read
+pub record MadePacket (n : ℕ) (st : State) (k arrival stamp : ℕ) : Type 0 where
+  pub blocks : List ℕ
+  pub answer : ℕ
+  pub promise : Counted (packet n st k arrival stamp) blocks answer
+
+pub record PacketAnswers {n : ℕ} {st : State} {k arrival stamp : ℕ} (c : MadePacket n st k arrival stamp) : Type 0 where
+  -- 8, 2 and 9, each exactly when; 0 where the packet is counted
+  pub number : (r : ℕ) → c .answer ≡ r ↔ PacketRefusal n st k r
+  -- "nothing changed"
+  pub down : c .answer ≢ 0 → c .blocks ≡ st .blocks
+  -- its block is updated, and no other changes
+  pub taken : c .answer ≡ 0 → Updates (st .blocks) (c .blocks) k arrival stamp
+
+abbrev pub Packets : Type 0
+Packets = (n : ℕ) (st : State) (k arrival stamp : ℕ) (c : MadePacket n st k arrival stamp) → PacketAnswers c
 
 -- ---- demand 2
 
@@ -176,13 +196,15 @@ pub record Sent (n : ℕ) (st : State) (own m k : List ℕ) (x y : Transaction) 
   pub size-one : MessageFits m
   pub size-two : MessageFits k
   pub lines : length (st .table) ≡ words n
+  pub blocks : blocksAreSound (st .blocks) ≡ true
   pub own-fits : OwnFits own
 
 -- "ends alike in both orders", of four calls: m and then k, with the answers a and b; k and then m, with c and d
 pub record Alike {n : ℕ} {m k : List ℕ} {st : State} {own o₁ o₂ o₃ o₄ : List ℕ} (a : Made n m st own o₁) (b : Made n k (a .state) own o₂) (c : Made n k st own o₃) (d : Made n m (c .state) own o₄) : Type 0 where
   -- none is turned down
   pub taken : (refusalOf (a .answer) ≡ 0) × (refusalOf (b .answer) ≡ 0) × (refusalOf (c .answer) ≡ 0) × (refusalOf (d .answer) ≡ 0)
-  -- "the same in every word of the table"
+  -- "the same in every word of the table", and in every word of the blocks, which are those of the start (document 02, CR 12)
+  pub blocks : b .state .blocks ≡ st .blocks
   pub state : b .state ≡ d .state
   -- "and each transaction's reply the same byte for byte": the answer with the reply's length, and the reply
   pub answer-one : a .answer ≡ d .answer

@@ -3,7 +3,7 @@ use Prim.Native.Nat.{ℕ, _+_, _*_}
 use mathlib.Core.Path.{_≡_}
 use mathlib.Core.List.{List}
 use Rattle.megaco.specs.State.{State}
-use Rattle.megaco.specs.Call.{Called}
+use Rattle.megaco.specs.Call.{Called, Received}
 use Rattle.gateway.specs.declared.CallOutcome.{CallOutcome}
 use Rattle.gateway.specs.declared.CallOutcome.the-variants.{Taken, ReplyTooShort, TableUnsound, MidUnfit, MessageUnfit, LinesUnfit}
 
@@ -41,3 +41,8 @@ pub record Packed (c : Called) (t′ : State) (o′ : List ℕ) (r : ℕ) : Type
   pub answer : r ≡ c .size + 4294967296 * c .refusal
   pub state : t′ ≡ c .state
   pub reply : o′ ≡ c .reply
+
+-- the answer to a packet and the blocks after it
+pub record Counted (c : Received) (b′ : List ℕ) (r : ℕ) : Type 0 where
+  pub refusal : r ≡ c .refusal
+  pub blocks : b′ ≡ c .blocks

@@ -1,11 +1,13 @@
-// The call: the lines fitted, one message, a lent table, the gateway's own mId and a lent reply buffer.
+// The call: the lines fitted, one message, a lent table, lent blocks, the gateway's own mId and a lent reply buffer; and a packet of an
+// ephemeral.
 ghost use mathlib.Core.Path.{_≡_};
 ghost use mathlib.Core.Bool.{true};
+ghost use Prim.Native.Nat.{_-_};
 ghost use Rattle.megaco.specs.Table.{words, mostLines};
 ghost use Rattle.megaco.specs.State.{state};
 ghost use Rattle.megaco.specs.Names.{within};
-ghost use Rattle.megaco.specs.Call.{call};
-ghost use Rattle.gateway.specs.Answers.{Answered};
+ghost use Rattle.megaco.specs.Call.{stateFits, call, packet};
+ghost use Rattle.gateway.specs.Answers.{Answered, Counted};
 
 // Document 01's limits: the longest message, the shortest reply buffer.
 pub const LONGEST_MESSAGE: usize = 4096;
@@ -22,19 +24,20 @@ pub enum CallOutcome {
     LinesUnfit,
 }
 
-// Reads the message, runs it on the table and writes the reply from the start of the buffer. A call that is turned down changes
-// neither.
+// Reads the message, runs it on the table and the blocks and writes the reply from the start of the buffer. A call that is turned down changes
+// none of them.
 pub fn answer(
     lines: u32,
     message: &[u8],
     table: &mut [u32],
+    blocks: &mut [u32],
     own: &[u8],
     reply: &mut [u8],
 ) -> CallOutcome
-    ensures { λ r. ⌜ Answered (call lines (now (message .entry)) (state (now (table .entry))) (now (own .entry)) (now (reply .entry))) (state (now (table .exit))) (now (reply .exit)) r ⌝ }
+    ensures { λ r. ⌜ Answered (call lines (now (message .entry)) (state (now (table .entry)) (now (blocks .entry))) (now (own .entry)) (now (reply .entry))) (state (now (table .exit)) (now (blocks .exit))) (now (reply .exit)) r ⌝ }
 {
     if are_fitted(lines) {
-        return answer_fitted(lines, message, table, own, reply);
+        return answer_fitted(lines, message, table, blocks, own, reply);
     }
     CallOutcome::LinesUnfit
 }
@@ -53,33 +56,91 @@ pub fn words_of(lines: u32) -> usize
     table::start_by_lines(lines, 6)
 }
 
+// Whether the table is of so many lines, and both it and the blocks are sound.
+fn state_fits(lines: u32, table: &[u32], blocks: &[u32]) -> bool
+    ensures { λ r. ⌜ r ≡ stateFits lines (state (now (table .entry)) (now (blocks .entry))) ⌝ }
+{
+    let n = words_of(lines);
+    if table.len() == n {
+        return sound::is_sound(table) & statistics::is_sound(blocks);
+    }
+    false
+}
+
 // A call with a good count of lines.
 fn answer_fitted(
     lines: u32,
     message: &[u8],
     table: &mut [u32],
+    blocks: &mut [u32],
     own: &[u8],
     reply: &mut [u8],
 ) -> CallOutcome
     requires { ⌜ within lines mostLines ≡ true ⌝ }
-    ensures { λ r. ⌜ Answered (call lines (now (message .entry)) (state (now (table .entry))) (now (own .entry)) (now (reply .entry))) (state (now (table .exit))) (now (reply .exit)) r ⌝ }
+    ensures { λ r. ⌜ Answered (call lines (now (message .entry)) (state (now (table .entry)) (now (blocks .entry))) (now (own .entry)) (now (reply .entry))) (state (now (table .exit)) (now (blocks .exit))) (now (reply .exit)) r ⌝ }
 {
     if reply.len() < REPLY_ROOM {
         return CallOutcome::ReplyTooShort;
     }
-    let n = words_of(lines);
-    if table.len() != n {
-        return CallOutcome::TableUnsound;
-    }
-    if sound::is_sound(table) {
+    if state_fits(lines, table, blocks) {
         if tokens::is_mid(own) {
             if (message.len() == 0) | (LONGEST_MESSAGE < message.len()) {
                 return CallOutcome::MessageUnfit;
             }
             let p = reply::put_header(reply, 0, own);
-            return CallOutcome::Taken(run_message::run_message(message, table, reply, p));
+            return CallOutcome::Taken(run_message::run_message(message, table, blocks, reply, p));
         }
         return CallOutcome::MidUnfit;
     }
     CallOutcome::TableUnsound
+}
+
+// ---- a packet
+
+// The number of a block, from 0 on.
+fn block_number(n: u32) -> usize
+    ensures { λ r. ⌜ r ≡ n - 1 ⌝ }
+{
+    if n == 0 { 0 } else { n as usize - 1 }
+}
+
+// A packet with a good count of lines.
+fn packet_fitted(
+    lines: u32,
+    table: &[u32],
+    blocks: &mut [u32],
+    n: u32,
+    arrival: u32,
+    stamp: u32,
+) -> u32
+    requires { ⌜ within lines mostLines ≡ true ⌝ }
+    ensures { λ r. ⌜ Counted (packet lines (state (now (table .entry)) (now (blocks .entry))) n arrival stamp) (now (blocks .exit)) r ⌝ }
+{
+    if state_fits(lines, table, blocks) {
+        if statistics::is_present(lines, n, table) {
+            statistics::count_packet(blocks, block_number(n), arrival, stamp);
+            return 0;
+        }
+        return 9;
+    }
+    2
+}
+
+// A packet of `R/n` that came at `arrival` with the RTP time `stamp`: its block is updated. The number of the refusal, 8, 2 or 9, or 0; a
+// packet that is turned down changes nothing.
+pub fn packet(
+    lines: u32,
+    table: &[u32],
+    blocks: &mut [u32],
+    n: u32,
+    arrival: u32,
+    stamp: u32,
+) -> u32
+    ensures { λ r. ⌜ Counted (packet lines (state (now (table .entry)) (now (blocks .entry))) n arrival stamp) (now (blocks .exit)) r ⌝ }
+{
+    let told = are_fitted(lines);
+    if told {
+        return packet_fitted(lines, table, blocks, n, arrival, stamp);
+    }
+    8
 }

@@ -22,8 +22,8 @@ pub letters-1-from-5-is : (w : List ℕ) → meaningLater 1 5 w
     ≡ pick (same (capitals w) (shortOf (formsOf (tokenAt 14)))) (some (tokenAt 14))
     (pick (same (capitals w) (shortOf (formsOf (tokenAt 22)))) (some (tokenAt 22))
     (pick (same (capitals w) (shortOf (formsOf (tokenAt 23)))) (some (tokenAt 23))
-    (pick (same (capitals w) (shortOf (formsOf (tokenAt 27)))) (some (tokenAt 27))
-    (pick (same (capitals w) (shortOf (formsOf (tokenAt 31)))) (some (tokenAt 31)) none))))
+    (pick (same (capitals w) (shortOf (formsOf (tokenAt 28)))) (some (tokenAt 28))
+    (pick (same (capitals w) (shortOf (formsOf (tokenAt 32)))) (some (tokenAt 32)) none))))
 unfolding pick meaningLater sized later spellingsOf formsOf firstOf longOf shortOf tokenAt
 letters-1-from-5-is w = refl
 
@@ -59,13 +59,14 @@ pub letters-2-from-15-is : (w : List ℕ) → meaningLater 2 15 w
     (pick (same (capitals w) (shortOf (formsOf (tokenAt 24)))) (some (tokenAt 24))
     (pick (same (capitals w) (shortOf (formsOf (tokenAt 25)))) (some (tokenAt 25))
     (pick (same (capitals w) (shortOf (formsOf (tokenAt 26)))) (some (tokenAt 26))
-    (pick (same (capitals w) (shortOf (formsOf (tokenAt 28)))) (some (tokenAt 28)) (meaningLater 2 20 w)))))
+    (pick (same (capitals w) (shortOf (formsOf (tokenAt 27)))) (some (tokenAt 27)) (meaningLater 2 20 w)))))
 unfolding pick meaningLater sized later spellingsOf formsOf firstOf longOf shortOf tokenAt
 letters-2-from-15-is w = refl
 
 pub letters-2-from-20-is : (w : List ℕ) → meaningLater 2 20 w
     ≡ pick (same (capitals w) (shortOf (formsOf (tokenAt 29)))) (some (tokenAt 29))
-    (pick (same (capitals w) (shortOf (formsOf (tokenAt 30)))) (some (tokenAt 30)) none)
+    (pick (same (capitals w) (shortOf (formsOf (tokenAt 30)))) (some (tokenAt 30))
+    (pick (same (capitals w) (shortOf (formsOf (tokenAt 31)))) (some (tokenAt 31)) none))
 unfolding pick meaningLater sized later spellingsOf formsOf firstOf longOf shortOf tokenAt
 letters-2-from-20-is w = refl
 
@@ -77,7 +78,7 @@ letters-3-is w = refl
 pub letters-4-is : (w : List ℕ) → meaningLater 4 0 w
     ≡ pick (same (capitals w) (longOf (formsOf (tokenAt 15)))) (some (tokenAt 15))
     (pick (same (capitals w) (longOf (formsOf (tokenAt 17)))) (some (tokenAt 17))
-    (pick (same (capitals w) (longOf (formsOf (tokenAt 29)))) (some (tokenAt 29)) none))
+    (pick (same (capitals w) (longOf (formsOf (tokenAt 30)))) (some (tokenAt 30)) none))
 unfolding pick meaningLater sized later spellingsOf formsOf firstOf longOf shortOf tokenAt
 letters-4-is w = refl
 
@@ -110,12 +111,12 @@ pub letters-8-is : (w : List ℕ) → meaningLater 8 0 w
     (pick (same (capitals w) (longOf (formsOf (tokenAt 12)))) (some (tokenAt 12))
     (pick (same (capitals w) (longOf (formsOf (tokenAt 20)))) (some (tokenAt 20))
     (pick (same (capitals w) (longOf (formsOf (tokenAt 24)))) (some (tokenAt 24))
-    (pick (same (capitals w) (longOf (formsOf (tokenAt 27)))) (some (tokenAt 27)) (meaningLater 8 5 w)))))
+    (pick (same (capitals w) (longOf (formsOf (tokenAt 28)))) (some (tokenAt 28)) (meaningLater 8 5 w)))))
 unfolding pick meaningLater sized later spellingsOf formsOf firstOf longOf shortOf tokenAt
 letters-8-is w = refl
 
 pub letters-8-from-5-is : (w : List ℕ) → meaningLater 8 5 w
-    ≡ pick (same (capitals w) (longOf (formsOf (tokenAt 30)))) (some (tokenAt 30)) none
+    ≡ pick (same (capitals w) (longOf (formsOf (tokenAt 31)))) (some (tokenAt 31)) none
 unfolding pick meaningLater sized later spellingsOf formsOf firstOf longOf shortOf tokenAt
 letters-8-from-5-is w = refl
 
@@ -126,14 +127,15 @@ unfolding pick meaningLater sized later spellingsOf formsOf firstOf longOf short
 letters-9-is w = refl
 
 pub letters-10-is : (w : List ℕ) → meaningLater 10 0 w
-    ≡ pick (same (capitals w) (longOf (formsOf (tokenAt 2)))) (some (tokenAt 2)) none
+    ≡ pick (same (capitals w) (longOf (formsOf (tokenAt 2)))) (some (tokenAt 2))
+    (pick (same (capitals w) (longOf (formsOf (tokenAt 27)))) (some (tokenAt 27)) none)
 unfolding pick meaningLater sized later spellingsOf formsOf firstOf longOf shortOf tokenAt
 letters-10-is w = refl
 
 pub letters-11-is : (w : List ℕ) → meaningLater 11 0 w
     ≡ pick (same (capitals w) (longOf (formsOf (tokenAt 21)))) (some (tokenAt 21))
     (pick (same (capitals w) (longOf (formsOf (tokenAt 25)))) (some (tokenAt 25))
-    (pick (same (capitals w) (longOf (formsOf (tokenAt 31)))) (some (tokenAt 31)) none))
+    (pick (same (capitals w) (longOf (formsOf (tokenAt 32)))) (some (tokenAt 32)) none))
 unfolding pick meaningLater sized later spellingsOf formsOf firstOf longOf shortOf tokenAt
 letters-11-is w = refl
 
@@ -149,6 +151,6 @@ unfolding pick meaningLater sized later spellingsOf formsOf firstOf longOf short
 letters-13-is w = refl
 
 pub letters-16-is : (w : List ℕ) → meaningLater 16 0 w
-    ≡ pick (same (capitals w) (longOf (formsOf (tokenAt 28)))) (some (tokenAt 28)) none
+    ≡ pick (same (capitals w) (longOf (formsOf (tokenAt 29)))) (some (tokenAt 29)) none
 unfolding pick meaningLater sized later spellingsOf formsOf firstOf longOf shortOf tokenAt
 letters-16-is w = refl

@@ -22,8 +22,8 @@ pub enum Meaning {
     Nothing,
 }
 
-// Annex B.2's tokens in its order. Error and Reply are written only: no reader asks for them.
-pub const KEYWORDS: [Row; 32] = [
+// Annex B.2's tokens in its order. Error, Reply and Statistics are written only: no reader asks for them.
+pub const KEYWORDS: [Row; 33] = [
     Row(Token::AddToken, *b"ADD                     ", *b"A "),
     Row(Token::AuditToken, *b"AUDIT                   ", *b"AT"),
     Row(Token::AuditValueToken, *b"AUDITVALUE              ", *b"AV"),
@@ -51,6 +51,7 @@ pub const KEYWORDS: [Row; 32] = [
     Row(Token::SendonlyToken, *b"SENDONLY                ", *b"SO"),
     Row(Token::SendrecvToken, *b"SENDRECEIVE             ", *b"SR"),
     Row(Token::ServiceStatesToken, *b"SERVICESTATES           ", *b"SI"),
+    Row(Token::StatsToken, *b"STATISTICS              ", *b"SA"),
     Row(Token::SubtractToken, *b"SUBTRACT                ", *b"S "),
     Row(Token::TerminationStateToken, *b"TERMINATIONSTATE        ", *b"TS"),
     Row(Token::TestToken, *b"TEST                    ", *b"TE"),

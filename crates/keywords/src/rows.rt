@@ -14,7 +14,7 @@ use megaco::Token;
 // ---- rows
 
 // The table, laid down by itself: where its rows are also told apart the check is far dearer.
-fn table() -> [Row; 32]
+fn table() -> [Row; 33]
     ensures { λ r. ⌜ r ≡ rowsOf page ⌝ }
 {
     KEYWORDS
@@ -58,7 +58,8 @@ fn row_at(i: usize) -> Row
         28 => t[28],
         29 => t[29],
         30 => t[30],
-        _ => t[31],
+        31 => t[31],
+        _ => t[32],
     }
 }
 
@@ -119,11 +120,12 @@ pub fn spells(k: Token, w: &[u8]) -> bool
         Token::SendonlyToken => is_either(w, 24, 8, 2),
         Token::SendrecvToken => is_either(w, 25, 11, 2),
         Token::ServiceStatesToken => is_either(w, 26, 13, 2),
-        Token::SubtractToken => is_either(w, 27, 8, 1),
-        Token::TerminationStateToken => is_either(w, 28, 16, 2),
-        Token::TestToken => is_either(w, 29, 4, 2),
-        Token::TopologyToken => is_either(w, 30, 8, 2),
-        Token::TransToken => is_either(w, 31, 11, 1),
+        Token::StatsToken => is_either(w, 27, 10, 2),
+        Token::SubtractToken => is_either(w, 28, 8, 1),
+        Token::TerminationStateToken => is_either(w, 29, 16, 2),
+        Token::TestToken => is_either(w, 30, 4, 2),
+        Token::TopologyToken => is_either(w, 31, 8, 2),
+        Token::TransToken => is_either(w, 32, 11, 1),
     }
 }
 
@@ -141,8 +143,8 @@ fn of(i: usize) -> Meaning
 fn letters_16(w: &[u8]) -> Meaning
     ensures { λ r. ⌜ tokenOf r ≡ meaningLater 16 0 (now (w .entry)) ⌝ }
 {
-    if is_long(w, 28, 16) {
-        return of(28);
+    if is_long(w, 29, 16) {
+        return of(29);
     }
     Meaning::Nothing
 }
@@ -177,8 +179,8 @@ fn letters_11(w: &[u8]) -> Meaning
     if is_long(w, 25, 11) {
         return of(25);
     }
-    if is_long(w, 31, 11) {
-        return of(31);
+    if is_long(w, 32, 11) {
+        return of(32);
     }
     Meaning::Nothing
 }
@@ -188,6 +190,9 @@ fn letters_10(w: &[u8]) -> Meaning
 {
     if is_long(w, 2, 10) {
         return of(2);
+    }
+    if is_long(w, 27, 10) {
+        return of(27);
     }
     Meaning::Nothing
 }
@@ -207,8 +212,8 @@ fn letters_9(w: &[u8]) -> Meaning
 fn letters_8_from_5(w: &[u8]) -> Meaning
     ensures { λ r. ⌜ tokenOf r ≡ meaningLater 8 5 (now (w .entry)) ⌝ }
 {
-    if is_long(w, 30, 8) {
-        return of(30);
+    if is_long(w, 31, 8) {
+        return of(31);
     }
     Meaning::Nothing
 }
@@ -228,8 +233,8 @@ fn letters_8(w: &[u8]) -> Meaning
     if is_long(w, 24, 8) {
         return of(24);
     }
-    if is_long(w, 27, 8) {
-        return of(27);
+    if is_long(w, 28, 8) {
+        return of(28);
     }
     letters_8_from_5(w)
 }
@@ -297,8 +302,8 @@ fn letters_4(w: &[u8]) -> Meaning
     if is_long(w, 17, 4) {
         return of(17);
     }
-    if is_long(w, 29, 4) {
-        return of(29);
+    if is_long(w, 30, 4) {
+        return of(30);
     }
     Meaning::Nothing
 }
@@ -321,6 +326,9 @@ fn letters_2_from_20(w: &[u8]) -> Meaning
     if is_short(w, 30, 2) {
         return of(30);
     }
+    if is_short(w, 31, 2) {
+        return of(31);
+    }
     Meaning::Nothing
 }
 
@@ -339,8 +347,8 @@ fn letters_2_from_15(w: &[u8]) -> Meaning
     if is_short(w, 26, 2) {
         return of(26);
     }
-    if is_short(w, 28, 2) {
-        return of(28);
+    if is_short(w, 27, 2) {
+        return of(27);
     }
     letters_2_from_20(w)
 }
@@ -420,11 +428,11 @@ fn letters_1_from_5(w: &[u8]) -> Meaning
     if is_short(w, 23, 1) {
         return of(23);
     }
-    if is_short(w, 27, 1) {
-        return of(27);
+    if is_short(w, 28, 1) {
+        return of(28);
     }
-    if is_short(w, 31, 1) {
-        return of(31);
+    if is_short(w, 32, 1) {
+        return of(32);
     }
     Meaning::Nothing
 }

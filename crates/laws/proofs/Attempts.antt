@@ -13,7 +13,9 @@ use Rattle.megaco.specs.Table.{lineTerminations, terminations, contexts, fitted
 use Rattle.megaco.specs.Square.{Square, joined as joinedSquare, parted}
 use Rattle.megaco.proofs.Squares.{shape-joined, shape-parted}
 use Rattle.megaco.specs.Items.{update}
-use Rattle.megaco.specs.State.{State, wrote}
+use Rattle.megaco.specs.Blocks.{blockAt}
+use Rattle.megaco.specs.State.{State, wrote, renewed}
+use Rattle.megaco.specs.declared.Block.{Block}
 use Rattle.megaco.specs.Attempt.{unseen, seenIn, seen, flowsOf, flowing, numberOf, freeAt, look, isChoose, target, roomChecks, checks, joining, leaving, placed, marking, added, subtracted, speaks, onLine, speaking, spoken, forgetting, changes, settled, Effect, concluded, effect}
 use Rattle.megaco.specs.Command.{inPlace, attempts}
 use Rattle.base.proofs.TestLaws.{clash, and-both, both-and, pick-of}
@@ -642,12 +644,12 @@ attempt-sound AuditValue at given i vs t W j M G F p = record { whole = W; ready
 
 -- ---- the attempts of a command
 
-pub effect-sound : (op : Op) (wild : Bool) (name : List ℕ) (given : ℕ) (vs : Values) (i : ℕ) (at : Context) (t : List ℕ)
+pub effect-sound : (op : Op) (wild : Bool) (name : List ℕ) (given : ℕ) (vs : Values) (i : ℕ) (at : Context) (t : List ℕ) (b : Block)
     → Whole t → MayAttempt op at t → Meant op t i → Present given → InRange vs
-    → Leaves op (effect op wild name given vs i at (look at i t) .at) t (apply (effect op wild name given vs i at (look at i t) .writes) t)
+    → Leaves op (effect op wild name given vs i at (look at i t) b .at) t (apply (effect op wild name given vs i at (look at i t) b .writes) t)
 unfolding effect concluded apply
-effect-sound op wild name given vs i at t W r m G F =
-    judged (λ (x : Checked). Leaves op (concluded op wild name given vs i at (look at i t) x .at) t (apply (concluded op wild name given vs i at (look at i t) x .writes) t))
+effect-sound op wild name given vs i at t b W r m G F =
+    judged (λ (x : Checked). Leaves op (concluded op wild name given vs i at (look at i t) b x .at) t (apply (concluded op wild name given vs i at (look at i t) b x .writes) t))
     (checks op at i vs (look at i t)) (λ code. record { whole = W; ready = r; meant = λ j k. k })
     (λ p. attempt-sound op at given i vs t W r m G F p)
 
@@ -656,6 +658,7 @@ pub attempts-sound : (op : Op) (wild : Bool) (name : List ℕ) (given : ℕ) (vs
 unfolding attempts
 attempts-sound op wild name given vs [] at st W r m G F = W
 attempts-sound op wild name given vs (i ∷ is) at st W r (more m ms) G F =
-    let e : Effect = effect op wild name given vs i at (look at i (st .table)) in
-    let l = effect-sound op wild name given vs i at (st .table) W r m G F in
-    attempts-sound op wild name given vs is (e .at) (wrote (e .writes) st) (l .whole) (l .ready) (each-on (Meant op (st .table)) (Meant op (apply (e .writes) (st .table))) is (l .meant) ms) G F
+    let x : Block = blockAt (i - lineTerminations (fitted (st .table))) (st .blocks) in
+    let e : Effect = effect op wild name given vs i at (look at i (st .table)) x in
+    let l = effect-sound op wild name given vs i at (st .table) x W r m G F in
+    attempts-sound op wild name given vs is (e .at) (renewed (e .blocks) (wrote (e .writes) st)) (l .whole) (l .ready) (each-on (Meant op (st .table)) (Meant op (apply (e .writes) (st .table))) is (l .meant) ms) G F

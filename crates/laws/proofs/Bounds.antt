@@ -2,7 +2,7 @@
 use Prim.Native.Nat.{ℕ, zero, suc, _+_, _*_, _-_, _≤_, _<_}
 use mathlib.Core.Path.{_≡_, refl}
 use mathlib.Core.Logic.{_≢_}
-use mathlib.Core.Bool.{true, and-eq-true-iff}
+use mathlib.Core.Bool.{true, _&&_, and-eq-true-iff}
 use mathlib.Core.List.{List, [], _∷_}
 use lib.ListN.{length, drop}
 use lib.Dec.{ltb, leb, eqb}
@@ -20,8 +20,9 @@ use Rattle.megaco.specs.Reply.{Acted, errorText, replyText, limited, transactio
 use Rattle.megaco.specs.State.{State}
 use Rattle.megaco.specs.Transaction.{course, fresh, run, steps, runTransaction, runTransactions, runMessage}
 use Rattle.megaco.specs.Table.{mostLines, words, sound}
+use Rattle.megaco.specs.Blocks.{blocksAreSound}
 use Rattle.megaco.specs.Names.{within}
-use Rattle.megaco.specs.Call.{Called, turnedDown, written, replied, taken, call}
+use Rattle.megaco.specs.Call.{Called, turnedDown, stateFits, written, replied, taken, call}
 use Rattle.laws.specs.Bounds.{largest, Few, few-none, few-more, FewIn, replyTo, Kept, Bounded, Taken}
 
 -- ---- what is read: at most 8 transactions, each with an identifier of 32 bits
@@ -143,8 +144,8 @@ own-fits own e = leb-true _ _ (and-eq-true-iff (leb (length own) 64) _ .0 e .0)
 
 -- what holds of each way to turn a call down, and of a call that is taken, holds of every call
 pub call-ind : (P : Called → Type 0) (n : ℕ) (m : List ℕ) (st : State) (own o : List ℕ) → ((k : ℕ) → 0 < k → P (turnedDown k st o))
-    → (within n mostLines ≡ true → 16640 ≤ length o → length (st .table) ≡ words n → sound (st .table) ≡ true → isMid own ≡ true → 0 < length m → length m ≤ 4096 → P (taken m st own o)) → P (call n m st own o)
-unfolding call
+    → (within n mostLines ≡ true → 16640 ≤ length o → length (st .table) ≡ words n → sound (st .table) ≡ true → blocksAreSound (st .blocks) ≡ true → isMid own ≡ true → 0 < length m → length m ≤ 4096 → P (taken m st own o)) → P (call n m st own o)
+unfolding call stateFits
 call-ind P n m st own o down up =
     pick-ind P _ _ _ (λ e. down 8 (omega arith)) λ w.
     pick-ind P _ _ _ (λ e. down 3 (omega arith)) λ a.
@@ -152,22 +153,23 @@ call-ind P n m st own o down up =
     pick-ind P _ _ _ (λ e. down 4 (omega arith)) λ c.
     pick-ind P _ _ _ (λ e. down 1 (omega arith)) λ d.
     let z = or-neither (eqb (length m) 0) (ltb 4096 (length m)) d in
-    let y = and-eq-true-iff (eqb (length (st .table)) (words n)) (sound (st .table)) .0 (not-false _ b) in
-    up (not-false _ w) (ltb-false _ _ a) (eqb-true (length (st .table)) (words n) (y .0)) (y .1) (not-false _ c) (omega (arith, eqb-false (length m) 0 (z .0))) (ltb-false _ _ (z .1))
+    let x = and-eq-true-iff (eqb (length (st .table)) (words n) && sound (st .table)) (blocksAreSound (st .blocks)) .0 (not-false _ b) in
+    let y = and-eq-true-iff (eqb (length (st .table)) (words n)) (sound (st .table)) .0 (x .0) in
+    up (not-false _ w) (ltb-false _ _ a) (eqb-true (length (st .table)) (words n) (y .0)) (y .1) (x .1) (not-false _ c) (omega (arith, eqb-false (length m) 0 (z .0))) (ltb-false _ _ (z .1))
 
 pub refusal-keeps : (n : ℕ) (m : List ℕ) (st : State) (own o : List ℕ) → call n m st own o .refusal ≢ 0 → Kept st o (call n m st own o)
 unfolding taken replied written
 refusal-keeps n m st own o =
     call-ind (λ x. x .refusal ≢ 0 → Kept st o x) n m st own o
     (λ k p h. record { size = refl; state = refl; reply = refl })
-    (λ w a l b c d e h. absurd (h refl))
+    (λ w a l b f c d e h. absurd (h refl))
 
 pub call-bounded : (n : ℕ) (m : List ℕ) (st : State) (own o : List ℕ) → Bounded o (call n m st own o)
 unfolding taken replied written
 call-bounded n m st own o =
     call-ind (Bounded o) n m st own o
     (λ k p. record { long = refl; past = refl; fits = omega arith })
-    (λ w a l b c d e.
+    (λ w a l b f c d e.
     record {
       long = length-put o 0 (replyTo m st own);
       past = drop-put o 0 (replyTo m st own) (length (replyTo m st own)) (omega arith);
@@ -179,7 +181,7 @@ unfolding taken replied written
 call-taken n m st own o =
     call-ind (λ x. x .refusal ≡ 0 → Taken m st own x) n m st own o
     (λ k p h. absurd (omega arith))
-    (λ w a l b c d e h.
+    (λ w a l b f c d e h.
     let r : length (replyTo m st own) ≤ length o = omega (arith, reply-fits m st own (own-fits own c)) in
     record {
       state = refl;
@@ -199,4 +201,4 @@ fault-runs-nothing fault406 st h = refl
 pub fault-keeps : (n : ℕ) (m : List ℕ) (st : State) (own o : List ℕ) → ((xs : List Transaction) → messageR m ≢ wellFormed xs) → call n m st own o .state ≡ st
 unfolding taken replied written
 fault-keeps n m st own o h =
-    call-ind (λ x. x .state ≡ st) n m st own o (λ k p. refl) (λ w a l b c d e. fault-runs-nothing (messageR m) st h)
+    call-ind (λ x. x .state ≡ st) n m st own o (λ k p. refl) (λ w a l b f c d e. fault-runs-nothing (messageR m) st h)

@@ -10,7 +10,7 @@ use Rattle.megaco.specs.Transaction.{runTransaction}
 use Rattle.laws.specs.Apart.{Apart}
 use Rattle.laws.specs.Mix.{Both, Mixture, mixed, stepsOf, bothFresh}
 use Rattle.laws.specs.Demand.{EitherOrder, AsOneAfterOther}
-use Rattle.laws.proofs.Reaching.{orders-alike, mixture-alike}
+use Rattle.laws.proofs.Reaching.{orders-alike, both-leave-blocks, mixture-alike}
 
 pub either-order : (st : State) → sound (st .table) ≡ true → (x y : Transaction) → Apart (st .table) x y → EitherOrder st x y
 unfolding runTransaction
@@ -18,6 +18,7 @@ either-order st e (transaction j xs) (transaction k ys) A =
     let p = orders-alike st e (transaction j xs) (transaction k ys) A in
     record {
       state = sym (ap (λ (b : Both). b .state) p);
+      blocks = both-leave-blocks st e (transaction j xs) (transaction k ys) A;
       reply-one = sym (ap (λ (b : Both). transactionText j (b .one .acts)) p);
       reply-two = sym (ap (λ (b : Both). transactionText k (b .two .acts)) p);
     }

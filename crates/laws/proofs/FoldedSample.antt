@@ -4,9 +4,8 @@ use mathlib.Core.Bool.{true, false}
 use Rattle.base.specs.Lists.{same}
 use Rattle.base.specs.Bytes.{text}
 use Rattle.megaco.specs.Table.{sound}
-use Rattle.megaco.specs.State.{state}
 use Rattle.megaco.specs.Transaction.{runTransaction}
-use Rattle.laws.specs.Witness.{read}
+use Rattle.laws.specs.Witness.{read, lent}
 use Rattle.laws.specs.Folding.{alike, onOnePair, anyOn, folded, untied, merged}
 use Rattle.laws.specs.FoldedSample.{propertiesOf, three, cut, after, Alike, Differ, several, one, refused, refused-once}
 use Rattle.laws.proofs.Witness.{tests}
@@ -74,14 +73,14 @@ unfolding tests propertiesOf merged untied folded anyOn onOnePair alike
 merges = refl
 
 -- both leave the same table and reply, and the flows are other than before
-pub ends-alike : (same (runTransaction (read several) (state three) .state .table) (runTransaction (read one) (state three) .state .table) ≡ true)
-    × (runTransaction (read several) (state three) .text ≡ text "P=1{C=1{PR=3}}") × (runTransaction (read one) (state three) .text ≡ text "P=1{C=1{PR=3}}")
-    × (same (runTransaction (read one) (state three) .state .table) three ≡ false)
+pub ends-alike : (same (runTransaction (read several) (lent three) .state .table) (runTransaction (read one) (lent three) .state .table) ≡ true)
+    × (runTransaction (read several) (lent three) .text ≡ text "P=1{C=1{PR=3}}") × (runTransaction (read one) (lent three) .text ≡ text "P=1{C=1{PR=3}}")
+    × (same (runTransaction (read one) (lent three) .state .table) three ≡ false)
 unfolding tests
 ends-alike = (refl, refl, refl, refl)
 
 pub refused-apart : (merged (propertiesOf (read refused)) ≡ propertiesOf (read refused-once))
-    × (runTransaction (read refused) (state three) .text ≡ text "P=1{C=1{ER=435{}}}") × (runTransaction (read refused-once) (state three) .text ≡ text "P=1{C=1{ER=430{}}}")
+    × (runTransaction (read refused) (lent three) .text ≡ text "P=1{C=1{ER=435{}}}") × (runTransaction (read refused-once) (lent three) .text ≡ text "P=1{C=1{ER=430{}}}")
 unfolding tests propertiesOf merged untied folded anyOn onOnePair alike
 refused-apart = (refl, refl, refl)
 

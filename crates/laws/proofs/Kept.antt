@@ -77,16 +77,16 @@ sound-by : (st u : State) → (WholeIn st → WholeIn u) → sound (st .table) �
 sound-by st u f s = whole-sound (u .table) (f (sound-whole (st .table) s))
 
 pub command-sound : (c : Command) (given : ℕ) (at : Context) (st : State) → Present given → sound (st .table) ≡ true → sound (runCommand c given at st .state .table) ≡ true
-command-sound c given at st G = sound-by st _ (λ W. command-keeps WholeIn Present whole-kept c given at st W G)
+command-sound c given at st G = sound-by st (runCommand c given at st .state) (λ W. command-keeps WholeIn Present whole-kept c given at st W G)
 
 pub transaction-sound : (x : Transaction) (st : State) → sound (st .table) ≡ true → sound (runTransaction x st .state .table) ≡ true
-transaction-sound x st = sound-by st _ (transaction-keeps WholeIn Present whole-kept x st)
+transaction-sound x st = sound-by st (runTransaction x st .state) (transaction-keeps WholeIn Present whole-kept x st)
 
 pub transactions-sound : (xs : List Transaction) (st : State) → sound (st .table) ≡ true → sound (runTransactions xs st .state .table) ≡ true
-transactions-sound xs st = sound-by st _ (transactions-keep WholeIn Present whole-kept xs st)
+transactions-sound xs st = sound-by st (runTransactions xs st .state) (transactions-keep WholeIn Present whole-kept xs st)
 
 pub message-sound : (m : Message) (st : State) → sound (st .table) ≡ true → sound (runMessage m st .state .table) ≡ true
-message-sound m st = sound-by st _ (message-keeps WholeIn Present whole-kept m st)
+message-sound m st = sound-by st (runMessage m st .state) (message-keeps WholeIn Present whole-kept m st)
 
 pub call-sound : (n : ℕ) (m : List ℕ) (st : State) (own o : List ℕ) → sound (st .table) ≡ true → sound (call n m st own o .state .table) ≡ true
-call-sound n m st own o = sound-by st _ (call-keeps WholeIn Present whole-kept n m st own o)
+call-sound n m st own o = sound-by st (call n m st own o .state) (call-keeps WholeIn Present whole-kept n m st own o)

@@ -37,4 +37,7 @@ pub mod Folding
 pub mod Shortest
 pub mod FoldedStart
 pub mod FoldedSample
+pub mod Figures
+pub mod Packets
+pub mod PacketSample
 pub mod Theorems

@@ -29,7 +29,7 @@ pub data Low (n : ℕ) : Name → Type 0 where
   unmatched : Low n Unmatched
   unknown : Low n Unknown
 
-within-both : (x m : ℕ) → within x m ≡ true → (0 < x) × (x ≤ m)
+pub within-both : (x m : ℕ) → within x m ≡ true → (0 < x) × (x ≤ m)
 unfolding within
 within-both x m e = let b = and-both (ltb 0 x) (leb x m) e in (ltb-true 0 x (b .0), leb-true x m (b .1))
 

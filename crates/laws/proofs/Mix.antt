@@ -8,7 +8,7 @@ use Rattle.megaco.specs.Transaction.{Step, Progress, Course, course, step, run}
 use Rattle.megaco.proofs.Sizes.{fitted-is}
 use Rattle.laws.specs.Mix.{Both, with-one, with-two, step-one, step-two, Mixture, over, first, second, mixed}
 use Rattle.laws.proofs.Frame.{Closed, Agree, agree-refl, closed-agree, closed-apply, Disjoint, disjoint-sym, apply-agree, apply-comm}
-use Rattle.laws.proofs.Steps.{enact, Named, Seats, Acts, acts}
+use Rattle.laws.proofs.Steps.{enact, Named, Seats, AgreeIn, Acts, acts}
 
 -- all steps of the first, of the second
 abbrev pub run-one : List Step → Both → Both
@@ -27,7 +27,7 @@ module _ (lines : ℕ) (N K M L : ℕ → Type 0) (D : Disjoint lines M L N K) (
   act = acts lines N K (D .two) st c s p m h
 
   is : step s (course st p) ≡ enact (act .change) st
-  is = act .on st (agree-refl lines N K (st .table))
+  is = act .on st (record { table = agree-refl lines N K (st .table); blocks = refl })
 
   -- its own footprint stays closed
   own-closed : Closed lines N K (step s (course st p) .state .table)
@@ -35,6 +35,10 @@ module _ (lines : ℕ) (N K M L : ℕ → Type 0) (D : Disjoint lines M L N K) (
 
   own-seats : Seats lines N K (step s (course st p) .progress .acts)
   own-seats = subst (λ (x : Course). Seats lines N K (x .progress .acts)) (sym is) (act .seats)
+
+  -- and no block is changed
+  own-blocks : step s (course st p) .state .blocks ≡ st .blocks
+  own-blocks = ap (λ (x : Course). x .state .blocks) is
 
   -- the other one sees no change
   other-agrees : Agree lines M L (st .table) (apply (act .change .writes) (st .table))
@@ -72,6 +76,25 @@ module _ (lines : ℕ) (N K M L : ℕ → Type 0) (D : Disjoint lines N K M L) w
         two-seats = own-seats lines M L N K D s (b .state) (b .two) (r .two-closed) m (r .two-seats);
       }
 
+  -- all steps of the first, all of the second, leave the blocks
+  ready-first : (ss : List Step) (b : Both) → EachStep (Named lines N K) ss → Ready lines N K M L b → Ready lines N K M L (run-one ss b)
+  unfolding run
+  ready-first [] b m h = h
+  ready-first (s ∷ ss) b m h = ready-first ss (step-one s b) (m .1) (ready-one s b (m .0) h)
+
+  first-blocks : (ss : List Step) (b : Both) → EachStep (Named lines N K) ss → Ready lines N K M L b → run-one ss b .state .blocks ≡ b .state .blocks
+  unfolding run
+  first-blocks [] b m h = refl
+  first-blocks (s ∷ ss) b m h = first-blocks ss (step-one s b) (m .1) (ready-one s b (m .0) h) ∙ own-blocks lines N K M L E s (b .state) (b .one) (h .one-closed) (m .0) (h .one-seats)
+
+  second-blocks : (rs : List Step) (b : Both) → EachStep (Named lines M L) rs → Ready lines N K M L b → run-two rs b .state .blocks ≡ b .state .blocks
+  unfolding run
+  second-blocks [] b m h = refl
+  second-blocks (r ∷ rs) b m h = second-blocks rs (step-two r b) (m .1) (ready-two r b (m .0) h) ∙ own-blocks lines M L N K D r (b .state) (b .two) (h .two-closed) (m .0) (h .two-seats)
+
+  pub blocks-stay : (ss rs : List Step) (b : Both) → EachStep (Named lines N K) ss → EachStep (Named lines M L) rs → Ready lines N K M L b → run-two rs (run-one ss b) .state .blocks ≡ b .state .blocks
+  blocks-stay ss rs b m o h = second-blocks rs (run-one ss b) o (ready-first ss b m h) ∙ first-blocks ss b m h
+
   -- two steps, one of each, may change places
   diamond : (s r : Step) (b : Both) → Named lines N K s → Named lines M L r → Ready lines N K M L b → step-one s (step-two r b) ≡ step-two r (step-one s b)
   diamond s r b m o h =
@@ -81,12 +104,12 @@ module _ (lines : ℕ) (N K M L : ℕ → Type 0) (D : Disjoint lines N K M L) w
       let q = act lines M L N K D r st (b .two) (h .two-closed) o (h .two-seats) in
       let vs = p .change .writes in
       let ws = q .change .writes in
-      let p₀ : step s (course st (b .one)) ≡ enact (p .change) st = p .on st (agree-refl lines N K t) in
-      let q₀ : step r (course st (b .two)) ≡ enact (q .change) st = q .on st (agree-refl lines M L t) in
-      let p₁ : step s (course (wrote ws st) (b .one)) ≡ enact (p .change) (wrote ws st) = p .on (wrote ws st) (apply-agree lines N K M L D ws t (q .all) (h .two-closed)) in
-      let q₁ : step r (course (wrote vs st) (b .two)) ≡ enact (q .change) (wrote vs st) = q .on (wrote vs st) (apply-agree lines M L N K E vs t (p .all) (h .one-closed)) in
+      let p₀ : step s (course st (b .one)) ≡ enact (p .change) st = p .on st (record { table = agree-refl lines N K t; blocks = refl }) in
+      let q₀ : step r (course st (b .two)) ≡ enact (q .change) st = q .on st (record { table = agree-refl lines M L t; blocks = refl }) in
+      let p₁ : step s (course (wrote ws st) (b .one)) ≡ enact (p .change) (wrote ws st) = p .on (wrote ws st) (record { table = apply-agree lines N K M L D ws t (q .all) (h .two-closed); blocks = refl }) in
+      let q₁ : step r (course (wrote vs st) (b .two)) ≡ enact (q .change) (wrote vs st) = q .on (wrote vs st) (record { table = apply-agree lines M L N K E vs t (p .all) (h .one-closed); blocks = refl }) in
       let c : apply vs (apply ws t) ≡ apply ws (apply vs t) = apply-comm lines N K M L D vs ws t (fitted-is lines t (h .one-closed .long)) (p .all) (q .all) in
-      rw (q₀, p₀) (rw (p₁, q₁) (ap (λ (x : List ℕ). record { state = state x; one = p .change .next; two = q .change .next }) c))
+      rw (q₀, p₀) (rw (p₁, q₁) (ap (λ (x : List ℕ). record { state = state x (st .blocks); one = p .change .next; two = q .change .next }) c))
 
   past : (ss : List Step) (r : Step) (b : Both) → EachStep (Named lines N K) ss → Named lines M L r → Ready lines N K M L b → run-one ss (step-two r b) ≡ step-two r (run-one ss b)
   unfolding run

@@ -9,7 +9,6 @@ use Rattle.base.specs.Lists.{has, same}
 use Rattle.megaco.specs.Bytes.{star, dollar}
 use Rattle.megaco.specs.Tree.{Transaction}
 use Rattle.megaco.specs.Table.{fitted, sound}
-use Rattle.megaco.specs.State.{state}
 use Rattle.megaco.specs.Transaction.{runTransaction}
 use Rattle.protocol.specs.Types.{Numbered}
 use Rattle.base.proofs.TestLaws.{clash, and-left, and-right}
@@ -17,7 +16,7 @@ use Rattle.laws.specs.Membership.{_∈_, all?, onlyZeroShared?}
 use Rattle.laws.specs.Apart.{contextsOf, namesOf, TerminationsApart, ContextsApart, Apart}
 use Rattle.laws.specs.ApartTest.{contextsPlain?, namesPlain?, writtenNumber, numbered}
 use Rattle.laws.specs.Demand.{EitherOrder}
-use Rattle.laws.specs.Witness.{read, with-words, start}
+use Rattle.laws.specs.Witness.{read, with-words, start, lent}
 use Rattle.laws.specs.Needed.{Claim, PlainContexts, PlainNames, NamesWithout, WrittenApart, bare, orders-alone}
 use Rattle.laws.specs.Folding.{untied}
 use Rattle.laws.proofs.Membership.{not-has, all-is, only-zero-shared, in-collect}
@@ -34,21 +33,21 @@ demand-3-claims st e x y = either-order st e x y
 -- both orders give the same words and bytes
 unfoldable pub alike? : List ℕ → Transaction → Transaction → Bool
 alike? t x y =
-    let a = runTransaction x (state t) in
-    let b = runTransaction y (state t) in
+    let a = runTransaction x (lent t) in
+    let b = runTransaction y (lent t) in
     let c = runTransaction y (a .state) in
     let d = runTransaction x (b .state) in
     same (c .state .table) (d .state .table) && same (a .text) (d .text) && same (c .text) (b .text)
 
-order-counts : (t : List ℕ) (x y : Transaction) → alike? t x y ≡ false → EitherOrder (state t) x y → ⊥
+order-counts : (t : List ℕ) (x y : Transaction) → alike? t x y ≡ false → EitherOrder (lent t) x y → ⊥
 unfolding alike?
 order-counts t x y e o = clash (sym holds ∙ e)
   where
     holds : alike? t x y ≡ true
-    holds = rw (o .state, o .reply-one, o .reply-two) (rw (same-refl (runTransaction x (runTransaction y (state t) .state) .state .table), same-refl (runTransaction x (runTransaction y (state t) .state) .text), same-refl (runTransaction y (state t) .text)))
+    holds = rw (o .state, o .reply-one, o .reply-two) (rw (same-refl (runTransaction x (runTransaction y (lent t) .state) .state .table), same-refl (runTransaction x (runTransaction y (lent t) .state) .text), same-refl (runTransaction y (lent t) .text)))
 
 refute : (P : List ℕ → Transaction → Transaction → Type 0) (t : List ℕ) (x y : Transaction) → sound t ≡ true → alike? t x y ≡ false → P t x y → Claim P → ⊥
-refute P t x y s e p claim = order-counts t x y e (claim (state t) s x y p)
+refute P t x y s e p claim = order-counts t x y e (claim (lent t) s x y p)
 
 -- ---- the conditions, of both transactions
 

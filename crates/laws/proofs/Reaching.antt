@@ -18,7 +18,7 @@ use Rattle.laws.proofs.Sound.{sound-whole}
 use Rattle.laws.proofs.Frame.{Foot, Closed, Disjoint}
 use Rattle.laws.proofs.Views.{known-above, known-below, Seat}
 use Rattle.laws.proofs.Steps.{Means, EachMeans, Named}
-use Rattle.laws.proofs.Mix.{run-one, run-two, EachStep, Ready, exchange, one-after-other}
+use Rattle.laws.proofs.Mix.{run-one, run-two, EachStep, Ready, blocks-stay, exchange, one-after-other}
 use Rattle.laws.proofs.Membership.{has-not}
 use Rattle.laws.proofs.PlainNames.{Plain, aTermination, root, unknown, plain-below, plain-name}
 
@@ -101,6 +101,11 @@ module _ (st : State) (e : sound (st .table) ≡ true) (x y : Transaction) (A : 
   pub orders-alike : run-one (stepsOf x) (run-two (stepsOf y) (bothFresh st)) ≡ run-two (stepsOf y) (run-one (stepsOf x) (bothFresh st))
   orders-alike =
       exchange (fitted t) (Names (fitted t) x) (Reach t x) (Names (fitted t) y) (Reach t y) disjoint (stepsOf x) (stepsOf y) (bothFresh st)
+      (named t x (A .contexts-one) (A .names-one)) (named t y (A .contexts-two) (A .names-two)) ready
+
+  pub both-leave-blocks : run-two (stepsOf y) (run-one (stepsOf x) (bothFresh st)) .state .blocks ≡ st .blocks
+  both-leave-blocks =
+      blocks-stay (fitted t) (Names (fitted t) x) (Reach t x) (Names (fitted t) y) (Reach t y) disjoint (stepsOf x) (stepsOf y) (bothFresh st)
       (named t x (A .contexts-one) (A .names-one)) (named t y (A .contexts-two) (A .names-two)) ready
 
   pub mixture-alike : (z : Mixture (stepsOf x) (stepsOf y)) → mixed z (bothFresh st) ≡ run-two (stepsOf y) (run-one (stepsOf x) (bothFresh st))

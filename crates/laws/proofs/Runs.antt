@@ -1,5 +1,5 @@
 -- A run keeps what its commands and its actions' starts keep; and so the length of any table.
-use Prim.Native.Nat.{ℕ}
+use Prim.Native.Nat.{ℕ, _-_}
 use mathlib.Core.Path.{_≡_, refl, _∙_}
 use mathlib.Core.Bool.{Bool, false}
 use mathlib.Core.List.{List, [], _∷_}
@@ -8,8 +8,9 @@ use lib.ListN.{length}
 use Rattle.protocol.specs.Types.{Context, Op, Judged, Wrong, Right, Seen, Values}
 use Rattle.megaco.specs.Topology.{triplesOf, Link, linksOf}
 use Rattle.megaco.specs.Tree.{Items, Command, command, Property, Transaction, transaction, Message, wellFormed, fault400, fault403, fault406}
-use Rattle.megaco.specs.Table.{fitted}
-use Rattle.megaco.specs.State.{State, wrote}
+use Rattle.megaco.specs.Table.{lineTerminations, fitted}
+use Rattle.megaco.specs.Blocks.{blockAt}
+use Rattle.megaco.specs.State.{State, wrote, renewed}
 use Rattle.megaco.specs.Names.{nameOf}
 use Rattle.megaco.specs.Items.{given?}
 use Rattle.megaco.specs.Reply.{Acted}
@@ -108,8 +109,8 @@ length-attempts : (op : Op) (wild : Bool) (name : List ℕ) (given : ℕ) (vs : 
 unfolding attempts
 length-attempts op wild name given vs [] at st = refl
 length-attempts op wild name given vs (i ∷ is) at st =
-    let e : Effect = effect op wild name given vs i at (look at i (st .table)) in
-    length-attempts op wild name given vs is (e .at) (wrote (e .writes) st) ∙ length-apply (e .writes) (st .table)
+    let e : Effect = effect op wild name given vs i at (look at i (st .table)) (blockAt (i - lineTerminations (fitted (st .table))) (st .blocks)) in
+    length-attempts op wild name given vs is (e .at) (renewed (e .blocks) (wrote (e .writes) st)) ∙ length-apply (e .writes) (st .table)
 
 length-targets : (op : Op) (name : List ℕ) (given : ℕ) (vs : Values) (a : Targets) (at : Context) (st : State) → length (runTargets op name given vs a at st .state .table) ≡ length (st .table)
 unfolding runTargets commandError

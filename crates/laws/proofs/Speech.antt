@@ -157,9 +157,9 @@ pub speech-law : SpeechLaw
 unfolding effect concluded apply
 speech-law =
     record {
-      each = λ op wild name given vs i at t x.
+      each = λ op wild name given vs i at t b x.
           judged
-          (λ (c : Checked). let e : Effect = concluded op wild name given vs i at (look at i t) c in SpeechLeft op vs i (e .good) t (apply (e .writes) t))
+          (λ (c : Checked). let e : Effect = concluded op wild name given vs i at (look at i t) b c in SpeechLeft op vs i (e .good) t (apply (e .writes) t))
           (checks op at i vs (look at i t)) (λ code. failed-left op i vs t)
           (λ p. passed-left op given i vs at t (sound-whole t (x .whole)) (ready op at t (x .allowed) (x .context)) (x .there) p);
     }

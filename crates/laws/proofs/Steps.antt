@@ -1,5 +1,5 @@
 -- A step acts in its footprint only, and by what it sees of its footprint only.
-use Prim.Native.Nat.{ℕ}
+use Prim.Native.Nat.{ℕ, _-_}
 use mathlib.Core.Path.{_≡_, refl, sym, ap, _∙_, subst}
 use mathlib.Core.Bool.{Bool, true, false, _&&_, _||_}
 use mathlib.Core.List.{List, [], _∷_, _++_}
@@ -8,8 +8,10 @@ use lib.Dec.{eqb}
 use Rattle.base.specs.Pick.{pick}
 use Rattle.base.specs.Lists.{same}
 use Rattle.megaco.specs.Bytes.{capitals}
-use Rattle.megaco.specs.Table.{fitted, ctx, get, Write, apply, exists, known, placeIn}
-use Rattle.megaco.specs.State.{State, wrote}
+use Rattle.megaco.specs.Table.{lineTerminations, fitted, ctx, get, Write, apply, exists, known, placeIn}
+use Rattle.megaco.specs.State.{State, wrote, renewed}
+use Rattle.megaco.specs.Blocks.{blockAt, cleared}
+use Rattle.megaco.specs.declared.Block.{Block}
 use Rattle.megaco.specs.Tree.{Items, Command, command, Triple, triple}
 use Rattle.megaco.specs.Topology.{triplesOf, meant, party, Link, link, linkOf, linksOf}
 use Rattle.megaco.specs.Names.{nameOf}
@@ -19,7 +21,7 @@ use Rattle.megaco.specs.Attempt.{seen, numberOf, look, Effect, effect}
 use Rattle.megaco.specs.Command.{Outcome, outcome, attempts, commandError, actionError, Targets, noTarget, gateway, targets, rootTargets, targetsOf, runTargets, opOf, forbiddenInNull, noContext, notForRoot, fromTest4, fromTest2, unlessOptional, fromTest1, runCommand}
 use Rattle.megaco.specs.Action.{started}
 use Rattle.megaco.specs.Transaction.{Step, start, commandStep, Progress, progress, Course, course, begin, advance, proceed, step}
-use Rattle.protocol.specs.Types.{Context, Op, Name, Termination, Root, Chosen, Unchosen, Wildcard, Unmatched, Unknown, Judged, Wrong, Right, Values, Seen, Absent, Outside, Member}
+use Rattle.protocol.specs.Types.{Context, Op, Name, Termination, Root, Chosen, Unchosen, Wildcard, Unmatched, Unknown, Judged, Wrong, Right, Values, Seen, View, Absent, Outside, Member}
 use Rattle.megaco.proofs.Sizes.{fitted-is, fitted-same}
 use Rattle.laws.proofs.Frame.{AllOurs, nothing, Foot, Closed, Agree}
 use Rattle.laws.proofs.Views.{Seat, seat-known, seat-same, place-same, look-same}
@@ -72,6 +74,11 @@ module _ (lines : ℕ) (N K : ℕ → Type 0) where
   Seats [] = Unit {0}
   Seats (a ∷ acts) = Seat lines N K (a .at)
 
+  -- two states look alike to the footprint: so do their tables, and the blocks are the same
+  pub record AgreeIn (st u : State) : Type 0 where
+    pub table : Agree lines N K (st .table) (u .table)
+    pub blocks : st .blocks ≡ u .blocks
+
   -- ---- a command that is local: what it writes and reports is the same on every table that the footprint takes for st
 
   record Local (f : State → Outcome) (st : State) : Type 0 where
@@ -81,10 +88,10 @@ module _ (lines : ℕ) (N K : ℕ → Type 0) where
     going : Bool
     all : AllOurs lines N K writes
     seat : Seat lines N K at
-    on : (u : State) → Agree lines N K (st .table) (u .table) → f u ≡ outcome (wrote writes u) reports at going
+    on : (u : State) → AgreeIn st u → f u ≡ outcome (wrote writes u) reports at going
 
   -- it may first read what the footprint tells
-  local-reads : {A : Type 0} (st : State) (r : State → A) (f : A → State → Outcome) → ((u : State) → Agree lines N K (st .table) (u .table) → r st ≡ r u)
+  local-reads : {A : Type 0} (st : State) (r : State → A) (f : A → State → Outcome) → ((u : State) → AgreeIn st u → r st ≡ r u)
       → Local (f (r st)) st → Local (λ u. f (r u) u) st
   local-reads st r f e l =
       record {
@@ -120,13 +127,13 @@ module _ (lines : ℕ) (N K : ℕ → Type 0) where
     fit : fitted (st .table) ≡ lines
     fit = fitted-is lines (st .table) (c .long)
 
-    -- one attempt, in a context that exists
-    local-try : (op : Op) (name : List ℕ) (given : ℕ) (vs : Values) (i : ℕ) (w : Context) → Seat lines N K w → N i → forbiddenInNull op w ≡ false
-        → noContext op w (seen (numberOf w) (st .table) .held) ≡ false → Local (λ u. attempts op false name given vs (i ∷ []) w u) st
-    unfolding attempts
-    local-try op name given vs i w s m b l =
-        local-reads st (λ u. look w i (u .table)) (λ v u. let e = effect op false name given vs i w v in outcome (wrote (e .writes) u) (e .report ∷ []) (e .at) (e .good && true))
-        (λ u a. look-same lines N K F (st .table) (u .table) a fit w i c s m)
+    -- one attempt, of a termination that exists in a context that exists
+    local-try : (op : Op) (name : List ℕ) (given : ℕ) (vs : Values) (i : ℕ) (w : Context) → Seat lines N K w → N i → exists (fitted (st .table)) i (get (st .table) (ctx i)) ≡ true
+        → forbiddenInNull op w ≡ false → noContext op w (seen (numberOf w) (st .table) .held) ≡ false → Local (λ u. attempts op false name given vs (i ∷ []) w u) st
+    unfolding attempts cleared
+    local-try op name given vs i w s m x b l =
+        local-reads st sees (λ v u. let e = effect op false name given vs i w (v .0) (v .1) in outcome (renewed (e .blocks) (wrote (e .writes) u)) (e .report ∷ []) (e .at) (e .good && true))
+        (λ u a j. (look-same lines N K F (st .table) (u .table) (a .table) fit w i c s m j, blockAt (i - lineTerminations (fitted-same (st .table) (u .table) (a .table .long) j)) (a .blocks j)))
         (record {
           writes = e .writes;
           reports = e .report ∷ [];
@@ -134,14 +141,18 @@ module _ (lines : ℕ) (N K : ℕ → Type 0) where
           going = e .good && true;
           all = lies .all;
           seat = lies .seat;
-          on = λ u a. refl;
+          on = λ u a. ap (λ (ks : List ℕ). outcome (renewed ks (wrote (e .writes) u)) (e .report ∷ []) (e .at) (e .good && true)) (lies .still);
         })
       where
+        -- the view, and the block of the termination
+        sees : State → View × Block
+        sees u = (look w i (u .table), blockAt (i - lineTerminations (fitted (u .table))) (u .blocks))
+
         e : Effect
-        e = effect op false name given vs i w (look w i (st .table))
+        e = effect op false name given vs i w (sees st .0) (sees st .1)
 
         lies : OursAlone lines N K F e
-        lies = effect-lies lines N K F op false name given vs i w (look w i (st .table)) (unfold look in fit) s m (unfold look in c .home i m) (seat-home lines N K op w (st .table) s l) (λ x. seat-above lines N K op w (st .table) s x b l)
+        lies = effect-lies lines N K F op false name given vs i w (sees st .0) (sees st .1) (unfold look in fit) s m (unfold look in x) (unfold look in c .home i m) (seat-home lines N K op w (st .table) s l) (λ x. seat-above lines N K op w (st .table) s x b l)
 
     module _ (op : Op) (name : List ℕ) (given : ℕ) (w : Context) (s : Seat lines N K w) (b : forbiddenInNull op w ≡ false) (l : noContext op w (seen (numberOf w) (st .table) .held) ≡ false) where
       -- a name that means nobody to try
@@ -151,16 +162,16 @@ module _ (lines : ℕ) (N K : ℕ → Type 0) where
       local-no-target vs _ itself = local-still st _ w true s
 
       -- a termination of the footprint
-      local-met : (vs : Values) (i : ℕ) → N i → (b : Bool) → Local (λ u. runTargets op name given vs (pick b (targets false (i ∷ [])) (noTarget 430)) w u) st
+      local-met : (vs : Values) (i : ℕ) → N i → (b : Bool) → exists (fitted (st .table)) i (get (st .table) (ctx i)) ≡ b → Local (λ u. runTargets op name given vs (pick b (targets false (i ∷ [])) (noTarget 430)) w u) st
       unfolding runTargets pick
-      local-met vs i m true = local-try op name given vs i w s m b l
-      local-met vs i m false = local-no-target vs (noTarget 430) no-target
+      local-met vs i m true e = local-try op name given vs i w s m e b l
+      local-met vs i m false e = local-no-target vs (noTarget 430) no-target
 
       local-targets : (items : Bool) (vs : Values) (n : Name) → Means n → Local (λ u. runTargets op name given vs (targetsOf op w items n (u .table)) w u) st
       unfolding targetsOf
       local-targets items vs (Termination i) m =
           local-reads st (λ u. exists (fitted (u .table)) i (get (u .table) (ctx i))) (λ b u. runTargets op name given vs (pick b (targets false (i ∷ [])) (noTarget 430)) w u)
-          (λ u a j. exists (fitted-same (st .table) (u .table) (a .long) j) i (a .same (ctx i) (F .small i m) m j)) (local-met vs i m (exists (fitted (st .table)) i (get (st .table) (ctx i))))
+          (λ u a j. exists (fitted-same (st .table) (u .table) (a .table .long) j) i (a .table .same (ctx i) (F .small i m) m j)) (local-met vs i m (exists (fitted (st .table)) i (get (st .table) (ctx i))) refl)
       local-targets items vs Root m = local-no-target vs _ (root-no-target op w items)
       local-targets items vs Chosen m = absurd m
       local-targets items vs Unchosen m = absurd m
@@ -172,7 +183,7 @@ module _ (lines : ℕ) (N K : ℕ → Type 0) where
       unfolding fromTest4
       local-named items (Wrong code) m = local-command-error st op name code w s
       local-named items (Right vs) m =
-          local-reads st (λ u. nameOf (fitted (u .table)) name) (λ n u. runTargets op name given vs (targetsOf op w (notForRoot op items vs) n (u .table)) w u) (λ u a. ap (λ (k : ℕ). nameOf k name) (fitted-same (st .table) (u .table) (a .long)))
+          local-reads st (λ u. nameOf (fitted (u .table)) name) (λ n u. runTargets op name given vs (targetsOf op w (notForRoot op items vs) n (u .table)) w u) (λ u a. ap (λ (k : ℕ). nameOf k name) (fitted-same (st .table) (u .table) (a .table .long)))
           (local-targets (notForRoot op items vs) vs (nameOf (fitted (st .table)) name) (subst (λ (k : ℕ). Means (nameOf k name)) (sym fit) m))
 
     local-tested : (op : Op) (name : List ℕ) (items : Items) (given : ℕ) (w : Context) → Seat lines N K w → forbiddenInNull op w ≡ false → Means (nameOf lines name)
@@ -180,7 +191,7 @@ module _ (lines : ℕ) (N K : ℕ → Type 0) where
     unfolding fromTest2
     local-tested op name items given w s b m =
         local-reads st (λ u. seen (numberOf w) (u .table) .held) (λ h u. pick (noContext op w h) (commandError op name 411 w u) (fromTest4 op name given (given? items) (judgeItems op items) w u))
-        (λ u a. ap (λ (x : Seen). x .held) (seat-same lines N K F (st .table) (u .table) a fit w s))
+        (λ u a. ap (λ (x : Seen). x .held) (seat-same lines N K F (st .table) (u .table) (a .table) fit w s))
         (local-pick st (noContext op w (seen (numberOf w) (st .table) .held)) _ _ (local-command-error st op name 411 w s)
         (λ l. local-named op name given w s b l (given? items) (judgeItems op items) m))
 
@@ -240,7 +251,7 @@ module _ (lines : ℕ) (N K : ℕ → Type 0) where
     pub change : Change
     pub all : AllOurs lines N K (change .writes)
     pub seats : Seats (change .next .acts)
-    pub on : (u : State) → Agree lines N K (st .table) (u .table) → f u ≡ enact change u
+    pub on : (u : State) → AgreeIn st u → f u ≡ enact change u
 
   acts-still : (st : State) (p : Progress) → Seats (p .acts) → Acts (λ u. course u p) st
   unfolding apply
@@ -258,8 +269,8 @@ module _ (lines : ℕ) (N K : ℕ → Type 0) where
           change = record { writes = x .writes; next = progress (x .going) (x .acted ∷ acts) };
           all = lies .all;
           seats = lies .seat;
-          on = λ u a. ap (λ (y : Seen). begin (started w ps alone y (linksOf (numberOf w) (u .table) (triplesOf ps))) u acts) (sym (seat-same lines N K F (st .table) (u .table) a f w (m .0)))
-              ∙ ap (λ (y : List Link). begin (started w ps alone (seen (numberOf w) (st .table)) y) u acts) (sym (links-same F (st .table) (u .table) a f (numberOf w) (seat-known lines N K w (m .0)) (triplesOf ps) (m .1)));
+          on = λ u a. ap (λ (y : Seen). begin (started w ps alone y (linksOf (numberOf w) (u .table) (triplesOf ps))) u acts) (sym (seat-same lines N K F (st .table) (u .table) (a .table) f w (m .0)))
+              ∙ ap (λ (y : List Link). begin (started w ps alone (seen (numberOf w) (st .table)) y) u acts) (sym (links-same F (st .table) (u .table) (a .table) f (numberOf w) (seat-known lines N K w (m .0)) (triplesOf ps) (m .1)));
         }
     acts-proceed (commandStep x) [] m h = acts-still st (progress true []) tt
     acts-proceed (commandStep x) (a ∷ acts) m h =

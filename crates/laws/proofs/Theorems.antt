@@ -15,6 +15,8 @@ use Rattle.laws.specs.Bounds.{Bounds}
 use Rattle.laws.specs.Demand.{Independence}
 use Rattle.laws.specs.Witness.{Witnessed}
 use Rattle.laws.specs.Needed.{EachNeeded}
+use Rattle.laws.specs.Figures.{FiguresKept}
+use Rattle.laws.specs.Packets.{PacketsCounted}
 use Rattle.laws.specs.Hears.{forth, back, Hearing}
 use Rattle.laws.specs.Figure7.{Figure-7}
 use Rattle.laws.specs.Folding.{Rules, Merging}
@@ -31,6 +33,9 @@ use Rattle.laws.proofs.Attempts.{both-known}
 use Rattle.laws.proofs.Linked.{passed-fine}
 use Rattle.laws.proofs.Runs.{call-length}
 use Rattle.laws.proofs.Kept.{transaction-sound, message-sound, call-sound}
+use Rattle.laws.proofs.Figures.{sound-blocks, blocks-sound, fresh-blocks, one-attempt, call-reached, call-length-blocks, call-blocks-sound}
+use Rattle.laws.proofs.PacketSample.{packet-sample}
+use Rattle.laws.proofs.Packets.{figures, size-of-difference, never-passes, closer, closest, reports, packet-number, packet-down, packet-taken, packet-keeps}
 use Rattle.laws.proofs.Figure7.{panel-1, panel-2, panel-3, panel-4, panel-5, panel-6}
 use Rattle.laws.proofs.Hearing.{start-sets, second-hears-first, first-hears-second, others-as-before}
 use Rattle.laws.proofs.Folding.{folded-once, fine-passed, fine-folded, folded-fine, fold-sets, list-places, list-last, list-twice, list-turned}
@@ -94,6 +99,33 @@ each-needed =
       wildcard = wildcard;
       chosen-context = chosen-context;
       unnamed-triple = unnamed-triple;
+    }
+
+pub figures-kept : FiguresKept
+figures-kept =
+    record {
+      tested = λ b. (sound-blocks b, blocks-sound b);
+      fresh = fresh-blocks;
+      one-attempt = one-attempt;
+      reached = call-reached;
+      call-keeps = call-blocks-sound;
+      call-length = call-length-blocks;
+    }
+
+pub packets-counted : PacketsCounted
+packets-counted =
+    record {
+      figures = figures;
+      size = size-of-difference;
+      never-passes = never-passes;
+      closer = closer;
+      closest = closest;
+      reports = reports;
+      sample = packet-sample;
+      number = packet-number;
+      down = packet-down;
+      taken = packet-taken;
+      keeps = packet-keeps;
     }
 
 pub hearing : Hearing

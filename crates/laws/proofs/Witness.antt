@@ -7,7 +7,6 @@ use Rattle.base.specs.Bytes.{text}
 use Rattle.megaco.specs.Tree.{wellFormed}
 use Rattle.megaco.specs.Reading.{messageR}
 use Rattle.megaco.specs.Table.{sound}
-use Rattle.megaco.specs.State.{state}
 use Rattle.megaco.specs.Transaction.{runTransaction}
 use Rattle.megaco.proofs.Opened.{opened}
 use Rattle.laws.specs.Membership.{all?, noneShared?, onlyZeroShared?, ahead, collect}
@@ -15,7 +14,7 @@ use Rattle.laws.specs.Apart.{contextsIn, namesThen, triplesThen, namesIn
 use Rattle.laws.specs.ApartTest.{byNumberOrNull?, contextsPlain?, namePlain?, namesPlain?, terminationOf, writtenNumber, named, numbered, standing, reached, terminationsApart?, contextsApart?, apart?}
 use Rattle.laws.specs.Mix.{mixed, stepsOf, bothFresh}
 use Rattle.laws.specs.Demand.{AsOneAfterOther}
-use Rattle.laws.specs.Witness.{message, firstOf, read, with-words, start, one, two, map, alternate}
+use Rattle.laws.specs.Witness.{message, firstOf, read, with-words, start, lent, one, two, map, alternate}
 use Rattle.laws.proofs.Demand.{any-mixture}
 use Rattle.laws.proofs.ApartTest.{apart-is}
 
@@ -43,17 +42,17 @@ unfolding tests
 apart-tested = refl
 
 -- both change the table
-pub both-change : (same (runTransaction (read one) (state start) .state .table) start ≡ false) × (same (runTransaction (read two) (state start) .state .table) start ≡ false)
+pub both-change : (same (runTransaction (read one) (lent start) .state .table) start ≡ false) × (same (runTransaction (read two) (lent start) .state .table) start ≡ false)
 unfolding tests
 both-change = (refl, refl)
 
-pub share-the-map : (map start ≡ 3) × (map (runTransaction (read one) (state start) .state .table) ≡ 2) × (map (runTransaction (read two) (state start) .state .table) ≡ 1)
-    × (map (runTransaction (read two) (runTransaction (read one) (state start) .state) .state .table) ≡ 0)
+pub share-the-map : (map start ≡ 3) × (map (runTransaction (read one) (lent start) .state .table) ≡ 2) × (map (runTransaction (read two) (lent start) .state .table) ≡ 1)
+    × (map (runTransaction (read two) (runTransaction (read one) (lent start) .state) .state .table) ≡ 0)
 unfolding tests
 share-the-map = (refl, refl, refl, refl)
 
-pub replies : (runTransaction (read one) (state start) .text ≡ text "P=7{C=1{S=L/1/1,S=R/1,A=L/8/31},C=-{MF=L/1/1}}")
-    × (runTransaction (read two) (state start) .text ≡ text "P=8{C=2{A=R/9{ER=430{}},S=R/2,S=L/1/3},C=200{MV=ROOT{ER=411{}}},C=2{A=L/1/6{ER=411{}}}}")
+pub replies : (runTransaction (read one) (lent start) .text ≡ text "P=7{C=1{S=L/1/1,S=R/1{SA{rtp/pr=7,rtp/jit=10}},A=L/8/31},C=-{MF=L/1/1}}")
+    × (runTransaction (read two) (lent start) .text ≡ text "P=8{C=2{A=R/9{ER=430{}},S=R/2{SA{rtp/pr=9,rtp/jit=0}},S=L/1/3},C=200{MV=ROOT{ER=411{}}},C=2{A=L/1/6{ER=411{}}}}")
 unfolding tests
 replies = (refl, refl)
 
@@ -62,5 +61,5 @@ apart = apart-is start (read one) (read two) .0 apart-tested
 
 -- ---- and turn by turn
 
-pub turn-by-turn : AsOneAfterOther (state start) (read one) (read two) (mixed (alternate (stepsOf (read one)) (stepsOf (read two))) (bothFresh (state start)))
-turn-by-turn = any-mixture (state start) start-sound (read one) (read two) apart (alternate (stepsOf (read one)) (stepsOf (read two)))
+pub turn-by-turn : AsOneAfterOther (lent start) (read one) (read two) (mixed (alternate (stepsOf (read one)) (stepsOf (read two))) (bothFresh (lent start)))
+turn-by-turn = any-mixture (lent start) start-sound (read one) (read two) apart (alternate (stepsOf (read one)) (stepsOf (read two)))

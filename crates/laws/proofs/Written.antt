@@ -1,17 +1,18 @@
 -- What an attempt, or an action's start, writes lies in its footprint.
 use Prim.Native.Nat.{ℕ, _/_, _≤_, _<_}
 use mathlib.Core.Path.{_≡_, refl, sym, subst}
-use mathlib.Core.Bool.{Bool, true, false}
+use mathlib.Core.Bool.{Bool, true, false, not, _&&_}
 use mathlib.Core.List.{List, []}
 use lib.Dec.{eqb, leb}
 use borrow.Author.Tests.{eqb-true, eqb-false, leb-true, not-false}
 use native.Mathlib.Omega.{arith}
 use Rattle.base.specs.Pick.{pick}
-use Rattle.megaco.specs.Table.{lineTerminations, terminations, prop, rec, flow, speech, lowFlow, highFlow, speechWord, ctx, cell, Write, isEphemeral}
+use Rattle.megaco.specs.Table.{lineTerminations, terminations, prop, rec, flow, speech, lowFlow, highFlow, speechWord, ctx, cell, Write, isEphemeral, exists}
+use Rattle.megaco.specs.declared.Block.{Block}
 use Rattle.megaco.specs.Tree.{Property}
 use Rattle.megaco.specs.Square.{Square}
 use Rattle.megaco.specs.Topology.{anyTopology, Link}
-use Rattle.megaco.specs.Attempt.{seen, numberOf, isChoose, target, checks, flowing, joining, leaving, placed, marking, speaks, onLine, sideWrites, speaking, spoken, forgetting, changes, settled, Effect, concluded, effect}
+use Rattle.megaco.specs.Attempt.{seen, numberOf, isChoose, target, checks, flowing, joining, leaving, placed, marking, speaks, onLine, sideWrites, speaking, spoken, forgetting, changes, settled, renews, Effect, concluded, effect}
 use Rattle.megaco.specs.Command.{isNull, inPlace, forbiddenInNull, noContext}
 use Rattle.megaco.specs.Action.{anyGiven, startChecks, flowWrites, startWrites, Start, startedBy, started}
 use Rattle.protocol.specs.Types.{Context, Null, Numbered, Choose, All, Op, Add, Modify, Subtract, Move, AuditValue, Checked, Speech, Kept, Released, Session, Values, Seen, View}
@@ -146,10 +147,30 @@ module _ (lines : ℕ) (N K : ℕ → Type 0) where
     changes-all Move w given i vs v f s m h k z p =
         leaving-all v _ (h (nonzero (v .here) (eqb-false (v .here) 0 (search)))) (joining-all w given v _ s (k (z refl)) (spoken-all _ i vs _ f m (on-ephemeral _ i _ _ (search)) (placed-all i _ _ m (target-home w v s k))))
 
-    -- what an attempt writes, and where its action stands after it
+    -- what an attempt writes, and where its action stands after it; no block is set to zero
     pub record OursAlone (e : Effect) : Type 0 where
       pub all : AllOurs lines N K (e .writes)
       pub seat : Seat lines N K (e .at)
+      pub still : e .blocks ≡ []
+
+    -- an Add of a termination that exists makes none
+    no-line : (n i : ℕ) → exists n i 0 ≡ true → isEphemeral n i ≡ false
+    unfolding exists
+    no-line n i e = by (isEphemeral n i) e
+      where
+        by : (b : Bool) → not (b && true) ≡ true → b ≡ false
+        by true e = sym e
+        by false e = refl
+
+    renews-none : (op : Op) (w : Context) (i : ℕ) (vs : Values) (v : View) → exists (v .lines) i (v .here) ≡ true → Passed (checks op w i vs v) → renews op (v .lines) i ≡ []
+    unfolding renews checks pick
+    renews-none Add w i vs v e p =
+        let z : v .here ≡ 0 = eqb-true (v .here) 0 (not-false (eqb (v .here) 0) (search)) in
+        rw (no-line (v .lines) i (rw z at e))
+    renews-none Modify w i vs v e p = refl
+    renews-none Subtract w i vs v e p = refl
+    renews-none Move w i vs v e p = refl
+    renews-none AuditValue w i vs v e p = refl
 
     seat-settled : (w : Context) (v : View) → Seat lines N K w → Seat lines N K (settled w v)
     unfolding settled isChoose pick
@@ -158,13 +179,13 @@ module _ (lines : ℕ) (N K : ℕ → Type 0) where
     seat-settled Choose v s = absurd s
     seat-settled All v s = absurd s
 
-    pub effect-lies : (op : Op) (wild : Bool) (name : List ℕ) (given : ℕ) (vs : Values) (i : ℕ) (w : Context) (v : View) → v .lines ≡ lines → Seat lines N K w → N i
-        → (0 < v .here → K (v .here)) → (0 < numberOf w → K (numberOf w)) → (inPlace op ≡ false → 0 < numberOf w)
-        → OursAlone (effect op wild name given vs i w v)
+    pub effect-lies : (op : Op) (wild : Bool) (name : List ℕ) (given : ℕ) (vs : Values) (i : ℕ) (w : Context) (v : View) (b : Block) → v .lines ≡ lines → Seat lines N K w → N i
+        → exists (v .lines) i (v .here) ≡ true → (0 < v .here → K (v .here)) → (0 < numberOf w → K (numberOf w)) → (inPlace op ≡ false → 0 < numberOf w)
+        → OursAlone (effect op wild name given vs i w v b)
     unfolding effect concluded
-    effect-lies op wild name given vs i w v f s m h k z =
-        judged (λ (x : Checked). OursAlone (concluded op wild name given vs i w v x)) (checks op w i vs v) (λ code. record { all = nothing; seat = s })
-        (λ p. record { all = changes-all op w given i vs v f s m h k z p; seat = seat-settled w v s })
+    effect-lies op wild name given vs i w v b f s m e h k z =
+        judged (λ (x : Checked). OursAlone (concluded op wild name given vs i w v b x)) (checks op w i vs v) (λ code. record { all = nothing; seat = s; still = refl })
+        (λ p. record { all = changes-all op w given i vs v f s m h k z p; seat = seat-settled w v s; still = renews-none op w i vs v e p })
 
     -- ---- an action's start
 

@@ -16,8 +16,10 @@ use Rattle.laws.specs.Mix.{Both, Mixture, mixed, stepsOf, bothFresh}
 
 -- "running one after the other from that table ends alike in both orders". "The second starts from the table the first left"
 pub record EitherOrder (st : State) (x y : Transaction) : Type 0 where
-  -- "the same in every word of the table"
+  -- "the same in every word of the table", and of the blocks
   pub state : runTransaction y (runTransaction x st .state) .state ≡ runTransaction x (runTransaction y st .state) .state
+  -- document 02, CR 12: "start with the same blocks, no packet comes between, and they end with the same blocks": those that they started with
+  pub blocks : runTransaction y (runTransaction x st .state) .state .blocks ≡ st .blocks
   -- "and each transaction's reply the same byte for byte": its `P=id{..}`, 533 included
   pub reply-one : runTransaction x st .text ≡ runTransaction x (runTransaction y st .state) .text
   pub reply-two : runTransaction y (runTransaction x st .state) .text ≡ runTransaction y st .text

@@ -6,10 +6,9 @@ use mathlib.Core.Path.{_≡_}
 use mathlib.Core.Bool.{Bool, true, false}
 use mathlib.Core.List.{List, [], _∷_}
 use Rattle.megaco.specs.Table.{cell, flow, lowFlow, highFlow, get}
-use Rattle.megaco.specs.State.{state}
 use Rattle.megaco.specs.Square.{squareOf, flowAt}
 use Rattle.megaco.specs.Transaction.{runTransaction}
-use Rattle.laws.specs.Witness.{read, with-words}
+use Rattle.laws.specs.Witness.{read, with-words, lent}
 
 -- who hears whom, each pair in both directions: T1 to T2, T2 to T1, T1 to T3, T3 to T1, T2 to T3, T3 to T2
 pub record Panel : Type 0 where
@@ -31,7 +30,7 @@ shown t =
 -- a table after transactions, one after the other
 unfoldable pub after-all : List String → List ℕ → List ℕ
 after-all [] t = t
-after-all (x ∷ xs) t = after-all xs (runTransaction (read x) (state t) .state .table)
+after-all (x ∷ xs) t = after-all xs (runTransaction (read x) (lent t) .state .table)
 
 -- "1. No Topology Desc.": the three join
 abbrev pub first : List String

@@ -8,9 +8,8 @@ use Rattle.base.specs.Lists.{same}
 use Rattle.base.specs.Bytes.{text}
 use Rattle.megaco.specs.Tree.{Property, action, Transaction, transaction}
 use Rattle.megaco.specs.Table.{sound}
-use Rattle.megaco.specs.State.{state}
 use Rattle.megaco.specs.Transaction.{runTransaction}
-use Rattle.laws.specs.Witness.{read, with-words}
+use Rattle.laws.specs.Witness.{read, with-words, lent}
 use Rattle.laws.specs.Folding.{merged}
 
 -- the properties of a transaction's first action
@@ -27,13 +26,13 @@ abbrev pub cut : List ℕ
 cut = with-words ((0, 1) ∷ (1, 1) ∷ (2, 1) ∷ (624, 1) ∷ (754, 197636) ∷ [])
 
 abbrev pub after : String → List ℕ → List ℕ
-after x t = runTransaction (read x) (state t) .state .table
+after x t = runTransaction (read x) (lent t) .state .table
 
 abbrev pub Alike : List ℕ → String → String → Type 0
 Alike t x y = (same (after x t) (after y t) ≡ true) × (same (after x t) t ≡ false)
 
 abbrev pub Differ : List ℕ → String → String → Type 0
-Differ t x y = (same (after x t) (after y t) ≡ false) × (runTransaction (read x) (state t) .text ≡ text "P=1{C=1{PR=0}}") × (runTransaction (read y) (state t) .text ≡ text "P=1{C=1{PR=0}}")
+Differ t x y = (same (after x t) (after y t) ≡ false) × (runTransaction (read x) (lent t) .text ≡ text "P=1{C=1{PR=0}}") × (runTransaction (read y) (lent t) .text ≡ text "P=1{C=1{PR=0}}")
 
 -- two descriptors; the first triple has another on its pair behind it, its names in the other order and letter case
 abbrev pub several : String
@@ -73,10 +72,10 @@ pub record Samples : Type 0 where
   -- the fold of an action's topology
   pub merges : merged (propertiesOf (read several)) ≡ propertiesOf (read one)
   pub ends-alike : (same (after several three) (after one three) ≡ true)
-      × (runTransaction (read several) (state three) .text ≡ text "P=1{C=1{PR=3}}") × (runTransaction (read one) (state three) .text ≡ text "P=1{C=1{PR=3}}")
+      × (runTransaction (read several) (lent three) .text ≡ text "P=1{C=1{PR=3}}") × (runTransaction (read one) (lent three) .text ≡ text "P=1{C=1{PR=3}}")
       × (same (after one three) three ≡ false)
   -- why refused triples are left aside
   pub refused-apart : (merged (propertiesOf (read refused)) ≡ propertiesOf (read refused-once))
-      × (runTransaction (read refused) (state three) .text ≡ text "P=1{C=1{ER=435{}}}") × (runTransaction (read refused-once) (state three) .text ≡ text "P=1{C=1{ER=430{}}}")
+      × (runTransaction (read refused) (lent three) .text ≡ text "P=1{C=1{ER=435{}}}") × (runTransaction (read refused-once) (lent three) .text ≡ text "P=1{C=1{ER=430{}}}")
   -- why the shortest list is asked to set the same whatever the flows before: what the flows are already takes no triple at all
   pub set-already : same (after "T=1{C=1{TP{L/1/1,L/1/2,BW}}}" three) three ≡ true

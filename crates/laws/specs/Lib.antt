@@ -15,3 +15,5 @@ pub mod Hears
 pub mod Figure7
 pub mod Folding
 pub mod FoldedSample
+pub mod Figures
+pub mod Packets

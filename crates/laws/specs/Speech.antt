@@ -8,6 +8,7 @@ use Rattle.protocol.specs.Types.{Context, Op, Add, Modify, Subtract, Move, Audi
 use Rattle.megaco.specs.Table.{lineTerminations, terminations, fitted, speech, speechWord, cell, get, apply, speechWords, sound}
 use Rattle.megaco.specs.Attempt.{seen, numberOf, look, speaks, Effect, effect}
 use Rattle.megaco.specs.Command.{forbiddenInNull, noContext}
+use Rattle.megaco.specs.declared.Block.{Block}
 
 -- ---- words
 
@@ -74,6 +75,6 @@ pub record SpeechLeft (op : Op) (vs : Values) (i : ℕ) (good : Bool) (t u : Lis
   pub failed : good ≡ false → u ≡ t
 
 pub record SpeechLaw : Type 0 where
-  -- any command, name, wildcard or not, context and values
-  pub each : (op : Op) (wild : Bool) (name : List ℕ) (given : ℕ) (vs : Values) (i : ℕ) (at : Context) (t : List ℕ) → Tried op at i t
-      → let e : Effect = effect op wild name given vs i at (look at i t) in SpeechLeft op vs i (e .good) t (apply (e .writes) t)
+  -- any command, name, wildcard or not, context and values, whatever its block of figures holds
+  pub each : (op : Op) (wild : Bool) (name : List ℕ) (given : ℕ) (vs : Values) (i : ℕ) (at : Context) (t : List ℕ) (x : Block) → Tried op at i t
+      → let e : Effect = effect op wild name given vs i at (look at i t) x in SpeechLeft op vs i (e .good) t (apply (e .writes) t)

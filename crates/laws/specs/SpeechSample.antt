@@ -32,10 +32,10 @@ remote = (1014, 1) ∷ (1015, 167772161) ∷ (1016, 5004) ∷ (1017, 8) ∷ []
 
 -- the table after one attempt in context c, and what is reported of it
 unfoldable pub tableAfter : Op → ℕ → ℕ → Values → List ℕ → List ℕ
-tableAfter op c i vs t = attempts op false [] 1 vs (i ∷ []) (Numbered c) (state t) .state .table
+tableAfter op c i vs t = attempts op false [] 1 vs (i ∷ []) (Numbered c) (state t []) .state .table
 
 unfoldable pub reported : Op → ℕ → ℕ → Values → List ℕ → List Report
-reported op c i vs t = attempts op false [] 1 vs (i ∷ []) (Numbered c) (state t) .reports
+reported op c i vs t = attempts op false [] 1 vs (i ∷ []) (Numbered c) (state t []) .reports
 
 pub record SpeechSamples : Type 0 where
   -- what is given is kept, for Local and then for Remote; the other stays

@@ -10,7 +10,8 @@ use Rattle.base.specs.Bytes.{text}
 use Rattle.megaco.specs.Tree.{Transaction, transaction, Message, wellFormed, fault400, fault403, fault406}
 use Rattle.megaco.specs.Reading.{messageR}
 use Rattle.megaco.specs.Table.{words, sound}
-use Rattle.megaco.specs.State.{state}
+use Rattle.megaco.specs.Blocks.{blockWords}
+use Rattle.megaco.specs.State.{State, state}
 use Rattle.megaco.specs.Transaction.{Step, runTransaction}
 use Rattle.laws.specs.Apart.{Apart}
 use Rattle.laws.specs.Mix.{Mixture, over, first, second, mixed, stepsOf, bothFresh}
@@ -39,6 +40,10 @@ with-words (w ∷ ws) = set (with-words ws) (w .0) (w .1)
 abbrev pub start : List ℕ
 start = with-words ((0, 1) ∷ (1, 1) ∷ (2, 2) ∷ (248, 1) ∷ (249, 2) ∷ (624, 1) ∷ (625, 1) ∷ (752, 3) ∷ [])
 
+-- blocks of which R/1's has had 7 packets, its jitter 160, and R/2's 9
+abbrev pub lent : List ℕ → State
+lent t = state t (set (set (set (set (replicate blockWords 0) 0 7) 1 99) 2 160) 4 9)
+
 -- properties, flows, Subtracts, an Add that sets a mode, a Modify in null; an Add that fails, a Subtract that ends its context, an Add that then
 -- fails and stops the rest
 abbrev pub one : String
@@ -66,10 +71,10 @@ pub record Witnessed : Type 0 where
   pub start-sound : sound start ≡ true
   pub apart : Apart start (read one) (read two)
   -- each of the two changes the table
-  pub both-change : (same (runTransaction (read one) (state start) .state .table) start ≡ false) × (same (runTransaction (read two) (state start) .state .table) start ≡ false)
+  pub both-change : (same (runTransaction (read one) (lent start) .state .table) start ≡ false) × (same (runTransaction (read two) (lent start) .state .table) start ≡ false)
   -- both in one word
-  pub share-the-map : (map start ≡ 3) × (map (runTransaction (read one) (state start) .state .table) ≡ 2) × (map (runTransaction (read two) (state start) .state .table) ≡ 1)
-      × (map (runTransaction (read two) (runTransaction (read one) (state start) .state) .state .table) ≡ 0)
-  pub replies : (runTransaction (read one) (state start) .text ≡ text "P=7{C=1{S=L/1/1,S=R/1,A=L/8/31},C=-{MF=L/1/1}}")
-      × (runTransaction (read two) (state start) .text ≡ text "P=8{C=2{A=R/9{ER=430{}},S=R/2,S=L/1/3},C=200{MV=ROOT{ER=411{}}},C=2{A=L/1/6{ER=411{}}}}")
-  pub turn-by-turn : AsOneAfterOther (state start) (read one) (read two) (mixed (alternate (stepsOf (read one)) (stepsOf (read two))) (bothFresh (state start)))
+  pub share-the-map : (map start ≡ 3) × (map (runTransaction (read one) (lent start) .state .table) ≡ 2) × (map (runTransaction (read two) (lent start) .state .table) ≡ 1)
+      × (map (runTransaction (read two) (runTransaction (read one) (lent start) .state) .state .table) ≡ 0)
+  pub replies : (runTransaction (read one) (lent start) .text ≡ text "P=7{C=1{S=L/1/1,S=R/1{SA{rtp/pr=7,rtp/jit=10}},A=L/8/31},C=-{MF=L/1/1}}")
+      × (runTransaction (read two) (lent start) .text ≡ text "P=8{C=2{A=R/9{ER=430{}},S=R/2{SA{rtp/pr=9,rtp/jit=0}},S=L/1/3},C=200{MV=ROOT{ER=411{}}},C=2{A=L/1/6{ER=411{}}}}")
+  pub turn-by-turn : AsOneAfterOther (lent start) (read one) (read two) (mixed (alternate (stepsOf (read one)) (stepsOf (read two))) (bothFresh (lent start)))

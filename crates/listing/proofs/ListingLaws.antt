@@ -6,7 +6,7 @@ use native.Mathlib.Omega.{arith}
 use lib.ListN.{length}
 use Rattle.base.specs.Bytes.{text}
 use Rattle.base.specs.Out.{Appended}
-use Rattle.megaco.specs.State.{state}
+use Rattle.megaco.specs.State.{State}
 use Rattle.megaco.specs.Call.{call}
 use Rattle.gateway.specs.Answers.{refusalOf, sizeOf, Answered}
 use Rattle.gateway.specs.declared.CallOutcome.{CallOutcome}
@@ -16,7 +16,7 @@ use Rattle.sessions.specs.Listing.{lines, refusedText}
 use Rattle.sessions.specs.Session.{ownMid, answerRoom, Answers}
 use Rattle.sessions.proofs.AnswerLaws.{answers-reply, answers-refused}
 
-module _ (m t o : List ℕ) (a : CallOutcome) (t′ o₁ o′ : List ℕ) (r : ℕ) (room : answerRoom ≤ length o) (got : Answered (call lines m (state t) (text "[10.0.0.9]") o) (state t′) o₁ a) where
+module _ (m : List ℕ) (t : State) (o : List ℕ) (a : CallOutcome) (t′ : State) (o₁ o′ : List ℕ) (r : ℕ) (room : answerRoom ≤ length o) (got : Answered (call lines m t (text "[10.0.0.9]") o) t′ o₁ a) where
   pub line-taken : (n : ℕ) → a ≡ Taken n → Appended o₁ n (lineEnd ∷ []) o′ r → Answers m t o t′ o′ r
   unfolding ownMid refusalOf sizeOf
   line-taken n e f =

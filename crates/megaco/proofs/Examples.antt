@@ -1,6 +1,6 @@
 -- Document 01's fourteen examples ('Proof owed'): the six lines of the session and the eight short cases that begin with `T`, one table of
 -- rows, proved by one computed test over the whole call, bytes to bytes and table to table, for any reply buffer that is long enough. Four rows more
--- stand on one, eight and sixteen lines (document 02, CR 10), and eight are audits (CR 1).
+-- stand on one, eight and sixteen lines (document 02, CR 10), eight are audits (CR 1), and four have figures in the blocks (CR 12).
 use Prim.Native.Nat.{ℕ, _≤_}
 use mathlib.Core.Path.{_≡_, refl, sym, ap, _∙_}
 use mathlib.Core.Bool.{Bool, true, false, not, _&&_, _||_}
@@ -13,18 +13,26 @@ use Rattle.base.specs.Lists.{same}
 use Rattle.base.specs.Bytes.{text, _then_}
 use Rattle.megaco.specs.Tokens.{isMid}
 use Rattle.megaco.specs.Reading.{messageR}
-use Rattle.megaco.specs.Table.{mostLines, words, sound}
+use Rattle.megaco.specs.Table.{mostLines, words}
+use Rattle.megaco.specs.Blocks.{blockWords}
 use Rattle.megaco.specs.Names.{within}
 use Rattle.megaco.specs.Reply.{headerText}
-use Rattle.megaco.specs.State.{state}
+use Rattle.megaco.specs.State.{State, state}
 use Rattle.megaco.specs.Transaction.{Ran, ran, runMessage}
-use Rattle.megaco.specs.Call.{written, replied, taken, call}
+use Rattle.megaco.specs.Call.{stateFits, written, replied, taken, call}
 use Rattle.base.proofs.TestLaws.{and-both, same-is}
 use Rattle.megaco.proofs.Opened.{opened}
 
--- the count of lines, a table, a message, the reply to it and the table after it
+-- the count of lines, a table and the blocks, a message, the reply to it, the table and the blocks after it
 pub data Row : Type 0 where
-  row : (lines : ℕ) (before message reply after : List ℕ) → Row
+  rowWith : (lines : ℕ) (before blocks message reply after blocks′ : List ℕ) → Row
+
+-- blocks of which none has had a packet
+abbrev pub noFigures : List ℕ
+noFigures = replicate blockWords 0
+
+abbrev pub row : ℕ → List ℕ → List ℕ → List ℕ → List ℕ → Row
+row n t m a u = rowWith n t noFigures m a u noFigures
 
 -- the gateway's own mId
 abbrev pub own : List ℕ
@@ -62,7 +70,7 @@ examples =
     row 8 fresh (text "!/1 [10.0.0.1] T=7{C=${A=L/1/5,A=$}}") (text "!/1 [10.0.0.9] P=7{C=1{A=L/1/5,A=R/1}}") called
     ∷ row 8 called (text "!/1 [10.0.0.1] T=8{C=1{A=L/1/5}}") (text "!/1 [10.0.0.9] P=8{C=1{A=L/1/5{ER=433{}}}}") called
     ∷ row 8 called (text "!/1 [10.0.0.1] T=9{C=${MV=L/1/5}}") (text "!/1 [10.0.0.9] P=9{C=2{MV=L/1/5}}") moved
-    ∷ row 8 moved (text "!/1 [10.0.0.1] T=10{C=1{S=*,A=L/2/1}}") (text "!/1 [10.0.0.9] P=10{C=1{S=R/1,A=L/2/1{ER=411{}}}}") alone
+    ∷ row 8 moved (text "!/1 [10.0.0.1] T=10{C=1{S=*,A=L/2/1}}") (text "!/1 [10.0.0.9] P=10{C=1{S=R/1{SA{rtp/pr=0,rtp/jit=0}},A=L/2/1{ER=411{}}}}") alone
     ∷ row 8 alone (text "!/1 [10.0.0.1] T=11{C=2{O-S=L/8/31,MF=L/1/5{M{O{MO=SR}}}}}") (text "!/1 [10.0.0.9] P=11{C=2{S=L/8/31{ER=435{}},MF=L/1/5}}") ended
     ∷ row 8 ended (text "!/1 [10.0.0.1] T=12{C=2{S=L/8/31,S=L/1/5}}") (text "!/1 [10.0.0.9] P=12{C=2{S=L/8/31{ER=435{}}}}") ended
     ∷ row 8 fresh (text "!/1 [10.0.0.1] T=1{C=5{}}") (text "!/1 [10.0.0.9] P=1{ER=403{}}") fresh
@@ -112,23 +120,38 @@ audited =
     ∷ row 8 fresh (text "!/1 [10.0.0.1] T=1{C=-{O-W-AV=*{AT{M}}}}") (text "!/1 [10.0.0.9] P=1{C=-{ER=443{}}}") fresh
     ∷ []
 
+-- ---- figures (document 02, CR 12)
+
+-- R/1 has had 7 packets and has jitter 2^35, R/2 (absent) 4294967295 and 31
+abbrev pub figured : List ℕ
+figured = set (set (set (set (set (set noFigures 0 7) 1 4294967295) 3 8) 4 4294967295) 5 9) 6 31
+
+unfoldable pub figuresTold : List Row
+figuresTold =
+    rowWith 8 moved figured (text "!/1 [10.0.0.1] T=10{C=1{S=*,A=L/2/1}}") (text "!/1 [10.0.0.9] P=10{C=1{S=R/1{SA{rtp/pr=7,rtp/jit=2147483648}},A=L/2/1{ER=411{}}}}") alone figured
+    ∷ rowWith 8 alone figured (text "!/1 [10.0.0.1] T=1{C=2{A=$,S=R/1,S=L/1/5}}") (text "!/1 [10.0.0.9] P=1{C=2{A=R/1,S=R/1{SA{rtp/pr=0,rtp/jit=0}},S=L/1/5}}") fresh (set (set (set figured 0 0) 1 0) 3 0)
+    ∷ rowWith 8 called figured (text "!/1 [10.0.0.1] T=1{C=1{A=$,O-S=R/1{M},MF=R/1,AV=R/1{AT{M}},S=R/*}}")
+    (text "!/1 [10.0.0.9] P=1{C=1{A=R/2,S=R/1{ER=447{}},MF=R/1,AV=R/1{M{TS{SI=IV},O{MO=IN}}},S=R/1{SA{rtp/pr=7,rtp/jit=2147483648}},S=R/2{SA{rtp/pr=0,rtp/jit=0}}}}") (set (set (set (set called 248 0) 624 1) 752 0) 754 0) (set (set (set figured 4 0) 5 0) 6 0)
+    ∷ rowWith 8 called figured (text "!/1 [10.0.0.1] T=1{C=1{S=R/2}}") (text "!/1 [10.0.0.9] P=1{C=1{S=R/2{ER=430{}}}}") called figured
+    ∷ []
+
 -- ---- the test of a row, and what it tells
 
--- the table and the reply of a message that is taken
-computed : List ℕ → List ℕ → List ℕ → Ran
-computed m t own = let x = runMessage (messageR m) (state t) in ran (x .state) (headerText own then x .text)
+-- the state and the reply of a message that is taken
+computed : List ℕ → State → List ℕ → Ran
+computed m st own = let x = runMessage (messageR m) st in ran (x .state) (headerText own then x .text)
 
-fits : Ran → List ℕ → List ℕ → Bool
-fits x a u = same (x .state .table) u && same (x .text) a
+fits : Ran → List ℕ → List ℕ → List ℕ → Bool
+fits x a u c = same (x .state .table) u && same (x .state .blocks) c && same (x .text) a
 
-fitting : ℕ → List ℕ → Bool
-fitting n t = within n mostLines && (eqb (length t) (words n) && sound t)
+fitting : ℕ → State → Bool
+fitting n st = within n mostLines && stateFits n st
 
-admitted : ℕ → List ℕ → List ℕ → Bool
-admitted n t m = fitting n t && not (eqb (length m) 0 || ltb 4096 (length m))
+admitted : ℕ → State → List ℕ → Bool
+admitted n st m = fitting n st && not (eqb (length m) 0 || ltb 4096 (length m))
 
 holds : Row → Bool
-holds (row n t m a u) = admitted n t m && fits (computed m t own) a u
+holds (rowWith n t b m a u c) = admitted n (state t b) m && fits (computed m (state t b) own) a u c
 
 all-hold : List Row → Bool
 all-hold [] = true
@@ -136,7 +159,7 @@ all-hold (r ∷ rs) = holds r && all-hold rs
 
 -- a call with a long enough buffer answers, writes and leaves exactly what the row says
 abbrev pub Answers : Row → Type 0
-Answers (row n t m a u) = (o : List ℕ) → 16640 ≤ length o → call n m (state t) own o ≡ written (state u) a o
+Answers (rowWith n t b m a u c) = (o : List ℕ) → 16640 ≤ length o → call n m (state t b) own o ≡ written (state u c) a o
 
 abbrev pub Hold : List Row → Type 0
 Hold [] = Unit {0}
@@ -151,26 +174,29 @@ not-true true e = sym e
 not-true false e = refl
 
 -- a call that nothing turns down
-taken-is : (n : ℕ) (m t o : List ℕ) → 16640 ≤ length o → fitting n t ≡ true → (eqb (length m) 0 || ltb 4096 (length m)) ≡ false → call n m (state t) own o ≡ taken m (state t) own o
+taken-is : (n : ℕ) (m : List ℕ) (st : State) (o : List ℕ) → 16640 ≤ length o → fitting n st ≡ true → (eqb (length m) 0 || ltb 4096 (length m)) ≡ false → call n m st own o ≡ taken m st own o
 unfolding call fitting pick
-taken-is n m t o h s e = let p = and-both (within n mostLines) (eqb (length t) (words n) && sound t) s in rw (p .0, le-ltb (length o) 16640 h, p .1, own-is, e)
+taken-is n m st o h s e = let p = and-both (within n mostLines) (stateFits n st) s in rw (p .0, le-ltb (length o) 16640 h, p .1, own-is, e)
 
-computed-is : (m t : List ℕ) → computed m t own ≡ record { state = runMessage (messageR m) (state t) .state; text = headerText own then runMessage (messageR m) (state t) .text }
+computed-is : (m : List ℕ) (st : State) → computed m st own ≡ record { state = runMessage (messageR m) st .state; text = headerText own then runMessage (messageR m) st .text }
 unfolding computed
-computed-is m t = refl
+computed-is m st = refl
 
 row-answers : (r : Row) → holds r ≡ true → Answers r
 unfolding holds admitted fits taken replied
-row-answers (row n t m a u) e =
+row-answers (rowWith n t b m a u c) e =
     λ o h.
-    let p = and-both (admitted n t m) (fits (computed m t own) a u) e in
-    let q = and-both (fitting n t) (not (eqb (length m) 0 || ltb 4096 (length m))) (p .0) in
-    let r = and-both (same (computed m t own .state .table) u) (same (computed m t own .text) a) (p .1) in
-    let x : computed m t own .state .table ≡ u = same-is (computed m t own .state .table) u (r .0) in
-    let y : computed m t own .text ≡ a = same-is (computed m t own .text) a (r .1) in
-    taken-is n m t o h (q .0) (not-true _ (q .1))
-    ∙ ap (λ (z : Ran). written (z .state) (z .text) o) (sym (computed-is m t))
-    ∙ (λ i. written (state (x i)) (y i) o)
+    let st = state t b in
+    let p = and-both (admitted n st m) (fits (computed m st own) a u c) e in
+    let q = and-both (fitting n st) (not (eqb (length m) 0 || ltb 4096 (length m))) (p .0) in
+    let r = and-both (same (computed m st own .state .table) u && same (computed m st own .state .blocks) c) (same (computed m st own .text) a) (p .1) in
+    let s = and-both (same (computed m st own .state .table) u) (same (computed m st own .state .blocks) c) (r .0) in
+    let x : computed m st own .state .table ≡ u = same-is (computed m st own .state .table) u (s .0) in
+    let z : computed m st own .state .blocks ≡ c = same-is (computed m st own .state .blocks) c (s .1) in
+    let y : computed m st own .text ≡ a = same-is (computed m st own .text) a (r .1) in
+    taken-is n m st o h (q .0) (not-true _ (q .1))
+    ∙ ap (λ (z : Ran). written (z .state) (z .text) o) (sym (computed-is m st))
+    ∙ (λ i. written (state (x i) (z i)) (y i) o)
 
 rows-answer : (rs : List Row) → all-hold rs ≡ true → Hold rs
 unfolding all-hold
@@ -209,3 +235,12 @@ audited-compute = refl
 pub audited-hold : Hold audited
 unfolding audited
 audited-hold = rows-answer audited audited-compute
+
+-- figures
+figures-compute : all-hold figuresTold ≡ true
+unfolding figuresTold all-hold holds admitted fitting fits computed opened
+figures-compute = refl
+
+pub figures-hold : Hold figuresTold
+unfolding figuresTold
+figures-hold = rows-answer figuresTold figures-compute

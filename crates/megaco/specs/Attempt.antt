@@ -1,15 +1,16 @@
 -- One attempt of a command (document 01, 'Running'): it takes a small view of the table, is judged by it alone (tests 5 and 6), and then writes
 -- a few words. `elim [ case ↦ result | .. ]` goes by cases, on one line.
-use Prim.Native.Nat.{ℕ, _+_, _*_}
+use Prim.Native.Nat.{ℕ, _+_, _*_, _-_}
 use mathlib.Core.Bool.{Bool, true, false, not, _&&_, _||_}
 use mathlib.Core.List.{List, [], _∷_}
 use lib.Dec.{leb, eqb}
 use Rattle.base.specs.Pick.{pick}
-use Rattle.megaco.specs.Table.{prop, rec, used, flow, speech, lowFlow, highFlow, speechWord, placeIn, ctx, cell, Write, write, get, most, fitted, isEphemeral, known, members, freeContext, modeOf, stateOf}
+use Rattle.megaco.specs.Table.{prop, rec, used, flow, speech, lowFlow, highFlow, speechWord, placeIn, ctx, cell, Write, write, get, most, lineTerminations, fitted, isEphemeral, known, members, freeContext, modeOf, stateOf}
+use Rattle.megaco.specs.Blocks.{reported}
 use Rattle.megaco.specs.Names.{nameText}
 use Rattle.megaco.specs.Square.{Square, squareOf, lowOf, highOf, joined, parted}
 use Rattle.megaco.specs.Items.{update}
-use Rattle.megaco.specs.Reply.{Detail, nothing, media, Report, done, refused}
+use Rattle.megaco.specs.Reply.{Detail, nothing, media, statistics, Report, done, refused}
 use Rattle.megaco.specs.declared.Context.{Context}
 use Rattle.megaco.specs.declared.Context.the-variants.{Null, Numbered, Choose, All}
 use Rattle.megaco.specs.declared.Op.{Op}
@@ -21,6 +22,7 @@ use Rattle.megaco.specs.declared.Speech.the-variants.{Kept, Released, Se
 use Rattle.megaco.specs.declared.Values.{Values}
 use Rattle.megaco.specs.declared.Seen.{Seen}
 use Rattle.megaco.specs.declared.View.{View}
+use Rattle.megaco.specs.declared.Block.{Block}
 
 -- ---- tests: a flag, and the code to give where it is up; the first that is up decides
 pub data Check : Type 0 where
@@ -145,14 +147,19 @@ changes Subtract at given i vs v = leaving v (marking (v .lines) i 0 (forgetting
 changes Move at given i vs v = leaving v (joining at given v (spoken i vs (placed i (target at v) (update vs (v .word)))))
 changes AuditValue at given i vs v = []
 
+-- the blocks that it sets to zero: "a new ephemeral starts at zero; no message changes a block otherwise"
+unfoldable pub renews : Op → ℕ → ℕ → List ℕ
+renews op n i = elim op [ Add ↦ pick (isEphemeral n i) ((i - lineTerminations n) ∷ []) [] | Modify ↦ [] | Subtract ↦ [] | Move ↦ [] | AuditValue ↦ [] ]
+
 -- `$` "becomes .. the lowest number absent before that attempt, and stays that number for the rest of the action"
 unfoldable pub settled : Context → View → Context
 settled at v = pick (isChoose at) (Numbered (v .free)) at
 
 -- ---- what it reports
--- what an attempt writes and reports, and the action's context after it
+-- what an attempt writes, the blocks that it sets to zero, what it reports, and the action's context after it
 pub record Effect : Type 0 where
   pub writes : List Write
+  pub blocks : List ℕ
   pub report : Report
   pub at : Context
   pub good : Bool
@@ -161,12 +168,18 @@ pub record Effect : Type 0 where
 unfoldable pub detailOf : Bool → ℕ → Detail
 detailOf audited word = pick audited (media (stateOf word) (modeOf word)) nothing
 
--- "A success, and an attempt of a wildcard, bears the full name with capital letters; other failures the bytes received"
-unfoldable pub concluded : Op → Bool → List ℕ → ℕ → Values → ℕ → Context → View → Checked → Effect
-concluded op wild name given vs i at v Passes =
-    record { writes = changes op at given i vs v; report = done op (nameText (v .lines) i) (detailOf (vs .audited) (v .word)); at = settled at v; good = true }
-concluded op wild name given vs i at v (Fails code) =
-    record { writes = []; report = refused op (pick wild (nameText (v .lines) i) name) code; at = at; good = false }
+-- "Subtract of an ephemeral returns `S=R/1{SA{rtp/pr=n,rtp/jit=n}}`", the figures of its block x
+unfoldable pub toldOf : Op → Bool → ℕ → ℕ → ℕ → Block → Detail
+toldOf op audited word n i x =
+    elim op [ Add ↦ detailOf audited word | Modify ↦ detailOf audited word | Subtract ↦ pick (isEphemeral n i) (statistics (x .packets) (reported x)) (detailOf audited word) | Move ↦ detailOf audited word | AuditValue ↦ detailOf audited word ]
 
-unfoldable pub effect : Op → Bool → List ℕ → ℕ → Values → ℕ → Context → View → Effect
-effect op wild name given vs i at v = concluded op wild name given vs i at v (judge (checks op at i vs v))
+-- "A success, and an attempt of a wildcard, bears the full name with capital letters; other failures the bytes received"
+unfoldable pub concluded : Op → Bool → List ℕ → ℕ → Values → ℕ → Context → View → Block → Checked → Effect
+concluded op wild name given vs i at v x Passes =
+    record { writes = changes op at given i vs v; blocks = renews op (v .lines) i; report = done op (nameText (v .lines) i) (toldOf op (vs .audited) (v .word) (v .lines) i x); at = settled at v; good = true }
+concluded op wild name given vs i at v x (Fails code) =
+    record { writes = []; blocks = []; report = refused op (pick wild (nameText (v .lines) i) name) code; at = at; good = false }
+
+-- by the view and the block of termination i
+unfoldable pub effect : Op → Bool → List ℕ → ℕ → Values → ℕ → Context → View → Block → Effect
+effect op wild name given vs i at v x = concluded op wild name given vs i at v x (judge (checks op at i vs v))

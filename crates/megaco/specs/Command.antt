@@ -10,7 +10,8 @@ use Rattle.megaco.specs.Keywords.{spells}
 use Rattle.megaco.specs.declared.Token.the-variants.{AddToken, ModifyToken, SubtractToken, MoveToken, AuditValueToken}
 use Rattle.megaco.specs.Tree.{Items, Command, command}
 use Rattle.megaco.specs.Table.{ctx, get, lineTerminations, fitted, contextWords, exists, freeEphemeral}
-use Rattle.megaco.specs.State.{State, wrote}
+use Rattle.megaco.specs.Blocks.{blockAt}
+use Rattle.megaco.specs.State.{State, wrote, renewed}
 use Rattle.megaco.specs.Names.{inRange, nameOf}
 use Rattle.megaco.specs.Items.{judgeItems, given?}
 use Rattle.megaco.specs.Reply.{nothing, Report, done, refused, failed}
@@ -131,8 +132,8 @@ targetsOf op at items Unknown t = noTarget 430
 unfoldable pub attempts : Op → Bool → List ℕ → ℕ → Values → List ℕ → Context → State → Outcome
 attempts op wild name given vs [] at st = outcome st [] at true
 attempts op wild name given vs (i ∷ is) at st =
-    let e = effect op wild name given vs i at (look at i (st .table)) in
-    let r = attempts op wild name given vs is (e .at) (wrote (e .writes) st) in
+    let e = effect op wild name given vs i at (look at i (st .table)) (blockAt (i - lineTerminations (fitted (st .table))) (st .blocks)) in
+    let r = attempts op wild name given vs is (e .at) (renewed (e .blocks) (wrote (e .writes) st)) in
     outcome (r .state) (e .report ∷ r .reports) (r .at) (e .good && r .going)
 
 -- tests 5 and 6, for each that the name means

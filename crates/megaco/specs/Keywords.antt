@@ -9,12 +9,12 @@ use Rattle.base.specs.Lists.{same}
 use Rattle.base.specs.Bytes.{text}
 use Rattle.megaco.specs.Bytes.{capitals}
 use Rattle.megaco.specs.declared.Token.{Token}
-use Rattle.megaco.specs.declared.Token.the-variants.{AddToken, AuditToken, AuditValueToken, BothwayToken, CtxToken, EmergencyToken, ErrorToken, InactiveToken, IsolateToken, InSvcToken, LocalToken, LocalControlToken, LoopbackToken, MediaToken, MegacopToken, ModeToken, ModifyToken, MoveToken, OnewayToken, OutOfSvcToken, PriorityToken, RecvonlyToken, RemoteToken, ReplyToken, SendonlyToken, SendrecvToken, ServiceStatesToken, SubtractToken, TerminationStateToken, TestToken, TopologyToken, TransToken}
+use Rattle.megaco.specs.declared.Token.the-variants.{AddToken, AuditToken, AuditValueToken, BothwayToken, CtxToken, EmergencyToken, ErrorToken, InactiveToken, IsolateToken, InSvcToken, LocalToken, LocalControlToken, LoopbackToken, MediaToken, MegacopToken, ModeToken, ModifyToken, MoveToken, OnewayToken, OutOfSvcToken, PriorityToken, RecvonlyToken, RemoteToken, ReplyToken, SendonlyToken, SendrecvToken, ServiceStatesToken, StatsToken, SubtractToken, TerminationStateToken, TestToken, TopologyToken, TransToken}
 
 pub data Row : Type 0 where
   row : (meaning : Token) (long short : List ℕ) → Row
 
--- Reply/P and Error/ER are written only, in their short form: see Reply
+-- Reply/P, Error/ER and Statistics/SA are written only, in their short form: see Reply
 abbrev pub page : List Row
 page =
     row AddToken (text "ADD") (text "A")
@@ -44,6 +44,7 @@ page =
     ∷ row SendonlyToken (text "SENDONLY") (text "SO")
     ∷ row SendrecvToken (text "SENDRECEIVE") (text "SR")
     ∷ row ServiceStatesToken (text "SERVICESTATES") (text "SI")
+    ∷ row StatsToken (text "STATISTICS") (text "SA")
     ∷ row SubtractToken (text "SUBTRACT") (text "S")
     ∷ row TerminationStateToken (text "TERMINATIONSTATE") (text "TS")
     ∷ row TestToken (text "TEST") (text "TE")
@@ -87,6 +88,7 @@ numberOf OnewayToken = 28
 numberOf TopologyToken = 29
 numberOf LocalToken = 30
 numberOf RemoteToken = 31
+numberOf StatsToken = 32
 
 unfoldable pub isToken : Token → Token → Bool
 isToken j k = eqb (numberOf j) (numberOf k)

@@ -53,6 +53,7 @@ pub enum Token {
     SendonlyToken,
     SendrecvToken,
     ServiceStatesToken,
+    StatsToken,
     SubtractToken,
     TerminationStateToken,
     TestToken,
@@ -274,6 +275,13 @@ pub struct Seen {
     pub members: usize,
     pub low: u32,
     pub high: u32,
+}
+
+// The figures of an ephemeral, its block: packets received, the transit of the last one, the jitter in sixteenths.
+pub struct Block {
+    pub packets: u32,
+    pub transit: u32,
+    pub jitter: u64,
 }
 
 // What an attempt sees: where the termination stands, its property word, the action's context, the context that it stands in, and

@@ -3,7 +3,7 @@ ghost use mathlib.Core.Path.{_≡_};
 ghost use Prim.Native.Nat.{_<_};
 ghost use Rattle.base.specs.Out.{Appended};
 ghost use Rattle.megaco.specs.Names.{nameText};
-ghost use Rattle.megaco.specs.Reply.{media, failed, standing, opText, errorText, triedText, codeText, reportText, stateText, modeText, serviceStates, localControl, descriptors, detailText, separator};
+ghost use Rattle.megaco.specs.Reply.{media, statistics, failed, standing, opText, errorText, triedText, codeText, reportText, stateText, modeText, serviceStates, localControl, descriptors, packetsText, jitterText, figures, detailText, separator};
 ghost use Rattle.megaco.specs.Attempt.{detailOf};
 ghost use Rattle.report.specs.Rows.{emergencyText};
 use megaco::Op;
@@ -139,6 +139,39 @@ fn put_media(out: &mut [u8], at: usize, state: u32, mode: u32) -> usize
 {
     let p = writer::put_bytes(out, at, b"{M{");
     let q = put_descriptors(out, p, state, mode);
+    writer::put_bytes(out, q, b"}}")
+}
+
+// The packets received.
+fn put_packets(out: &mut [u8], at: usize, packets: u32) -> usize
+    ensures { λ r. ⌜ Appended (now (out .entry)) at (packetsText packets) (now (out .exit)) r ⌝ }
+{
+    let p = writer::put_bytes(out, at, b"rtp/pr=");
+    writer::put_decimal(out, p, packets)
+}
+
+// The jitter.
+fn put_jitter(out: &mut [u8], at: usize, jitter: u64) -> usize
+    ensures { λ r. ⌜ Appended (now (out .entry)) at (jitterText jitter) (now (out .exit)) r ⌝ }
+{
+    let p = writer::put_bytes(out, at, b"rtp/jit=");
+    writer::put_count(out, p, jitter as usize)
+}
+
+fn put_figures(out: &mut [u8], at: usize, packets: u32, jitter: u64) -> usize
+    ensures { λ r. ⌜ Appended (now (out .entry)) at (figures packets jitter) (now (out .exit)) r ⌝ }
+{
+    let p = put_packets(out, at, packets);
+    let q = writer::put_byte(out, p, b',');
+    put_jitter(out, q, jitter)
+}
+
+// Statistics: the figures of an ephemeral.
+pub fn put_statistics(out: &mut [u8], at: usize, packets: u32, jitter: u64) -> usize
+    ensures { λ r. ⌜ Appended (now (out .entry)) at (detailText (statistics packets jitter)) (now (out .exit)) r ⌝ }
+{
+    let p = writer::put_bytes(out, at, b"{SA{");
+    let q = put_figures(out, p, packets, jitter);
     writer::put_bytes(out, q, b"}}")
 }
 

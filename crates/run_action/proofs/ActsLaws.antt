@@ -149,8 +149,8 @@ action-sound a t h =
     one true g = ap (λ (r : Ran). r .state) (acts-on a [] true t g) ∙ ap (λ (r : Ran). r .state) (no-actions false (runAction a t .state))
     one false g = ap (λ (r : Ran). r .state) (acts-end a [] true t g)
 
-pub acts-sound : (a : Action) (f : Bool) (t o₁ : List ℕ) (p : ℕ) (t₂ o₂ : List ℕ) (m : RanAction) → ActionRunsTo (runAction a (state t)) f o₁ p (state t₂) o₂ m → sound t ≡ true → sound t₂ ≡ true
-acts-sound a f t o₁ p t₂ o₂ m d h = subst (λ (u : State). sound (u .table) ≡ true) (sym (d .state)) (action-sound a (state t) h)
+pub acts-sound : (a : Action) (f : Bool) (t bs o₁ : List ℕ) (p : ℕ) (t₂ bs₂ o₂ : List ℕ) (m : RanAction) → ActionRunsTo (runAction a (state t bs)) f o₁ p (state t₂ bs₂) o₂ m → sound t ≡ true → sound t₂ ≡ true
+acts-sound a f t bs o₁ p t₂ bs₂ o₂ m d h = subst (λ (u : State). sound (u .table) ≡ true) (sym (d .state)) (action-sound a (state t bs) h)
 
 module _ (x : Ran) (o : List ℕ) (p₀ : ℕ) (s : List ℕ) (k i : ℕ) (f : Bool) (t : State) (o₁ : List ℕ) (p : ℕ)
     (l : Leads x o p₀ (runActions (listP (actionAt s) s k i .tree) f t) o₁ p) where

@@ -53,19 +53,19 @@ alone-is s r = by (r .commands)
     by false = ap noCommands (left-out false (commandsAt s (r .at) .tree) [] refl) ∙ (unfold noCommands in refl)
 
 -- an action by what its start is judged
-module _ (c : Context) (ps : List Property) (cs : List Command) (t : List ℕ) where
+module _ (c : Context) (ps : List Property) (cs : List Command) (t bs : List ℕ) where
   -- the triples with their names looked up
   abbrev links : List Link
   links = linksOf (numberOf c) t (triplesOf ps)
 
   action-refused : (code : ℕ) → judge (startChecks c ps (noCommands cs) (seen (numberOf c) t) links) ≡ Fails code
-      → runAction (action c ps cs) (state t) ≡ outcome (state t) (failed code ∷ []) c false
+      → runAction (action c ps cs) (state t bs) ≡ outcome (state t bs) (failed code ∷ []) c false
   unfolding runAction started startedBy afterStart heldAt apply pick
   action-refused code e = rw e
 
   action-done : judge (startChecks c ps (noCommands cs) (seen (numberOf c) t) links) ≡ Passes
-      → runAction (action c ps cs) (state t)
-      ≡ (let x = runCommands cs (setProperties ps newRecord) c (state (apply (startWrites c ps (seen (numberOf c) t) links) t)) in
+      → runAction (action c ps cs) (state t bs)
+      ≡ (let x = runCommands cs (setProperties ps newRecord) c (state (apply (startWrites c ps (seen (numberOf c) t) links) t) bs) in
       outcome (x .state) (startReports ps (noCommands cs) (heldAt c t) ++ x .reports) (x .at) (x .going))
   unfolding runAction started startedBy afterStart heldAt pick
   action-done e = rw e
@@ -82,7 +82,7 @@ reports-none : (ps : List Property) (held : ℕ) → startReports ps false held 
 unfolding startReports pick
 reports-none ps held = refl
 
-module _ (s : List ℕ) (c : Context) (body : ℕ) (rest : Rest) (t o : List ℕ) (held : ℕ) (any : Bool) (g : PropertiesRead) (d : Tested) (e : held ≡ heldAt c t)
+module _ (s : List ℕ) (c : Context) (body : ℕ) (rest : Rest) (t bs o : List ℕ) (held : ℕ) (any : Bool) (g : PropertiesRead) (d : Tested) (e : held ≡ heldAt c t)
     (f : any ≡ isProperty (wordHere s body)) (h : g ≡ givenBy (propertiesIn s body) held) (k : Tests (propertiesIn s body) c t any (g .over) (not (rest .commands)) held d) where
   abbrev ps : List Property
   ps = propertiesIn s body
@@ -110,9 +110,9 @@ module _ (s : List ℕ) (c : Context) (body : ℕ) (rest : Rest) (t o : List ℕ
   starts = record { given = g .fresh; at = c; first = true; next = 0 }
 
   -- an action error
-  pub inner-fails : (code : ℕ) (o′ : List ℕ) (w : CommandOutcome) → x ≡ Fails code → Failed code starts o o′ w → RunsTo (runAction (action c ps cs) (state t)) true o 0 (state t) o′ w
+  pub inner-fails : (code : ℕ) (o′ : List ℕ) (w : CommandOutcome) → x ≡ Fails code → Failed code starts o o′ w → RunsTo (runAction (action c ps cs) (state t bs)) true o 0 (state t bs) o′ w
   inner-fails code o′ w z a =
-      rw (action-refused c ps cs t code (sym tests-are ∙ z)) (record { state = refl; text = a .text; place = a .place; going = a .going })
+      rw (action-refused c ps cs t bs code (sym tests-are ∙ z)) (record { state = refl; text = a .text; place = a .place; going = a .going })
 
   passed : x ≡ Passes → judge (startChecks c ps (noCommands cs) (seen (numberOf c) t) ls) ≡ Passes
   passed z = sym tests-are ∙ z
@@ -130,26 +130,26 @@ module _ (s : List ℕ) (c : Context) (body : ℕ) (rest : Rest) (t o : List ℕ
 
   -- commands follow
   pub inner-commands : (u : List ℕ) (t′ : State) (o′ : List ℕ) (w : CommandOutcome) → x ≡ Passes → u ≡ apply (wroteStart c any (d .topology) (g .held) (flowsAfter (propertiesIn s body) (numberOf c) t)) t → rest .commands ≡ true
-      → RunsTo (runCommands (commandsAt s (rest .at) .tree) (g .fresh) c (state u)) true o 0 t′ o′ w → RunsTo (runAction (action c ps cs) (state t)) true o 0 t′ o′ w
+      → RunsTo (runCommands (commandsAt s (rest .at) .tree) (g .fresh) c (state u bs)) true o 0 t′ o′ w → RunsTo (runAction (action c ps cs) (state t bs)) true o 0 t′ o′ w
   inner-commands u t′ o′ w z q b w′ =
       let l : cs ≡ commandsAt s (rest .at) .tree = (unfold commandsIn in picked (rest .commands) (commandsAt s (rest .at) .tree) [] b) in
       let r : startReports ps (noCommands cs) (heldAt c t) ≡ [] = ap (λ (x : Bool). startReports ps x (heldAt c t)) (alone-is s rest ∙ ap not b) ∙ reports-none ps (heldAt c t) in
-      let a : Outcome = runCommands (commandsAt s (rest .at) .tree) (g .fresh) c (state u) in
-      let y : Outcome = runCommands cs (setProperties ps newRecord) c (state (apply (startWrites c ps (seen (numberOf c) t) ls) t)) in
-      let m : a ≡ y = λ i. runCommands (sym l i) (given-fresh ps held g h (small z) i) c (state (wrote u z q i)) in
-      rw (action-done c ps cs t (passed z), r) (subst (λ (v : Outcome). RunsTo (outcome (v .state) (v .reports) (v .at) (v .going)) true o 0 t′ o′ w) m w′)
+      let a : Outcome = runCommands (commandsAt s (rest .at) .tree) (g .fresh) c (state u bs) in
+      let y : Outcome = runCommands cs (setProperties ps newRecord) c (state (apply (startWrites c ps (seen (numberOf c) t) ls) t) bs) in
+      let m : a ≡ y = λ i. runCommands (sym l i) (given-fresh ps held g h (small z) i) c (state (wrote u z q i) bs) in
+      rw (action-done c ps cs t bs (passed z), r) (subst (λ (v : Outcome). RunsTo (outcome (v .state) (v .reports) (v .at) (v .going)) true o 0 t′ o′ w) m w′)
 
   -- properties alone
   pub inner-alone : (u o′ : List ℕ) (n : ℕ) → x ≡ Passes → u ≡ apply (wroteStart c any (d .topology) (g .held) (flowsAfter (propertiesIn s body) (numberOf c) t)) t → rest .commands ≡ false
-      → Appended o 0 (reportsText true (standing (g .held) ∷ [])) o′ n → RunsTo (runAction (action c ps cs) (state t)) true o 0 (state u) o′ (commandOutcome n c true)
+      → Appended o 0 (reportsText true (standing (g .held) ∷ [])) o′ n → RunsTo (runAction (action c ps cs) (state t bs)) true o 0 (state u bs) o′ (commandOutcome n c true)
   inner-alone u o′ n z q b a =
       let l : cs ≡ [] = (unfold commandsIn in left-out (rest .commands) (commandsAt s (rest .at) .tree) [] b) in
       let r : startReports ps (noCommands cs) (heldAt c t) ≡ standing (setProperties ps (heldAt c t)) ∷ [] =
       ap (λ (x : Bool). startReports ps x (heldAt c t)) (alone-is s rest ∙ ap not b) ∙ reports-alone ps (heldAt c t) in
-      let y : runCommands cs (setProperties ps newRecord) c (state (apply (startWrites c ps (seen (numberOf c) t) ls) t)) ≡ outcome (state (apply (startWrites c ps (seen (numberOf c) t) ls) t)) [] c true =
-      ap (λ (x : List Command). runCommands x (setProperties ps newRecord) c (state (apply (startWrites c ps (seen (numberOf c) t) ls) t))) l ∙ no-runs (setProperties ps newRecord) c (state (apply (startWrites c ps (seen (numberOf c) t) ls) t)) in
+      let y : runCommands cs (setProperties ps newRecord) c (state (apply (startWrites c ps (seen (numberOf c) t) ls) t) bs) ≡ outcome (state (apply (startWrites c ps (seen (numberOf c) t) ls) t) bs) [] c true =
+      ap (λ (x : List Command). runCommands x (setProperties ps newRecord) c (state (apply (startWrites c ps (seen (numberOf c) t) ls) t) bs)) l ∙ no-runs (setProperties ps newRecord) c (state (apply (startWrites c ps (seen (numberOf c) t) ls) t) bs) in
       let v : g .held ≡ setProperties ps (heldAt c t) = given-held ps held g h (small z) ∙ ap (setProperties ps) e in
-      rw (action-done c ps cs t (passed z), y, r) (record { state = ap state (wrote u z q); text = rw (← v) a; place = refl; going = refl })
+      rw (action-done c ps cs t bs (passed z), y, r) (record { state = ap (λ (y : List ℕ). state y bs) (wrote u z q); text = rw (← v) a; place = refl; going = refl })
 
 -- where an action's body ends
 pub body-of-commands : (s : List ℕ) (r : Rest) (e : ℕ) → r .commands ≡ true → e ≡ commandsAt s (r .at) .end → e ≡ bodyEnd s r

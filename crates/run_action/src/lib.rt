@@ -38,15 +38,22 @@ pub struct RanPart {
 }
 
 // The commands of an action, in order, until one stops the transaction.
-fn run_commands(s: &[u8], from: usize, turn: Turn, table: &mut [u32], out: &mut [u8]) -> RanCommand
+fn run_commands(
+    s: &[u8],
+    from: usize,
+    turn: Turn,
+    table: &mut [u32],
+    blocks: &mut [u32],
+    out: &mut [u8],
+) -> RanCommand
     requires { ⌜ Sized (now table) ⌝ }
-    ensures { λ r. ⌜ RunsTo (runCommands (commandsAt (now (s .entry)) from .tree) (turn .given) (turn .at) (state (now (table .entry)))) (turn .first) (now (out .entry)) (turn .next) (state (now (table .exit))) (now (out .exit)) (r .outcome) × (r .end ≡ commandsAt (now (s .entry)) from .end) ⌝ }
+    ensures { λ r. ⌜ RunsTo (runCommands (commandsAt (now (s .entry)) from .tree) (turn .given) (turn .at) (state (now (table .entry)) (now (blocks .entry)))) (turn .first) (now (out .entry)) (turn .next) (state (now (table .exit)) (now (blocks .exit))) (now (out .exit)) (r .outcome) × (r .end ≡ commandsAt (now (s .entry)) from .end) ⌝ }
 {
     let mut i = from;
     let mut left: usize = 64;
     let mut here = turn;
     while 0 < left {
-        let x = run_command::run_command(s, i, here, table, out);
+        let x = run_command::run_command(s, i, here, table, blocks, out);
         let w = x.outcome;
         let e = x.end;
         let going = w.going;
@@ -88,10 +95,11 @@ fn run_inner(
     body: usize,
     rest: Rest,
     table: &mut [u32],
+    blocks: &mut [u32],
     out: &mut [u8],
 ) -> RanCommand
     requires { ⌜ (Sized (now table)) × (heldAt c (now table) ≤ 32) ⌝ }
-    ensures { λ r. ⌜ RunsTo (runAction (action c (propertiesIn (now (s .entry)) body) (commandsIn (now (s .entry)) rest)) (state (now (table .entry)))) true (now (out .entry)) 0 (state (now (table .exit))) (now (out .exit)) (r .outcome) × (r .end ≡ bodyEnd (now (s .entry)) rest) ⌝ }
+    ensures { λ r. ⌜ RunsTo (runAction (action c (propertiesIn (now (s .entry)) body) (commandsIn (now (s .entry)) rest)) (state (now (table .entry)) (now (blocks .entry)))) true (now (out .entry)) 0 (state (now (table .exit)) (now (blocks .exit))) (now (out .exit)) (r .outcome) × (r .end ≡ bodyEnd (now (s .entry)) rest) ⌝ }
 {
     let held = command_tests::held_at(table, c);
     let any = read_action::property_here(s, body);
@@ -110,7 +118,7 @@ fn run_inner(
             start_action::start_write(s, body, table, c, any, tested.topology, g.held);
             if follow {
                 let from = rest.at;
-                return run_commands(s, from, turn, table, out);
+                return run_commands(s, from, turn, table, blocks, out);
             }
             let n = put_alone(out, g.held);
             let w = CommandOutcome {
@@ -165,18 +173,19 @@ fn run_action(
     i: usize,
     first: bool,
     table: &mut [u32],
+    blocks: &mut [u32],
     out: &mut [u8],
     p: usize,
 ) -> RanAction
     requires { ⌜ (sound (now table) ≡ true) × (length (now out) ≤ 2049) ⌝ }
-    ensures { λ r. ⌜ ActionRunsTo (runAction (actionAt (now (s .entry)) i .tree) (state (now (table .entry)))) first (now (out .entry)) p (state (now (table .exit))) (now (out .exit)) r × (r .end ≡ actionAt (now (s .entry)) i .end) ⌝ }
+    ensures { λ r. ⌜ ActionRunsTo (runAction (actionAt (now (s .entry)) i .tree) (state (now (table .entry)) (now (blocks .entry)))) first (now (out .entry)) p (state (now (table .exit)) (now (blocks .exit))) (now (out .exit)) r × (r .end ≡ actionAt (now (s .entry)) i .end) ⌝ }
 {
     let a = action_places::action_places(s, i);
     let c = a.context;
     let body = a.body;
     let rest = action_places::rest_of(s, body);
     let mut inner = [0u8; TRANSACTION_ROOM];
-    let x = run_inner(s, c, body, rest, table, &mut inner);
+    let x = run_inner(s, c, body, rest, table, blocks, &mut inner);
     let w = x.outcome;
     let at = w.at;
     let n = w.next;
@@ -190,16 +199,23 @@ fn run_action(
 }
 
 // The actions of a transaction, in order, until one stops it.
-pub fn run_actions(s: &[u8], from: usize, table: &mut [u32], out: &mut [u8], p: usize) -> RanPart
+pub fn run_actions(
+    s: &[u8],
+    from: usize,
+    table: &mut [u32],
+    blocks: &mut [u32],
+    out: &mut [u8],
+    p: usize,
+) -> RanPart
     requires { ⌜ (sound (now table) ≡ true) × (length (now out) ≤ 2049) ⌝ }
-    ensures { λ r. ⌜ Wrote (runActions (actionsAt (now (s .entry)) from .tree) true (state (now (table .entry)))) (now (out .entry)) p (state (now (table .exit))) (now (out .exit)) (r .next) × (r .end ≡ actionsAt (now (s .entry)) from .end) ⌝ }
+    ensures { λ r. ⌜ Wrote (runActions (actionsAt (now (s .entry)) from .tree) true (state (now (table .entry)) (now (blocks .entry)))) (now (out .entry)) p (state (now (table .exit)) (now (blocks .exit))) (now (out .exit)) (r .next) × (r .end ≡ actionsAt (now (s .entry)) from .end) ⌝ }
 {
     let mut i = from;
     let mut left: usize = 16;
     let mut q = p;
     let mut f = true;
     while 0 < left {
-        let m = run_action(s, i, f, table, out, q);
+        let m = run_action(s, i, f, table, blocks, out, q);
         let going = m.going;
         let e = m.end;
         if going {

@@ -2,14 +2,16 @@
 ghost use mathlib.Core.Path.{_≡_};
 ghost use mathlib.Core.Bool.{true, false};
 ghost use mathlib.Core.List.{[], _∷_};
-ghost use Prim.Native.Nat.{_<_};
+ghost use Prim.Native.Nat.{_-_, _<_};
 ghost use lib.ListN.{take};
 ghost use Rattle.base.specs.Out.{Appended};
-ghost use Rattle.megaco.specs.Table.{Sized};
+ghost use Rattle.megaco.specs.Table.{lineTerminations, Sized};
+ghost use Rattle.megaco.specs.Blocks.{blockAt};
 ghost use Rattle.megaco.specs.State.{state};
 ghost use Rattle.megaco.specs.Names.{nameText};
 ghost use Rattle.base.specs.Bytes.{_then_};
-ghost use Rattle.megaco.specs.Reply.{refused, triedText, separator, reportsText};
+ghost use Rattle.megaco.specs.Reply.{done, refused, triedText, detailText, separator, reportsText};
+ghost use Rattle.megaco.specs.Attempt.{toldOf};
 ghost use Rattle.megaco.specs.Command.{attempts, runTargets};
 ghost use Rattle.protocol.specs.Ranges.{InRange};
 ghost use Rattle.targets.specs.Targets.{targetsIn};
@@ -56,6 +58,45 @@ fn put_full(out: &mut [u8], turn: Turn, op: Op, lines: u32, i: usize) -> usize
 {
     let q = report::put_separator(out, turn.next, turn.first);
     report::put_named(out, q, op, lines, i)
+}
+
+// What a success tells behind the name: of a Subtract of an ephemeral its figures.
+fn put_told(
+    out: &mut [u8],
+    at: usize,
+    op: Op,
+    audited: bool,
+    word: u32,
+    lines: u32,
+    i: usize,
+    blocks: &[u32],
+) -> usize
+    ensures { λ r. ⌜ Appended (now (out .entry)) at (detailText (toldOf op audited word lines i (blockAt (i - lineTerminations lines) (now (blocks .entry))))) (now (out .exit)) r ⌝ }
+{
+    let first = table::line_terminations(lines);
+    if op.is_subtract() & (first <= i) {
+        let x = statistics::block_at(blocks, i - first);
+        return report::put_statistics(out, at, x.packets, statistics::reported(x));
+    }
+    report::put_detail(out, at, audited, word)
+}
+
+// The report of an attempt that is done.
+fn put_done(
+    out: &mut [u8],
+    turn: Turn,
+    op: Op,
+    audited: bool,
+    word: u32,
+    lines: u32,
+    i: usize,
+    blocks: &[u32],
+) -> usize
+    requires { ⌜ 0 < lines ⌝ }
+    ensures { λ r. ⌜ Appended (now (out .entry)) (turn .next) (reportsText (turn .first) (done op (nameText lines i) (toldOf op audited word lines i (blockAt (i - lineTerminations lines) (now (blocks .entry)))) ∷ [])) (now (out .exit)) r ⌝ }
+{
+    let p = put_full(out, turn, op, lines, i);
+    put_told(out, p, op, audited, word, lines, i, blocks)
 }
 
 // The report of an attempt that failed: a wildcard's bears the full name, another the bytes received.
@@ -105,10 +146,11 @@ fn try_one(
     i: usize,
     turn: Turn,
     table: &mut [u32],
+    blocks: &mut [u32],
     out: &mut [u8],
 ) -> CommandOutcome
     requires { ⌜ (Sized (now table)) × InRange values ⌝ }
-    ensures { λ r. ⌜ RunsTo (attempts op wild (now (name .entry)) (turn .given) values (i ∷ []) (turn .at) (state (now (table .entry)))) (turn .first) (now (out .entry)) (turn .next) (state (now (table .exit))) (now (out .exit)) r ⌝ }
+    ensures { λ r. ⌜ RunsTo (attempts op wild (now (name .entry)) (turn .given) values (i ∷ []) (turn .at) (state (now (table .entry)) (now (blocks .entry)))) (turn .first) (now (out .entry)) (turn .next) (state (now (table .exit)) (now (blocks .exit))) (now (out .exit)) r ⌝ }
 {
     let at = turn.at;
     let view = attempt_view::look(table, at, i);
@@ -116,8 +158,17 @@ fn try_one(
     match checked {
         Checked::Passes => {
             attempt::change(table, op, at, turn.given, i, values, view);
-            let p = put_full(out, turn, op, view.lines, i);
-            let n = report::put_detail(out, p, values.audited, view.word);
+            let n = put_done(
+                out,
+                turn,
+                op,
+                values.audited,
+                view.word,
+                view.lines,
+                i,
+                blocks,
+            );
+            statistics::renew(blocks, op, view.lines, i);
             let c = attempt::settled(at, view);
             CommandOutcome {
                 next: n,
@@ -150,16 +201,27 @@ fn try_each(
     matched: &[u32],
     turn: Turn,
     table: &mut [u32],
+    blocks: &mut [u32],
     out: &mut [u8],
 ) -> CommandOutcome
     requires { ⌜ (Sized (now table)) × InRange values ⌝ }
-    ensures { λ r. ⌜ RunsTo (attempts op true (now (name .entry)) (turn .given) values (now (matched .entry)) (turn .at) (state (now (table .entry)))) (turn .first) (now (out .entry)) (turn .next) (state (now (table .exit))) (now (out .exit)) r ⌝ }
+    ensures { λ r. ⌜ RunsTo (attempts op true (now (name .entry)) (turn .given) values (now (matched .entry)) (turn .at) (state (now (table .entry)) (now (blocks .entry)))) (turn .first) (now (out .entry)) (turn .next) (state (now (table .exit)) (now (blocks .exit))) (now (out .exit)) r ⌝ }
 {
     let mut k: usize = 0;
     let mut here = turn;
     let mut good = true;
     while k < matched.len() {
-        let w = try_one(op, true, name, values, number(matched[k]), here, table, out);
+        let w = try_one(
+            op,
+            true,
+            name,
+            values,
+            number(matched[k]),
+            here,
+            table,
+            blocks,
+            out,
+        );
         let g = here.given;
         let c = w.at;
         here = Turn {
@@ -188,13 +250,14 @@ fn try_noted(
     n: usize,
     turn: Turn,
     table: &mut [u32],
+    blocks: &mut [u32],
     out: &mut [u8],
 ) -> CommandOutcome
     requires { ⌜ (Sized (now table)) × InRange values ⌝ }
-    ensures { λ r. ⌜ RunsTo (attempts op true (now (name .entry)) (turn .given) values (take n (now (row .entry))) (turn .at) (state (now (table .entry)))) (turn .first) (now (out .entry)) (turn .next) (state (now (table .exit))) (now (out .exit)) r ⌝ }
+    ensures { λ r. ⌜ RunsTo (attempts op true (now (name .entry)) (turn .given) values (take n (now (row .entry))) (turn .at) (state (now (table .entry)) (now (blocks .entry)))) (turn .first) (now (out .entry)) (turn .next) (state (now (table .exit)) (now (blocks .exit))) (now (out .exit)) r ⌝ }
 {
     let e = numbers::low(n, row.len());
-    try_each(op, name, values, &row[0..e], turn, table, out)
+    try_each(op, name, values, &row[0..e], turn, table, blocks, out)
 }
 
 // The attempts of a wildcard: its matches are noted before the first of them.
@@ -205,10 +268,11 @@ fn try_many(
     r: Range,
     turn: Turn,
     table: &mut [u32],
+    blocks: &mut [u32],
     out: &mut [u8],
 ) -> CommandOutcome
     requires { ⌜ (Sized (now table)) × InRange values ⌝ }
-    ensures { λ w. ⌜ RunsTo (runTargets op (now (name .entry)) (turn .given) values (targetsIn (Many r) op (turn .at) (now (table .entry))) (turn .at) (state (now (table .entry)))) (turn .first) (now (out .entry)) (turn .next) (state (now (table .exit))) (now (out .exit)) w ⌝ }
+    ensures { λ w. ⌜ RunsTo (runTargets op (now (name .entry)) (turn .given) values (targetsIn (Many r) op (turn .at) (now (table .entry))) (turn .at) (state (now (table .entry)) (now (blocks .entry)))) (turn .first) (now (out .entry)) (turn .next) (state (now (table .exit)) (now (blocks .exit))) (now (out .exit)) w ⌝ }
 {
     let mut matched = [0u32; MOST_TERMINATIONS];
     let at = turn.at;
@@ -216,7 +280,7 @@ fn try_many(
     if n == 0 {
         return command_error(op, name, 431, turn, out);
     }
-    try_noted(op, name, values, &matched, n, turn, table, out)
+    try_noted(op, name, values, &matched, n, turn, table, blocks, out)
 }
 
 // Tests 5 and 6, for each that the name means.
@@ -227,10 +291,11 @@ pub fn run_targets(
     target: Target,
     turn: Turn,
     table: &mut [u32],
+    blocks: &mut [u32],
     out: &mut [u8],
 ) -> CommandOutcome
     requires { ⌜ (Sized (now table)) × InRange values ⌝ }
-    ensures { λ w. ⌜ RunsTo (runTargets op (now (name .entry)) (turn .given) values (targetsIn target op (turn .at) (now (table .entry))) (turn .at) (state (now (table .entry)))) (turn .first) (now (out .entry)) (turn .next) (state (now (table .exit))) (now (out .exit)) w ⌝ }
+    ensures { λ w. ⌜ RunsTo (runTargets op (now (name .entry)) (turn .given) values (targetsIn target op (turn .at) (now (table .entry))) (turn .at) (state (now (table .entry)) (now (blocks .entry)))) (turn .first) (now (out .entry)) (turn .next) (state (now (table .exit)) (now (blocks .exit))) (now (out .exit)) w ⌝ }
 {
     match target {
         Target::NoTarget(code) => command_error(op, name, code, turn, out),
@@ -243,7 +308,7 @@ pub fn run_targets(
                 going: true,
             }
         }
-        Target::One(i) => try_one(op, false, name, values, i, turn, table, out),
-        Target::Many(r) => try_many(op, name, values, r, turn, table, out),
+        Target::One(i) => try_one(op, false, name, values, i, turn, table, blocks, out),
+        Target::Many(r) => try_many(op, name, values, r, turn, table, blocks, out),
     }
 }

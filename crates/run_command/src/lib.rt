@@ -28,10 +28,11 @@ fn run_tested(
     name: &[u8],
     turn: Turn,
     table: &mut [u32],
+    blocks: &mut [u32],
     out: &mut [u8],
 ) -> RanCommand
     requires { ⌜ Sized (now table) ⌝ }
-    ensures { λ r. ⌜ RunsTo (fromTest2 op (now (name .entry)) (itemsFrom (now (s .entry)) places) (turn .given) (turn .at) (state (now (table .entry)))) (turn .first) (now (out .entry)) (turn .next) (state (now (table .exit))) (now (out .exit)) (r .outcome) × (r .end ≡ commandEndFrom (now (s .entry)) places) ⌝ }
+    ensures { λ r. ⌜ RunsTo (fromTest2 op (now (name .entry)) (itemsFrom (now (s .entry)) places) (turn .given) (turn .at) (state (now (table .entry)) (now (blocks .entry)))) (turn .first) (now (out .entry)) (turn .next) (state (now (table .exit)) (now (blocks .exit))) (now (out .exit)) (r .outcome) × (r .end ≡ commandEndFrom (now (s .entry)) places) ⌝ }
 {
     let at = turn.at;
     let held = command_tests::held_at(table, at);
@@ -44,7 +45,7 @@ fn run_tested(
     }
     let x = judge_items::judge_items(s, places, op);
     let judged = x.judged;
-    let w = command_tests::run_judged(op, name, places.braces, judged, turn, table, out);
+    let w = command_tests::run_judged(op, name, places.braces, judged, turn, table, blocks, out);
     RanCommand {
         outcome: w,
         end: x.end,
@@ -102,16 +103,17 @@ fn run_built(
     name: &[u8],
     turn: Turn,
     table: &mut [u32],
+    blocks: &mut [u32],
     out: &mut [u8],
 ) -> RanCommand
     requires { ⌜ Sized (now table) ⌝ }
-    ensures { λ r. ⌜ RunsTo (fromTest1 (places .optional) (some op) (now (name .entry)) (itemsFrom (now (s .entry)) places) (turn .given) (turn .at) (state (now (table .entry)))) (turn .first) (now (out .entry)) (turn .next) (state (now (table .exit))) (now (out .exit)) (r .outcome) × (r .end ≡ commandEndFrom (now (s .entry)) places) ⌝ }
+    ensures { λ r. ⌜ RunsTo (fromTest1 (places .optional) (some op) (now (name .entry)) (itemsFrom (now (s .entry)) places) (turn .given) (turn .at) (state (now (table .entry)) (now (blocks .entry)))) (turn .first) (now (out .entry)) (turn .next) (state (now (table .exit)) (now (blocks .exit))) (now (out .exit)) (r .outcome) × (r .end ≡ commandEndFrom (now (s .entry)) places) ⌝ }
 {
     let at = turn.at;
     if command_tests::forbidden_in_null(op, at) {
         return fail_command(s, places, 421, turn, out);
     }
-    let x = run_tested(s, places, op, name, turn, table, out);
+    let x = run_tested(s, places, op, name, turn, table, blocks, out);
     let w = x.outcome;
     RanCommand {
         outcome: past_optional(places.optional, w),
@@ -127,22 +129,30 @@ fn run_found(
     name: &[u8],
     turn: Turn,
     table: &mut [u32],
+    blocks: &mut [u32],
     out: &mut [u8],
 ) -> RanCommand
     requires { ⌜ Sized (now table) ⌝ }
-    ensures { λ r. ⌜ RunsTo (fromTest1 (places .optional) (opOf (places .wild) (now (word .entry))) (now (name .entry)) (itemsFrom (now (s .entry)) places) (turn .given) (turn .at) (state (now (table .entry)))) (turn .first) (now (out .entry)) (turn .next) (state (now (table .exit))) (now (out .exit)) (r .outcome) × (r .end ≡ commandEndFrom (now (s .entry)) places) ⌝ }
+    ensures { λ r. ⌜ RunsTo (fromTest1 (places .optional) (opOf (places .wild) (now (word .entry))) (now (name .entry)) (itemsFrom (now (s .entry)) places) (turn .given) (turn .at) (state (now (table .entry)) (now (blocks .entry)))) (turn .first) (now (out .entry)) (turn .next) (state (now (table .exit)) (now (blocks .exit))) (now (out .exit)) (r .outcome) × (r .end ≡ commandEndFrom (now (s .entry)) places) ⌝ }
 {
     let f = command_tests::op_of(places.wild, word);
     match f {
-        Found::Built(op) => run_built(s, places, op, name, turn, table, out),
+        Found::Built(op) => run_built(s, places, op, name, turn, table, blocks, out),
         Found::Unbuilt => fail_command(s, places, 443, turn, out),
     }
 }
 
 // The command that stands at a place of the message.
-pub fn run_command(s: &[u8], i: usize, turn: Turn, table: &mut [u32], out: &mut [u8]) -> RanCommand
+pub fn run_command(
+    s: &[u8],
+    i: usize,
+    turn: Turn,
+    table: &mut [u32],
+    blocks: &mut [u32],
+    out: &mut [u8],
+) -> RanCommand
     requires { ⌜ Sized (now table) ⌝ }
-    ensures { λ r. ⌜ RunsTo (runCommand (commandAt (now (s .entry)) i .tree) (turn .given) (turn .at) (state (now (table .entry)))) (turn .first) (now (out .entry)) (turn .next) (state (now (table .exit))) (now (out .exit)) (r .outcome) × (r .end ≡ commandAt (now (s .entry)) i .end) ⌝ }
+    ensures { λ r. ⌜ RunsTo (runCommand (commandAt (now (s .entry)) i .tree) (turn .given) (turn .at) (state (now (table .entry)) (now (blocks .entry)))) (turn .first) (now (out .entry)) (turn .next) (state (now (table .exit)) (now (blocks .exit))) (now (out .exit)) (r .outcome) × (r .end ≡ commandAt (now (s .entry)) i .end) ⌝ }
 {
     let places = command_places::command_places(s, i);
     let word = places.word;
@@ -151,5 +161,5 @@ pub fn run_command(s: &[u8], i: usize, turn: Turn, table: &mut [u32], out: &mut 
     let b = word.to;
     let c = name.from;
     let d = name.to;
-    run_found(s, places, &s[a..b], &s[c..d], turn, table, out)
+    run_found(s, places, &s[a..b], &s[c..d], turn, table, blocks, out)
 }

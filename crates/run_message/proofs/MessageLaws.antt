@@ -46,8 +46,8 @@ scratch-fits z o p bs r e a =
     let q : length o ≡ length z = same-length-by z p bs o r a in
     omega arith
 
-pub wrote-sound : (x : Transaction) (t o : List ℕ) (p : ℕ) (t₂ o₂ : List ℕ) (q : ℕ) → Wrote (runTransaction x (state t)) o p (state t₂) o₂ q → sound t ≡ true → sound t₂ ≡ true
-wrote-sound x t o p t₂ o₂ q w h = subst (λ (u : State). sound (u .table) ≡ true) (sym (w .state)) (transaction-sound x (state t) h)
+pub wrote-sound : (x : Transaction) (t bs o : List ℕ) (p : ℕ) (t₂ bs₂ o₂ : List ℕ) (q : ℕ) → Wrote (runTransaction x (state t bs)) o p (state t₂ bs₂) o₂ q → sound t ≡ true → sound t₂ ≡ true
+wrote-sound x t bs o p t₂ bs₂ o₂ q w h = subst (λ (u : State). sound (u .table) ≡ true) (sym (w .state)) (transaction-sound x (state t bs) h)
 
 pub message-begins : (s : List ℕ) (i : ℕ) (t : State) (o : List ℕ) (p : ℕ) → i ≡ headerEnd s → Leads (runTransactions (messageOf s) t) o p (runTransactions (transactionsAt 8 s i .tree) t) o p
 unfolding messageAt

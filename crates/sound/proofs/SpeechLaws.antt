@@ -62,7 +62,7 @@ module _ (cs ws : List ℕ) (k : ℕ) (b q : Bool) (inv : q ≡ (b && speechIsSo
 -- ---- those of some together
 
 -- no word set is sound with any contexts
-none-at : (ws : List ℕ) → every (λ (w : ℕ). eqb w 0) ws ≡ true → (i : ℕ) → getD ws i 0 ≡ 0
+pub none-at : (ws : List ℕ) → every (λ (w : ℕ). eqb w 0) ws ≡ true → (i : ℕ) → getD ws i 0 ≡ 0
 unfolding every
 none-at [] e i = refl
 none-at (x ∷ ws) e zero = eqb-true x 0 (picked (eqb x 0) (every (λ (w : ℕ). eqb w 0) ws) e .0)

@@ -171,7 +171,7 @@ fn some_fit(counters: &[u32], i: usize, flows: &[u32]) -> bool
 }
 
 // Whether all words are 0.
-fn is_zero(row: &[u32]) -> bool
+pub fn is_zero(row: &[u32]) -> bool
     ensures { λ r. ⌜ r ≡ every (λ w. eqb w 0) (now (row .entry)) ⌝ }
 {
     let mut good = true;

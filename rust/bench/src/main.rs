@@ -1,8 +1,8 @@
 //! `bench`: the archive and the reference side by side, in one table.
 //!
-//! `bench count SIDE PLACE ROUNDS` lets one side answer one workload, and `bench
-//! ask SIDE PLACE ROUNDS` one question about maps, and nothing else; the
-//! table's instruction counts come from them.
+//! `bench count SIDE PLACE ROUNDS` lets one side answer one workload, `bench ask
+//! SIDE PLACE ROUNDS` one question about maps and `bench packet SIDE PLACE ROUNDS`
+//! count packets, and nothing else; the table's instruction counts come from them.
 
 mod workloads;
 
@@ -12,7 +12,10 @@ use std::time::Duration;
 
 use cordafina::answer_word;
 use differential::calls::{reference_word, Call};
-use reference::map;
+use differential::packets::Counted;
+use reference::blocks::BLOCK_WORDS;
+use reference::table::Lines;
+use reference::{map, REPLY_BYTES};
 use workloads::{counts, fixed, requests, Workload, OWN};
 
 const SIDES: [(&str, Call); 2] = [("archive", answer_word), ("reference", reference_word)];
@@ -34,6 +37,19 @@ const QUESTIONS: [(&str, [Question; 2]); 2] = [
         [cordafina::lowest_absent, map::lowest_absent],
     ),
     ("in use", [cordafina::in_use, map::in_use]),
+];
+
+/// Who counts packets.
+const COUNTERS: [Counted; 2] = [cordafina::packet_word, reference::packet];
+
+/// The states in which packets of R/1 are counted, and the actions that lead there.
+const PACKETS: [(&str, &str, usize); 2] = [
+    ("R/1 alone, no other figures", "C=${A=$}", 1),
+    (
+        "64 ephemerals, each with figures",
+        "C=${A=$,A=$,A=$,A=$,A=$,A=$,A=$,A=$}",
+        8,
+    ),
 ];
 
 const HOW: &str = "\
@@ -62,6 +78,12 @@ fn main() {
             let (_, questions) = QUESTIONS[place];
             let question = questions[side.expect("archive or reference")];
             ask(question, rounds.parse().expect("a number of rounds"));
+        }
+        ["packet", side, place, rounds] => {
+            let side = SIDES.iter().position(|(name, _)| *name == side);
+            let counter = COUNTERS[side.expect("archive or reference")];
+            let place: usize = place.parse().expect("a state's place");
+            count(counter, place, rounds.parse().expect("a number of rounds"));
         }
         _ => panic!("usage: bench"),
     }
@@ -183,6 +205,42 @@ fn report() {
                 None => "  valgrind is not there".to_string(),
             }
         );
+    }
+    println!("\nOne packet of R/1 on eight lines.\n");
+    println!(
+        "{:<33}{:>11}{:>14} |{:>22}{:>11}",
+        "", "archive ns", "reference ns", "archive instructions", "reference"
+    );
+    for (place, (name, ..)) in PACKETS.iter().enumerate() {
+        let [one, other] = COUNTERS.map(|counter| {
+            let round = |_| timed(|| count(counter, place, 2_000)).as_nanos() as f64 / 2_000.0;
+            median((0..ROUNDS).map(round).collect())
+        });
+        println!(
+            "{name:<33}{one:>11.0}{other:>14.0} |{}",
+            match per_round("packet", place, 50) {
+                Some([one, other]) => format!("{one:>22.0}{other:>11.0}"),
+                None => "  valgrind is not there".to_string(),
+            }
+        );
+    }
+}
+
+/// Counts so many packets of R/1 on eight lines.
+fn count(counter: Counted, place: usize, rounds: usize) {
+    let (_, action, times) = PACKETS[place];
+    let message = format!("!/1 [10.0.0.1] T=1{{{}}}", vec![action; times].join(","));
+    let (lines, mut blocks) = (Lines::EIGHT, [0; BLOCK_WORDS]);
+    let (mut table, mut reply) = (vec![0; lines.words()], [0; REPLY_BYTES]);
+    let (message, lines) = (message.as_bytes(), lines.count());
+    reference_word(lines, message, &mut table, &mut blocks, OWN, &mut reply);
+    if times > 1 {
+        let each = |block: &mut [u32]| block.copy_from_slice(&[9, 800, 20, 0]);
+        blocks.chunks_exact_mut(4).for_each(each);
+    }
+    for round in 0..rounds as u32 {
+        let (arrival, stamp) = (180 * round, 160 * round);
+        black_box(counter(lines, &table, &mut blocks, 1, arrival, stamp));
     }
 }
 

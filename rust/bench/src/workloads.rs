@@ -4,6 +4,7 @@
 use differential::calls::{reference_word, Call};
 use differential::numbers::Numbers;
 use differential::tables;
+use reference::blocks::BLOCK_WORDS;
 use reference::table::Lines;
 use reference::REPLY_BYTES;
 
@@ -23,9 +24,11 @@ impl Workload {
     fn new(name: &'static str, lines: Lines, messages: Vec<Vec<u8>>, table: Vec<u32>) -> Self {
         let mut after = table.clone();
         let mut touched = vec![false; table.len()];
+        let mut blocks = [0; BLOCK_WORDS];
         let mut reply = [0; REPLY_BYTES];
         for message in &messages {
-            reference_word(lines.count(), message, &mut after, OWN, &mut reply);
+            let count = lines.count();
+            reference_word(count, message, &mut after, &mut blocks, OWN, &mut reply);
             for place in 0..table.len() {
                 touched[place] |= after[place] != table[place];
             }
@@ -53,10 +56,18 @@ impl Workload {
     pub fn run(&self, call: Call, rounds: usize) {
         let lines = self.lines.count();
         let mut table = self.table.clone();
+        let mut blocks = [0; BLOCK_WORDS];
         let mut reply = [0; REPLY_BYTES];
         for _ in 0..rounds {
             for message in &self.messages {
-                std::hint::black_box(call(lines, message, &mut table, OWN, &mut reply));
+                std::hint::black_box(call(
+                    lines,
+                    message,
+                    &mut table,
+                    &mut blocks,
+                    OWN,
+                    &mut reply,
+                ));
             }
             for &place in &self.changed {
                 table[place] = self.table[place];

@@ -9,11 +9,24 @@ extern "C" {
         message_len: usize,
         table: *mut u32,
         table_len: usize,
+        blocks: *mut u32,
+        blocks_len: usize,
         own_mid: *const u8,
         own_mid_len: usize,
         reply: *mut u8,
         reply_len: usize,
     ) -> u64;
+
+    pub fn cordafina_packet(
+        lines: u32,
+        table: *const u32,
+        table_len: usize,
+        blocks: *mut u32,
+        blocks_len: usize,
+        n: u32,
+        arrival: u32,
+        stamp: u32,
+    ) -> u32;
 
     pub fn cordafina_contexts(
         lines: u32,

@@ -1,13 +1,14 @@
 //! A table with its own mId and reply buffer.
 
 use crate::layout::{MID_BYTES, REPLY_BYTES};
-use crate::{answer, Refusal, Table};
+use crate::{answer, packet, Blocks, Refusal, Table};
 
-/// A table with the own mId and the reply buffer that its calls need: some
-/// 23,000 bytes, in place.
+/// A table with the blocks, the own mId and the reply buffer that its calls need:
+/// some 24,000 bytes, in place.
 #[derive(Clone)]
 pub struct Gateway {
     table: Table,
+    blocks: Blocks,
     own: [u8; MID_BYTES],
     own_length: usize,
     reply: [u8; REPLY_BYTES],
@@ -22,13 +23,22 @@ impl Gateway {
         Gateway::with_table(own, Table::fresh())
     }
 
-    /// The same with a table that was kept, or of another count of lines.
+    /// The same with a table of another count of lines, and fresh blocks.
     ///
     /// # Errors
     /// `MidUnfit`, as above.
     pub fn with_table(own: &[u8], table: Table) -> Result<Self, Refusal> {
+        Gateway::with_state(own, table, Blocks::fresh())
+    }
+
+    /// The same with a table and blocks that were kept.
+    ///
+    /// # Errors
+    /// `MidUnfit`, as above.
+    pub fn with_state(own: &[u8], table: Table, blocks: Blocks) -> Result<Self, Refusal> {
         let mut gateway = Gateway {
             table,
+            blocks,
             own: [0; MID_BYTES],
             own_length: own.len(),
             reply: [0; REPLY_BYTES],
@@ -49,13 +59,28 @@ impl Gateway {
     /// has a reply, line noise too.
     pub fn answer(&mut self, message: &[u8]) -> Result<&[u8], Refusal> {
         let own = &self.own[..self.own_length];
-        let length = answer(message, &mut self.table, own, &mut self.reply)?;
+        let (table, blocks) = (&mut self.table, &mut self.blocks);
+        let length = answer(message, table, blocks, own, &mut self.reply)?;
         Ok(&self.reply[..length])
+    }
+
+    /// Counts one packet of `R/n`: when it came, and its RTP time.
+    ///
+    /// # Errors
+    /// `EphemeralAbsent` for an ephemeral that does not exist, or outside 1 to 64.
+    pub fn packet(&mut self, n: u32, arrival: u32, stamp: u32) -> Result<(), Refusal> {
+        packet(&self.table, &mut self.blocks, n, arrival, stamp)
     }
 
     /// What the gateway holds.
     #[must_use]
     pub const fn table(&self) -> &Table {
         &self.table
+    }
+
+    /// The figures of its ephemerals.
+    #[must_use]
+    pub const fn blocks(&self) -> &Blocks {
+        &self.blocks
     }
 }

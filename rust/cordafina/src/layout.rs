@@ -11,6 +11,8 @@ pub const EPHEMERALS: usize = 64;
 pub const CONTEXTS: usize = 128;
 /// The most terminations of a context.
 pub const MEMBERS: usize = 8;
+/// The words of the blocks, four for each ephemeral.
+pub const BLOCK_WORDS: usize = 4 * EPHEMERALS;
 /// The least length of a reply buffer; no reply is longer.
 pub const REPLY_BYTES: usize = 16_640;
 /// The least length of an output for the contexts as text; no text is longer.

@@ -14,15 +14,17 @@
 //! name from its [`Table`], and digit maps are in [`digit_map`]. The library has
 //! no state and no heap, and neither has this crate.
 //!
-//! [`answer`] is the call itself, on a lent [`Table`] and a lent reply buffer:
+//! [`answer`] is the call itself, on a lent [`Table`], lent [`Blocks`] and a lent
+//! reply buffer:
 //!
 //! ```
-//! use cordafina::{answer, Table, REPLY_BYTES};
+//! use cordafina::{answer, Blocks, Table, REPLY_BYTES};
 //!
 //! let mut table = Table::fresh();
+//! let mut blocks = Blocks::fresh();
 //! let mut reply = [0; REPLY_BYTES];
 //! let message = b"!/1 [10.0.0.1] T=7{C=${A=L/1/5,A=$}}";
-//! let length = answer(message, &mut table, b"[10.0.0.9]", &mut reply)?;
+//! let length = answer(message, &mut table, &mut blocks, b"[10.0.0.9]", &mut reply)?;
 //! assert_eq!(&reply[..length], b"!/1 [10.0.0.9] P=7{C=1{A=L/1/5,A=R/1}}");
 //! # Ok::<(), cordafina::Refusal>(())
 //! ```
@@ -39,14 +41,18 @@
 //! # Ok::<(), cordafina::Refusal>(())
 //! ```
 //!
-//! A table that is kept is its words, whose number gives the count of lines:
+//! What is kept are the words of the table, whose number gives the count of lines,
+//! and of the [`Blocks`]:
 //!
 //! ```
-//! # use cordafina::{Gateway, Table};
+//! # use cordafina::{Blocks, Gateway, Table};
 //! # let gateway = Gateway::new(b"[10.0.0.9]")?;
-//! let kept: Vec<u32> = gateway.table().words().to_vec();
-//! let again = Gateway::with_table(b"[10.0.0.9]", Table::try_from(&kept[..])?)?;
+//! let table: Vec<u32> = gateway.table().words().to_vec();
+//! let blocks: Vec<u32> = gateway.blocks().words().to_vec();
+//! let (table, blocks) = (Table::try_from(&table[..])?, Blocks::try_from(&blocks[..])?);
+//! let again = Gateway::with_state(b"[10.0.0.9]", table, blocks)?;
 //! assert_eq!(again.table(), gateway.table());
+//! assert_eq!(again.blocks(), gateway.blocks());
 //! # Ok::<(), cordafina::Refusal>(())
 //! ```
 //!
@@ -94,6 +100,20 @@
 //! assert_eq!(held.len(), 3);
 //! ```
 //!
+//! The RTP card counts packets in an ephemeral's block, and the figures come with
+//! the goodbye:
+//!
+//! ```
+//! # let mut gateway = cordafina::Gateway::new(b"[10.0.0.9]")?;
+//! gateway.answer(b"!/1 [10.0.0.1] T=7{C=${A=$}}")?;
+//! gateway.packet(1, 1000, 200)?;
+//! gateway.packet(1, 1180, 360)?;
+//! assert_eq!(gateway.blocks().block(1).unwrap().jitter, 20);
+//! let reply = gateway.answer(b"!/1 [10.0.0.1] T=8{C=1{S=R/1}}")?;
+//! assert_eq!(reply, b"!/1 [10.0.0.9] P=8{C=1{S=R/1{SA{rtp/pr=2,rtp/jit=1}}}}");
+//! # Ok::<(), cordafina::Refusal>(())
+//! ```
+//!
 //! The archive that is linked is the one that `rt staticlib cordafina` writes,
 //! or the one that the variable `CORDAFINA_LIB` names when this crate is built
 //! (from the top folder of the repository on, if the path is not absolute).
@@ -103,6 +123,7 @@
 #![warn(missing_docs)]
 
 mod archive;
+mod blocks;
 pub mod digit_map;
 mod gateway;
 mod layout;
@@ -111,21 +132,22 @@ mod table;
 mod termination;
 mod texts;
 
+pub use blocks::{Block, Blocks};
 pub use gateway::Gateway;
 pub use layout::{
     flows_start, line_terminations, map_start, records_start, speech_start, table_words,
     terminations,
 };
-pub use layout::{CHANNELS, CONTEXTS, EPHEMERALS, MEMBERS, MESSAGE_BYTES, MID_BYTES};
+pub use layout::{BLOCK_WORDS, CHANNELS, CONTEXTS, EPHEMERALS, MEMBERS, MESSAGE_BYTES, MID_BYTES};
 pub use layout::{MOST_LINES, OUTPUT_BYTES, REPLY_BYTES};
 pub use refusal::Refusal;
 pub use table::{Context, Session, Table};
 pub use termination::{Mode, ServiceState, Termination, UnknownName};
 pub use texts::{text, texts, Side, Text};
 
-/// Answers one message on a table, for a gateway of this own mId: the reply's
+/// Answers one message on a table and blocks, for a gateway of this own mId: the reply's
 /// length, from the buffer's start on; the bytes past it stay. With a refusal
-/// table and buffer are as they were.
+/// table, blocks and buffer are as they were.
 ///
 /// # Errors
 /// In this order: `ReplyTooShort` for a buffer under [`REPLY_BYTES`]; `MidUnfit`;
@@ -138,11 +160,65 @@ pub use texts::{text, texts, Side, Text};
 pub fn answer(
     message: &[u8],
     table: &mut Table,
+    blocks: &mut Blocks,
     own: &[u8],
     reply: &mut [u8],
 ) -> Result<usize, Refusal> {
     let lines = table.lines();
-    Refusal::or_length(answer_word(lines, message, table.lent(), own, reply))
+    let (table, blocks) = (table.lent(), blocks.lent());
+    Refusal::or_length(answer_word(lines, message, table, blocks, own, reply))
+}
+
+/// Counts one packet of `R/n` in its block: when it came, and its RTP time, in
+/// the same units. With a refusal the blocks are as they were.
+///
+/// # Errors
+/// `EphemeralAbsent` for an ephemeral that does not exist, or outside 1 to 64.
+pub fn packet(
+    table: &Table,
+    blocks: &mut Blocks,
+    n: u32,
+    arrival: u32,
+    stamp: u32,
+) -> Result<(), Refusal> {
+    match packet_word(
+        table.lines(),
+        table.words(),
+        blocks.lent(),
+        n,
+        arrival,
+        stamp,
+    ) {
+        0 => Ok(()),
+        number => Err(Refusal::of_number(number)),
+    }
+}
+
+/// The same as C has it, with any count of lines and slices of any lengths: the
+/// refusal's number or 0.
+#[must_use]
+pub fn packet_word(
+    lines: u32,
+    table: &[u32],
+    blocks: &mut [u32],
+    n: u32,
+    arrival: u32,
+    stamp: u32,
+) -> u32 {
+    // SAFETY: each pointer is a slice's own, with its length, and so aligned and
+    // not null; the blocks overlap nothing. The callee keeps neither.
+    unsafe {
+        archive::cordafina_packet(
+            lines,
+            table.as_ptr(),
+            table.len(),
+            blocks.as_mut_ptr(),
+            blocks.len(),
+            n,
+            arrival,
+            stamp,
+        )
+    }
 }
 
 /// The call as C has it, with any count of lines, slices of any lengths and
@@ -153,12 +229,13 @@ pub fn answer_word(
     lines: u32,
     message: &[u8],
     table: &mut [u32],
+    blocks: &mut [u32],
     own: &[u8],
     reply: &mut [u8],
 ) -> u64 {
     // SAFETY: each pointer is a slice's own, with its length, and so aligned
-    // and not null; the two `&mut` slices overlap nothing. The callee stays
-    // within the four slices and keeps none of them.
+    // and not null; the three `&mut` slices overlap nothing. The callee stays
+    // within the five slices and keeps none of them.
     unsafe {
         archive::cordafina_answer(
             lines,
@@ -166,6 +243,8 @@ pub fn answer_word(
             message.len(),
             table.as_mut_ptr(),
             table.len(),
+            blocks.as_mut_ptr(),
+            blocks.len(),
             own.as_ptr(),
             own.len(),
             reply.as_mut_ptr(),

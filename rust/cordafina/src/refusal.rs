@@ -12,7 +12,7 @@ use core::{error, fmt};
 pub enum Refusal {
     /// A message of 0 or over 4,096 bytes.
     MessageUnfit = 1,
-    /// A table that is not of its count's words, or not sound.
+    /// A table that is not of its count's words, not 64 blocks, or either not sound.
     TableUnsound = 2,
     /// A reply buffer under 16,640 bytes.
     ReplyTooShort = 3,
@@ -24,6 +24,8 @@ pub enum Refusal {
     BadString = 7,
     /// A count of lines outside 1 to 16.
     LinesUnfit = 8,
+    /// A packet of an ephemeral that does not exist, or outside 1 to 64.
+    EphemeralAbsent = 9,
     /// An output under 8,192 bytes.
     OutputTooShort = 11,
 }
@@ -48,6 +50,7 @@ impl Refusal {
             6 => Refusal::BadMap,
             7 => Refusal::BadString,
             8 => Refusal::LinesUnfit,
+            9 => Refusal::EphemeralAbsent,
             11 => Refusal::OutputTooShort,
             _ => panic!("refusal {number}: the archive is not this library"),
         }
@@ -67,12 +70,15 @@ impl fmt::Display for Refusal {
     fn fmt(&self, f: &mut fmt::Formatter) -> fmt::Result {
         f.write_str(match self {
             Refusal::MessageUnfit => "message of 0 or over 4,096 bytes",
-            Refusal::TableUnsound => "table not of its count's words, or not sound",
+            Refusal::TableUnsound => {
+                "table not of its count's words, not 64 blocks, or either not sound"
+            }
             Refusal::ReplyTooShort => "reply buffer under 16,640 bytes",
             Refusal::MidUnfit => "own mId not an mId, or over 64 bytes",
             Refusal::BadMap => "digit map malformed or too large",
             Refusal::BadString => "dialled string over 32 symbols, or with a foreign one",
             Refusal::LinesUnfit => "count of lines outside 1 to 16",
+            Refusal::EphemeralAbsent => "packet of an ephemeral that does not exist",
             Refusal::OutputTooShort => "output under 8,192 bytes",
         })
     }

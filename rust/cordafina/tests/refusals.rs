@@ -11,7 +11,7 @@ const GATEWAY: &str = include_str!("../../../crates/gateway/src/lib.rt");
 const DIGITS: &str = include_str!("../../../crates/digits/src/lib.rt");
 const REFERENCE: &str = include_str!("../../../docs/REFERENCE.md");
 
-const ALL: [Refusal; 8] = [
+const ALL: [Refusal; 9] = [
     Refusal::MessageUnfit,
     Refusal::TableUnsound,
     Refusal::ReplyTooShort,
@@ -19,6 +19,7 @@ const ALL: [Refusal; 8] = [
     Refusal::BadMap,
     Refusal::BadString,
     Refusal::LinesUnfit,
+    Refusal::EphemeralAbsent,
     Refusal::OutputTooShort,
 ];
 
@@ -64,9 +65,10 @@ fn as_the_code_has_them() {
         });
     for refusal in ALL {
         let name = format!("{refusal:?},");
-        // The contexts as text have a number and no enum.
+        // The contexts as text and packets have a number and no enum.
+        let numbered = [Refusal::OutputTooShort, Refusal::EphemeralAbsent];
         let is_known = outcomes.contains(&&*name) || dialled.contains(&&*name);
-        assert_eq!(is_known, refusal != Refusal::OutputTooShort, "{name}");
+        assert_eq!(is_known, !numbered.contains(&refusal), "{name}");
     }
 }
 

@@ -1,9 +1,10 @@
 //! Document 01's session and refusals, and other counts of lines, through the
 //! archive that is linked.
 
-use cordafina::{answer, answer_word, flows_start, in_use, lowest_absent};
+use cordafina::{answer, answer_word, flows_start, in_use, lowest_absent, packet_word};
 use cordafina::{map_start, records_start, table_words, terminations};
-use cordafina::{Gateway, Refusal, Table, MESSAGE_BYTES, MOST_LINES, REPLY_BYTES};
+use cordafina::{Blocks, Gateway, Refusal, Table, BLOCK_WORDS};
+use cordafina::{MESSAGE_BYTES, MOST_LINES, REPLY_BYTES};
 
 /// Words of a table of eight lines.
 const TABLE_WORDS: usize = table_words(8);
@@ -15,7 +16,7 @@ const SESSION: &str = "\
 T=7{C=${A=L/1/5,A=$}} P=7{C=1{A=L/1/5,A=R/1}}
 T=8{C=1{A=L/1/5}} P=8{C=1{A=L/1/5{ER=433{}}}}
 T=9{C=${MV=L/1/5}} P=9{C=2{MV=L/1/5}}
-T=10{C=1{S=*,A=L/2/1}} P=10{C=1{S=R/1,A=L/2/1{ER=411{}}}}
+T=10{C=1{S=*,A=L/2/1}} P=10{C=1{S=R/1{SA{rtp/pr=0,rtp/jit=0}},A=L/2/1{ER=411{}}}}
 T=11{C=2{O-S=L/8/31,MF=L/1/5{M{O{MO=SR}}}}} P=11{C=2{S=L/8/31{ER=435{}},MF=L/1/5}}
 T=12{C=2{S=L/8/31,S=L/1/5}} P=12{C=2{S=L/8/31{ER=435{}}}}
 ";
@@ -60,10 +61,11 @@ fn text(inside: &str) -> Vec<u8> {
 
 #[test]
 fn session() {
+    let mut blocks = Blocks::fresh();
     let mut table = Table::fresh();
     for (message, expected) in messages(SESSION) {
         let mut reply = [FILL; REPLY_BYTES];
-        let length = answer(&message, &mut table, OWN, &mut reply).unwrap();
+        let length = answer(&message, &mut table, &mut blocks, OWN, &mut reply).unwrap();
         assert_eq!(&reply[..length], expected);
         assert!(reply[length..].iter().all(|&byte| byte == FILL));
     }
@@ -96,28 +98,53 @@ fn short_cases() {
 fn refusals_in_their_order() {
     // All five hold; then one after the other is mended.
     let mut table = [0; TABLE_WORDS];
+    let mut blocks = [0; BLOCK_WORDS];
     table[623] = 7;
     let damaged = table;
     let mut reply = [FILL; REPLY_BYTES];
     for lines in [0, 17, 264, u32::MAX] {
         let short = &mut reply[1..];
-        assert_eq!(answer_word(lines, b"", &mut table, b"", short), 8 << 32);
+        assert_eq!(
+            answer_word(lines, b"", &mut table, &mut blocks, b"", short),
+            8 << 32
+        );
     }
     let short = &mut reply[1..];
-    assert_eq!(answer_word(8, b"", &mut table, b"", short), 3 << 32);
-    assert_eq!(answer_word(8, b"", &mut table, b"", &mut reply), 2 << 32);
+    assert_eq!(
+        answer_word(8, b"", &mut table, &mut blocks, b"", short),
+        3 << 32
+    );
+    assert_eq!(
+        answer_word(8, b"", &mut table, &mut blocks, b"", &mut reply),
+        2 << 32
+    );
     assert_eq!(table, damaged);
     table[623] = 0;
     let cut = &mut table[1..];
-    assert_eq!(answer_word(8, b"", cut, b"", &mut reply), 2 << 32);
-    assert_eq!(answer_word(9, b"", &mut table, b"", &mut reply), 2 << 32);
-    assert_eq!(answer_word(8, b"", &mut table, b"", &mut reply), 4 << 32);
-    assert_eq!(answer_word(8, b"", &mut table, OWN, &mut reply), 1 << 32);
+    assert_eq!(
+        answer_word(8, b"", cut, &mut blocks, b"", &mut reply),
+        2 << 32
+    );
+    assert_eq!(
+        answer_word(9, b"", &mut table, &mut blocks, b"", &mut reply),
+        2 << 32
+    );
+    assert_eq!(
+        answer_word(8, b"", &mut table, &mut blocks, b"", &mut reply),
+        4 << 32
+    );
+    assert_eq!(
+        answer_word(8, b"", &mut table, &mut blocks, OWN, &mut reply),
+        1 << 32
+    );
     let long = [b' '; MESSAGE_BYTES + 1];
-    assert_eq!(answer_word(8, &long, &mut table, OWN, &mut reply), 1 << 32);
+    assert_eq!(
+        answer_word(8, &long, &mut table, &mut blocks, OWN, &mut reply),
+        1 << 32
+    );
     assert_eq!(reply, [FILL; REPLY_BYTES]);
     assert_eq!(table, [0; TABLE_WORDS]);
-    let taken = answer_word(8, &long[1..], &mut table, OWN, &mut reply);
+    let taken = answer_word(8, &long[1..], &mut table, &mut blocks, OWN, &mut reply);
     assert_eq!(taken, text("ER=400{}").len() as u64);
 }
 
@@ -125,9 +152,21 @@ fn refusals_in_their_order() {
 fn refusals_by_name() {
     let mut reply = [FILL; REPLY_BYTES];
     let mut table = Table::fresh();
-    let refused = answer(b"x", &mut table, b"[10.0.0.256]", &mut reply);
+    let refused = answer(
+        b"x",
+        &mut table,
+        &mut Blocks::fresh(),
+        b"[10.0.0.256]",
+        &mut reply,
+    );
     assert_eq!(refused, Err(Refusal::MidUnfit));
-    let refused = answer(b"x", &mut table, OWN, &mut reply[..16]);
+    let refused = answer(
+        b"x",
+        &mut table,
+        &mut Blocks::fresh(),
+        OWN,
+        &mut reply[..16],
+    );
     assert_eq!(refused, Err(Refusal::ReplyTooShort));
     let refused = Table::from_words(8, &[129; TABLE_WORDS]);
     assert_eq!(refused, Err(Refusal::TableUnsound));
@@ -179,8 +218,9 @@ fn every_count_of_lines() {
         // Each of the two hears the other.
         words[flows_start(lines)] = 0x0102;
         assert_eq!(gateway.table().words(), words);
+        let none = "{SA{rtp/pr=0,rtp/jit=0}}";
         let request = format!("T=2{{C=1{{MF=*{{M{{TS{{SI=TE}}}}}},S=R/*,S=L/{lines}/*}}}}");
-        let reply = format!("P=2{{C=1{{MF=L/{lines}/31,MF=R/1,S=R/1,S=L/{lines}/31}}}}");
+        let reply = format!("P=2{{C=1{{MF=L/{lines}/31,MF=R/1,S=R/1{none},S=L/{lines}/31}}}}");
         assert_eq!(gateway.answer(&message(&request)), Ok(&*text(&reply)));
         let mut words = vec![0; table_words(lines)];
         words[terminations(lines) + ephemeral - 1] = 16;
@@ -251,4 +291,46 @@ fn threads_apart() {
     for session in sessions {
         session.join().unwrap();
     }
+}
+
+/// Packets of two ephemerals, figures with the goodbye, a new ephemeral at zero,
+/// and the refusals of a packet in their order.
+#[test]
+fn figures_with_the_goodbye() {
+    let mut gateway = Gateway::new(OWN).unwrap();
+    assert_eq!(gateway.packet(1, 5, 3), Err(Refusal::EphemeralAbsent));
+    gateway.answer(&message("T=1{C=${A=$,A=$}}")).unwrap();
+    for (n, arrival, stamp) in [
+        (1, 1000, 200),
+        (1, 1180, 360),
+        (2, 0, u32::MAX),
+        (1, 0, 1 << 31),
+    ] {
+        assert_eq!(gateway.packet(n, arrival, stamp), Ok(()));
+    }
+    let first = gateway.blocks().block(1).unwrap();
+    let d = (1u64 << 31) - 820;
+    assert_eq!((first.packets, first.transit), (3, 1 << 31));
+    assert_eq!(first.jitter, 20 + d - 28 / 16);
+    assert_eq!(gateway.blocks().block(2).unwrap().transit, 1);
+    assert_eq!(gateway.packet(0, 5, 3), Err(Refusal::EphemeralAbsent));
+    assert_eq!(gateway.packet(65, 5, 3), Err(Refusal::EphemeralAbsent));
+    let figures = format!("rtp/pr=3,rtp/jit={}", first.reported());
+    let expected =
+        format!("P=2{{C=1{{S=R/1{{SA{{{figures}}}}},A=R/1,S=R/1{{SA{{rtp/pr=0,rtp/jit=0}}}}}}}}");
+    assert_eq!(
+        gateway.answer(&message("T=2{C=1{S=R/1,A=$,S=R/1}}")),
+        Ok(&*text(&expected))
+    );
+    let kept = Blocks::try_from(&gateway.blocks().words()[..]).unwrap();
+    assert_eq!(&kept, gateway.blocks());
+    let mut blocks = [0; BLOCK_WORDS];
+    let table = [0; TABLE_WORDS];
+    blocks[255] = 9;
+    assert_eq!(Blocks::try_from(&blocks[..]), Err(Refusal::TableUnsound));
+    assert_eq!(packet_word(0, &table, &mut blocks, 1, 0, 0), 8);
+    assert_eq!(packet_word(8, &table, &mut blocks, 1, 0, 0), 2);
+    assert_eq!(packet_word(8, &table, &mut blocks[..252], 1, 0, 0), 2);
+    blocks[255] = 0;
+    assert_eq!(packet_word(8, &table, &mut blocks, 1, 0, 0), 9);
 }

@@ -10,19 +10,20 @@ use crate::messages::{Scope, Writer};
 use crate::numbers::Numbers;
 use crate::{damage, limits, speech, tables};
 
-/// A side: count of lines, message, table, own mId, reply buffer; the result
+/// A side: count of lines, message, table, blocks, own mId, reply buffer; the result
 /// as C has it.
-pub type Call = fn(u32, &[u8], &mut [u32], &[u8], &mut [u8]) -> u64;
+pub type Call = fn(u32, &[u8], &mut [u32], &mut [u32], &[u8], &mut [u8]) -> u64;
 
 /// The side of the reference.
 pub fn reference_word(
     lines: u32,
     message: &[u8],
     table: &mut [u32],
+    blocks: &mut [u32],
     own: &[u8],
     reply: &mut [u8],
 ) -> u64 {
-    let answer = reference::answer(lines, message, table, own, reply);
+    let answer = reference::answer(lines, message, table, blocks, own, reply);
     let length = match answer {
         Answer::Taken(length) => length as u64,
         _ => 0,
@@ -37,6 +38,7 @@ pub struct Case {
     pub lines: u32,
     pub message: Box<[u8]>,
     pub table: Vec<u32>,
+    pub blocks: Vec<u32>,
     pub own: Box<[u8]>,
     /// The reply buffer's length.
     pub reply: usize,
@@ -88,6 +90,7 @@ impl Cases {
             lines: lines_given(numbers, lines),
             message: message.into_boxed_slice(),
             table,
+            blocks: tables::blocks(numbers),
             own: own.into_boxed_slice(),
             reply,
         }
@@ -162,6 +165,7 @@ pub struct Outcome {
     message: Box<[u8]>,
     own: Box<[u8]>,
     table: Vec<u32>,
+    blocks: Vec<u32>,
     reply: Vec<u8>,
     guard: usize,
 }
@@ -179,6 +183,10 @@ impl Outcome {
         &self.table[self.guard..self.table.len() - self.guard]
     }
 
+    pub fn blocks(&self) -> &[u32] {
+        &self.blocks[self.guard..self.blocks.len() - self.guard]
+    }
+
     fn buffer(&self) -> &[u8] {
         &self.reply[self.guard..self.reply.len() - self.guard]
     }
@@ -190,7 +198,10 @@ impl Outcome {
         let after = &table[case.table.len()..];
         let end = self.guard + self.text().len();
         let pattern = &PATTERN[..self.reply.len()];
+        let (left, blocks) = self.blocks.split_at(self.guard);
+        let right = &blocks[case.blocks.len()..];
         before.iter().chain(after).all(|&word| word == AROUND)
+            && left.iter().chain(right).all(|&word| word == AROUND)
             && self.reply[..self.guard] == pattern[..self.guard]
             && self.reply[end..] == pattern[end..]
             && self.message == case.message
@@ -231,12 +242,16 @@ pub fn outcome(case: &Case, call: Call, guard: usize) -> Outcome {
     lent.copy_from_slice(&case.table);
     let mut reply = PATTERN[..case.reply + 2 * guard].to_vec();
     let buffer = &mut reply[guard..guard + case.reply];
-    let word = call(case.lines, &message, lent, &own, buffer);
+    let mut blocks = vec![AROUND; case.blocks.len() + 2 * guard];
+    let figures = &mut blocks[guard..guard + case.blocks.len()];
+    figures.copy_from_slice(&case.blocks);
+    let word = call(case.lines, &message, lent, figures, &own, buffer);
     Outcome {
         word,
         message,
         own,
         table,
+        blocks,
         reply,
         guard,
     }
@@ -256,6 +271,7 @@ impl fmt::Display for Difference {
         writeln!(f, "lines     {}", self.case.lines)?;
         writeln!(f, "message   {}", self.case.message.escape_ascii())?;
         writeln!(f, "table     {}", tables::shown(&self.case.table))?;
+        writeln!(f, "blocks    {}", tables::figures_shown(&self.case.blocks))?;
         writeln!(f, "own mId   {}", self.case.own.escape_ascii())?;
         writeln!(f, "buffer    {} bytes", self.case.reply)?;
         for (side, outcome) in [("reference", &self.expected), ("archive  ", &self.got)] {
@@ -263,6 +279,7 @@ impl fmt::Display for Difference {
             writeln!(f, "{side} refusal {refusal}, length {length}")?;
             writeln!(f, "  reply   {}", outcome.text().escape_ascii())?;
             writeln!(f, "  table   {}", tables::shown(outcome.table()))?;
+            writeln!(f, "  blocks  {}", tables::figures_shown(outcome.blocks()))?;
         }
         Ok(())
     }
@@ -287,7 +304,12 @@ fn unlike(expected: &Outcome, got: &Outcome) -> Option<String> {
         format!("byte {at} is {new}, not {old}{past}")
     } else if let Some((at, (old, new))) = words.enumerate().find(|(_, (old, new))| old != new) {
         format!("word {at} is {new}, not {old}")
-    } else if expected.table != got.table || expected.reply != got.reply {
+    } else if expected.blocks() != got.blocks() {
+        "the blocks are others".to_string()
+    } else if expected.table != got.table
+        || expected.blocks != got.blocks
+        || expected.reply != got.reply
+    {
         "something beside the lent buffers is written".to_string()
     } else {
         "the message or the own mId is written".to_string()
@@ -359,6 +381,8 @@ pub struct Tally {
     /// goes.
     texts: u64,
     speech: u64,
+    /// Calls that change the blocks, and that report figures.
+    blocks: [u64; 2],
     /// Calls whose reply has the code.
     codes: BTreeMap<u32, u64>,
     /// Transactions' replies of exactly 2,048 bytes.
@@ -387,6 +411,8 @@ impl Tally {
             }
         }
         let text = outcome.text();
+        self.blocks[0] += u64::from(outcome.blocks() != case.blocks);
+        self.blocks[1] += u64::from(text.windows(7).any(|window| window == b"rtp/jit"));
         let mut codes: Vec<u32> = text
             .windows(6)
             .filter(|window| window.starts_with(b"ER="))
@@ -427,6 +453,9 @@ impl Tally {
         if self.speech == 0 {
             missing.push("a change of where speech goes".to_string());
         }
+        if self.blocks.contains(&0) {
+            missing.push("a change of the blocks, and figures".to_string());
+        }
         if self.full == 0 {
             missing.push("a reply of 2,048 bytes".to_string());
         }
@@ -453,8 +482,8 @@ impl fmt::Display for Tally {
         let [low, high] = self.map;
         write!(
             f,
-            "; changes of the map low:{low} high:{high}, of the flows:{}, of speech:{}; with texts {}; codes",
-            self.flows, self.speech, self.texts
+            "; changes of the map low:{low} high:{high}, of the flows:{}, of speech:{}, of the blocks:{}; with texts {}, figures {}; codes",
+            self.flows, self.speech, self.blocks[0], self.texts, self.blocks[1]
         )?;
         for (code, calls) in &self.codes {
             write!(f, " {code}:{calls}")?;

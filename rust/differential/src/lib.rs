@@ -1,7 +1,7 @@
 //! A differential test: any callee with the gateway's face against the
 //! reference, on random, damaged and boundary calls from a seed; what it
-//! answers of the map of the ephemerals and of the contexts; and demand 3 on the
-//! callee alone.
+//! answers of the map of the ephemerals and of the contexts; how it counts packets;
+//! and demand 3 on the callee alone.
 
 pub mod calls;
 pub mod contexts;
@@ -10,6 +10,7 @@ pub mod limits;
 pub mod maps;
 pub mod messages;
 pub mod numbers;
+pub mod packets;
 pub mod pairs;
 pub mod speech;
 pub mod tables;

@@ -295,7 +295,14 @@ fn reply_length(numbers: &mut Numbers, table: &[u32], scope: &Scope) -> Vec<u8> 
     let alone = [b"!/1 [10.0.0.1] ", &message[place..], b"}}"].concat();
     let mut reply = [0; reference::REPLY_BYTES];
     let lines = scope.lines.count();
-    let word_so_far = reference_word(lines, &alone, &mut table.to_vec(), OWN, &mut reply);
+    let word_so_far = reference_word(
+        lines,
+        &alone,
+        &mut table.to_vec(),
+        &mut [0; reference::blocks::BLOCK_WORDS],
+        OWN,
+        &mut reply,
+    );
     let so_far = (word_so_far as u32 as usize).saturating_sub(5 + OWN.len());
 
     // Each filler adds a comma, the word, `=`, a name and `{ER=code{}}`.

@@ -8,6 +8,9 @@
 //! `differential contexts SEED COUNT`: the contexts of so many tables as text,
 //! the archive against the reference.
 //!
+//! `differential packets SEED COUNT`: so many packets, the archive against the
+//! reference.
+//!
 //! `differential pairs SEED COUNT`: so many pairs of transactions that meet
 //! demand 3's conditions, in both orders.
 
@@ -18,10 +21,11 @@ use differential::calls::{compare, shortened, Cases, Tally, GUARD};
 use differential::contexts;
 use differential::maps::{ask, Questions};
 use differential::numbers::Numbers;
+use differential::packets;
 use differential::pairs::Pair;
 
 const USAGE: &str =
-    "usage: differential calls SEED COUNT [exact] | (maps | contexts | pairs) SEED COUNT";
+    "usage: differential calls SEED COUNT [exact] | (maps | contexts | packets | pairs) SEED COUNT";
 
 fn main() -> ExitCode {
     let words: Vec<String> = std::env::args().skip(1).collect();
@@ -47,6 +51,7 @@ fn test(words: &[&str]) -> Option<bool> {
         ("calls", ["exact"]) => Some(calls(seed, count, 0)),
         ("maps", []) => Some(maps(seed, count)),
         ("contexts", []) => Some(contexts(seed, count)),
+        ("packets", []) => Some(packets(seed, count)),
         ("pairs", []) => Some(pairs(seed, count)),
         _ => None,
     }
@@ -122,6 +127,30 @@ fn contexts(seed: u64, count: u64) -> bool {
     );
     if count >= 10_000 && [eight, eleven, two].contains(&0) {
         println!("a refusal never came");
+        return false;
+    }
+    true
+}
+
+fn packets(seed: u64, count: u64) -> bool {
+    let mut numbers = Numbers::new(seed);
+    let mut answered = [0; 10];
+    for place in 0..count {
+        match packets::ask(&mut numbers, cordafina::packet_word) {
+            Ok(answer) => answered[answer as usize] += 1,
+            Err(what) => {
+                println!("DIFFERENCE: {what}");
+                println!("seed {seed}, after {place} packets: 1 difference");
+                return false;
+            }
+        }
+    }
+    let [taken, eight, two, nine] = [0, 8, 2, 9].map(|number: usize| answered[number]);
+    println!(
+        "seed {seed}, {count} packets, counted {taken}, refused 8 {eight}, 2 {two}, 9 {nine} times: 0 differences"
+    );
+    if count >= 10_000 && [taken, eight, two, nine].contains(&0) {
+        println!("a refusal never came, or none was counted");
         return false;
     }
     true

@@ -19,6 +19,7 @@ const OWN: &[u8] = b"[10.0.0.9]";
 pub struct Pair {
     lines: Lines,
     table: Vec<u32>,
+    blocks: Vec<u32>,
     one: Vec<u8>,
     two: Vec<u8>,
 }
@@ -65,6 +66,7 @@ impl Pair {
         Pair {
             lines,
             table,
+            blocks: tables::sound_blocks(numbers),
             one,
             two,
         }
@@ -91,8 +93,15 @@ impl Pair {
     /// transactions change, or what ends unlike.
     pub fn run(&self, call: Call) -> Result<BothChange, String> {
         let (one, two) = (&self.one, &self.two);
-        let replied =
-            |table: &mut [u32], texts: &[&Vec<u8>]| replied(call, self.lines, table, texts);
+        // "they end with the same blocks": those of the start.
+        let replied = |table: &mut [u32], texts: &[&Vec<u8>]| {
+            let mut blocks = self.blocks.clone();
+            let reply = replied(call, self.lines, table, &mut blocks, texts);
+            match self.blocks == blocks {
+                true => reply,
+                false => Err("blocks are changed".to_string()),
+            }
+        };
         let mut table = self.table.clone();
         let first = replied(&mut table, &[one])?;
         let between = table.clone();
@@ -244,6 +253,7 @@ fn replied(
     call: Call,
     lines: Lines,
     table: &mut [u32],
+    blocks: &mut [u32],
     transactions: &[&Vec<u8>],
 ) -> Result<Vec<u8>, String> {
     let mut message = HEADER.to_vec();
@@ -251,7 +261,7 @@ fn replied(
         message.extend_from_slice(transaction);
     }
     let mut reply = [0; REPLY_BYTES];
-    let word = call(lines.count(), &message, table, OWN, &mut reply);
+    let word = call(lines.count(), &message, table, blocks, OWN, &mut reply);
     if word >> 32 != 0 {
         return Err(format!("refusal {}", word >> 32));
     }

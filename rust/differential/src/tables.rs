@@ -1,5 +1,6 @@
 //! Tables: random sound ones, and damaged ones.
 
+use reference::blocks::BLOCK_WORDS;
 use reference::table::{Lines, CONTEXTS, EPHEMERALS, MEMBERS};
 
 use crate::numbers::Numbers;
@@ -283,7 +284,9 @@ pub fn damaged(numbers: &mut Numbers, lines: Lines) -> Vec<u32> {
 
 /// Whether a context has a record.
 pub fn has_context(lines: Lines, table: &[u32], context: u32) -> bool {
-    let record = lines.records() + (context as usize).wrapping_sub(1);
+    let record = lines
+        .records()
+        .wrapping_add((context as usize).wrapping_sub(1));
     (1..=CONTEXTS as u32).contains(&context) && table.get(record).is_some_and(|&word| word != 0)
 }
 
@@ -301,4 +304,51 @@ pub fn shown(table: &[u32]) -> String {
         .map(|(place, word)| format!("{place}:{word}"))
         .collect();
     format!("{} words, {}", table.len(), words.join(" "))
+}
+
+/// Sound blocks: fresh, or of any figures.
+pub fn sound_blocks(numbers: &mut Numbers) -> Vec<u32> {
+    let mut words = vec![0; BLOCK_WORDS];
+    if numbers.under(4) == 0 {
+        return words;
+    }
+    for block in words.chunks_exact_mut(4) {
+        if numbers.under(3) == 0 {
+            continue;
+        }
+        let jitter = match numbers.under(4) {
+            0 => numbers.pick(&[0u64, 7, 8, 15, 16, 1 << 32, 1 << 35, (1 << 35) - 1]),
+            _ => numbers.under(1 << 32) as u64 * 8,
+        };
+        block[0] = numbers.pick(&[1, 2, 77, u32::MAX - 1, u32::MAX]);
+        block[1] = numbers.under(1 << 32) as u32;
+        block[2] = jitter as u32;
+        block[3] = (jitter >> 32) as u32;
+    }
+    words
+}
+
+/// The same, or, rarely, blocks that are not sound.
+pub fn blocks(numbers: &mut Numbers) -> Vec<u32> {
+    let mut words = sound_blocks(numbers);
+    match numbers.under(120) {
+        0 => words.truncate(252),
+        1 => words.extend([0; 4]),
+        2 => words[numbers.pick(&[3, 7, 255])] = 9,
+        3 => words[4..8].copy_from_slice(&[0, 0, 1, 0]),
+        4 => words[8..12].copy_from_slice(&[0, 1, 0, 0]),
+        5 => words[0..4].copy_from_slice(&[5, 1, 1, 8]),
+        _ => {}
+    }
+    words
+}
+
+/// The blocks that are not zero, each with its number.
+pub fn figures_shown(words: &[u32]) -> String {
+    let blocks = words.chunks(4).enumerate();
+    let some = blocks.filter(|(_, block)| block.iter().any(|&word| word != 0));
+    let shown: Vec<String> = some
+        .map(|(k, block)| format!("R/{} {block:?}", k + 1))
+        .collect();
+    format!("{} words: {}", words.len(), shown.join(", "))
 }

@@ -34,9 +34,16 @@ fn each_line(text: &mut [u8], byte: impl Fn(u8, u8) -> u8) {
 }
 
 /// Something is kept between calls.
-fn keeps_state(lines: u32, message: &[u8], table: &mut [u32], own: &[u8], reply: &mut [u8]) -> u64 {
+fn keeps_state(
+    lines: u32,
+    message: &[u8],
+    table: &mut [u32],
+    blocks: &mut [u32],
+    own: &[u8],
+    reply: &mut [u8],
+) -> u64 {
     static CALLS: AtomicU32 = AtomicU32::new(0);
-    let word = reference_word(lines, message, table, own, reply);
+    let word = reference_word(lines, message, table, blocks, own, reply);
     if word >> 32 == 0 && CALLS.fetch_add(1, Relaxed) % 100 == 99 {
         let property = &mut table[31 * lines as usize + 64];
         *property = (*property + 8) % 24;
@@ -63,6 +70,7 @@ fn judges_after_items(
     lines: u32,
     message: &[u8],
     table: &mut [u32],
+    blocks: &mut [u32],
     own: &[u8],
     reply: &mut [u8],
 ) -> u64 {
@@ -83,7 +91,14 @@ fn judges_after_items(
         };
         if *held / 8 == 1 {
             *held += 8;
-            let word = reference_word(lines, message, &mut words, own, &mut bytes);
+            let word = reference_word(
+                lines,
+                message,
+                &mut words,
+                &mut blocks.to_vec(),
+                own,
+                &mut bytes,
+            );
             if words[number] != table[number] && states(&mut words).unwrap()[number] < 8 {
                 table.copy_from_slice(&words);
                 reply.copy_from_slice(&bytes);
@@ -91,25 +106,32 @@ fn judges_after_items(
             }
         }
     }
-    reference_word(lines, message, table, own, reply)
+    reference_word(lines, message, table, blocks, own, reply)
 }
 
 /// Test does not move either.
-fn test_503(lines: u32, message: &[u8], table: &mut [u32], own: &[u8], reply: &mut [u8]) -> u64 {
+fn test_503(
+    lines: u32,
+    message: &[u8],
+    table: &mut [u32],
+    blocks: &mut [u32],
+    own: &[u8],
+    reply: &mut [u8],
+) -> u64 {
     let capital = message.to_ascii_uppercase();
     let mut before = table.to_vec();
     let Some(old) = states(&mut before) else {
-        return reference_word(lines, message, table, own, reply);
+        return reference_word(lines, message, table, blocks, own, reply);
     };
     if has(&capital, b"OS") || has(&capital, b"OUTOFSERVICE") {
-        return reference_word(lines, message, table, own, reply);
+        return reference_word(lines, message, table, blocks, own, reply);
     }
     // Those in Test are out of service during the call, which puts no other there.
     let in_test = |old: u32| u32::from(old / 8 == 2);
     for (word, &old) in states(table).unwrap().iter_mut().zip(&*old) {
         *word -= 8 * in_test(old);
     }
-    let result = reference_word(lines, message, table, own, reply);
+    let result = reference_word(lines, message, table, blocks, own, reply);
     for (word, &old) in states(table).unwrap().iter_mut().zip(&*old) {
         *word += 8 * in_test(old) * u32::from(*word / 8 == 1);
     }
@@ -121,11 +143,12 @@ fn judges_before_433(
     lines: u32,
     message: &[u8],
     table: &mut [u32],
+    blocks: &mut [u32],
     own: &[u8],
     reply: &mut [u8],
 ) -> u64 {
     let mut before = table.to_vec();
-    let word = reference_word(lines, message, table, own, reply);
+    let word = reference_word(lines, message, table, blocks, own, reply);
     for start in 0..length(word) {
         let text = &mut reply[start..length(word)];
         let Some(end) = text.iter().position(|&byte| byte == b'{') else {
@@ -179,11 +202,18 @@ fn bits(test: impl Fn(usize, usize) -> bool) -> u64 {
 /// after the call, and its squares. Where a context's members stay, or where
 /// there is a topology, the square stays.
 fn leaves_square(
-    (lines, message, table, own, reply): (u32, &[u8], &mut [u32], &[u8], &mut [u8]),
+    (lines, message, table, blocks, own, reply): (
+        u32,
+        &[u8],
+        &mut [u32],
+        &mut [u32],
+        &[u8],
+        &mut [u8],
+    ),
     other: impl Fn(&[usize], &[usize], u64, u64) -> u64,
 ) -> u64 {
     let mut before = table.to_vec();
-    let word = reference_word(lines, message, table, own, reply);
+    let word = reference_word(lines, message, table, blocks, own, reply);
     let transactions = read(message).unwrap_or_default();
     let mut properties = transactions
         .iter()
@@ -262,7 +292,14 @@ fn set(lines: u32, table: &mut [u32], id: u32, number: u32, properties: &[Proper
     let message = [head.as_bytes(), &text(properties), b"}}"].concat();
     let mut words = table.to_vec();
     let mut reply = [0; reference::REPLY_BYTES];
-    let word = reference_word(lines, &message, &mut words, b"[10.0.0.9]", &mut reply);
+    let word = reference_word(
+        lines,
+        &message,
+        &mut words,
+        &mut [0; 256],
+        b"[10.0.0.9]",
+        &mut reply,
+    );
     let set = word >> 32 == 0 && !has(&reply[..length(word)], b"ER=");
     if set {
         table.copy_from_slice(&words);
@@ -275,11 +312,12 @@ fn judges_435_first(
     lines: u32,
     message: &[u8],
     table: &mut [u32],
+    blocks: &mut [u32],
     own: &[u8],
     reply: &mut [u8],
 ) -> u64 {
     let before = table.to_vec();
-    let word = reference_word(lines, message, table, own, reply);
+    let word = reference_word(lines, message, table, blocks, own, reply);
     let refused = refused_triple(message, &reply[..length(word)]);
     let (Some((context, action, code)), Some(fitted)) = (refused, Lines::fitted(lines)) else {
         return word;
@@ -306,15 +344,22 @@ fn judges_435_first(
 }
 
 /// The triples before a faulty one are set.
-fn sets_half(lines: u32, message: &[u8], table: &mut [u32], own: &[u8], reply: &mut [u8]) -> u64 {
+fn sets_half(
+    lines: u32,
+    message: &[u8],
+    table: &mut [u32],
+    blocks: &mut [u32],
+    own: &[u8],
+    reply: &mut [u8],
+) -> u64 {
     let mut words = table.to_vec();
-    let word = reference_word(lines, message, &mut words, own, reply);
+    let word = reference_word(lines, message, &mut words, blocks, own, reply);
     if let Some((number, action, _)) = refused_triple(message, &reply[..length(word)]) {
         let all: Vec<Triple> = triples(&action.properties).into_iter().copied().collect();
         let mut parts = (1..all.len()).rev().map(|end| all[..end].to_vec());
         parts.any(|part| set(lines, table, 1, number, &[Property::Topology(part)]));
     }
-    reference_word(lines, message, table, own, reply)
+    reference_word(lines, message, table, blocks, own, reply)
 }
 
 /// Priority and emergency are set though a triple is faulty.
@@ -322,27 +367,35 @@ fn sets_priority(
     lines: u32,
     message: &[u8],
     table: &mut [u32],
+    blocks: &mut [u32],
     own: &[u8],
     reply: &mut [u8],
 ) -> u64 {
     let mut words = table.to_vec();
-    let word = reference_word(lines, message, &mut words, own, reply);
+    let word = reference_word(lines, message, &mut words, blocks, own, reply);
     if let Some((number, mut action, _)) = refused_triple(message, &reply[..length(word)]) {
         let properties = &mut action.properties;
         properties.retain(|one| !matches!(one, Property::Topology(_)));
         set(lines, table, 1, number, properties);
     }
-    reference_word(lines, message, table, own, reply)
+    reference_word(lines, message, table, blocks, own, reply)
 }
 
 /// A callee that takes the triples of an action of properties alone, which is
 /// all of its message, as others.
 fn takes_triples(
-    (lines, message, table, own, reply): (u32, &[u8], &mut [u32], &[u8], &mut [u8]),
+    (lines, message, table, blocks, own, reply): (
+        u32,
+        &[u8],
+        &mut [u32],
+        &mut [u32],
+        &[u8],
+        &mut [u8],
+    ),
     others: impl Fn(&mut Vec<Property>),
 ) -> u64 {
     let mut words = table.to_vec();
-    let word = reference_word(lines, message, table, own, reply);
+    let word = reference_word(lines, message, table, blocks, own, reply);
     let transactions = read(message).unwrap_or_default();
     if let [transaction] = &transactions[..] {
         if let [action] = &transaction.actions[..] {
@@ -368,10 +421,11 @@ fn takes_the_last(
     lines: u32,
     message: &[u8],
     table: &mut [u32],
+    blocks: &mut [u32],
     own: &[u8],
     reply: &mut [u8],
 ) -> u64 {
-    takes_triples((lines, message, table, own, reply), |properties| {
+    takes_triples((lines, message, table, blocks, own, reply), |properties| {
         let topology = |one: &Property| matches!(one, Property::Topology(_));
         while properties.iter().filter(|one| topology(one)).count() > 1 {
             properties.remove(properties.iter().position(topology).expect("two"));
@@ -384,10 +438,11 @@ fn takes_them_backward(
     lines: u32,
     message: &[u8],
     table: &mut [u32],
+    blocks: &mut [u32],
     own: &[u8],
     reply: &mut [u8],
 ) -> u64 {
-    takes_triples((lines, message, table, own, reply), |properties| {
+    takes_triples((lines, message, table, blocks, own, reply), |properties| {
         properties.reverse();
         for property in properties {
             if let Property::Topology(triples) = property {
@@ -416,7 +471,14 @@ fn speech(table: &mut [u32]) -> &mut [u32] {
 
 /// A callee that takes each text as another, which is no longer.
 fn takes_texts(
-    (lines, message, table, own, reply): (u32, &[u8], &mut [u32], &[u8], &mut [u8]),
+    (lines, message, table, blocks, own, reply): (
+        u32,
+        &[u8],
+        &mut [u32],
+        &mut [u32],
+        &[u8],
+        &mut [u8],
+    ),
     other: impl Fn(&[u8]) -> Vec<u8>,
 ) -> u64 {
     let mut taken = Vec::new();
@@ -430,13 +492,13 @@ fn takes_texts(
         }
     }
     taken.extend_from_slice(rest);
-    reference_word(lines, &taken, table, own, reply)
+    reference_word(lines, &taken, table, blocks, own, reply)
 }
 
 /// A callee that takes each line of each text as another, all in the order that
 /// they are given.
 fn takes_lines(
-    call: (u32, &[u8], &mut [u32], &[u8], &mut [u8]),
+    call: (u32, &[u8], &mut [u32], &mut [u32], &[u8], &mut [u8]),
     other: impl Fn(&mut Vec<&[u8]>),
 ) -> u64 {
     takes_texts(call, |text| {
@@ -462,6 +524,7 @@ fn text_in_any_place(
     lines: u32,
     message: &[u8],
     table: &mut [u32],
+    blocks: &mut [u32],
     own: &[u8],
     reply: &mut [u8],
 ) -> u64 {
@@ -481,7 +544,7 @@ fn text_in_any_place(
         _ => None,
     };
     let taken = taken.unwrap_or_else(|| message.to_vec());
-    reference_word(lines, &taken, table, own, reply)
+    reference_word(lines, &taken, table, blocks, own, reply)
 }
 
 fn speaks(command: &Command) -> bool {
@@ -494,10 +557,11 @@ fn judges_447_first(
     lines: u32,
     message: &[u8],
     table: &mut [u32],
+    blocks: &mut [u32],
     own: &[u8],
     reply: &mut [u8],
 ) -> u64 {
-    let word = reference_word(lines, message, table, own, reply);
+    let word = reference_word(lines, message, table, blocks, own, reply);
     let transactions = read(message).unwrap_or_default();
     let actions = transactions.iter().flat_map(|one| &one.actions);
     let commands: Vec<&Command> = actions.flat_map(|action| &action.commands).collect();
@@ -529,28 +593,90 @@ fn judges_447_first(
     word
 }
 
-const DEFECTS: [(&str, Call); 46] = [
+const DEFECTS: [(&str, Call); 50] = [
+    (
+        "a new ephemeral keeps the figures of the last one",
+        |lines, message, table, blocks, own, reply| {
+            let before = blocks.to_vec();
+            let word = reference_word(lines, message, table, blocks, own, reply);
+            blocks.copy_from_slice(&before);
+            word
+        },
+    ),
+    (
+        "Subtract resets the figures",
+        |lines, message, table, blocks, own, reply| {
+            let used = table.to_vec();
+            let word = reference_word(lines, message, table, blocks, own, reply);
+            let first = 31 * lines as usize;
+            for k in 0..64 {
+                if word >> 32 == 0 && used[first + k] != 0 && table[first + k] == 0 {
+                    blocks[4 * k..4 * k + 4].fill(0);
+                }
+            }
+            word
+        },
+    ),
+    (
+        "a block with J over 2^35 is taken",
+        |lines, message, table, blocks, own, reply| {
+            let mut mended = blocks.to_vec();
+            for block in mended.chunks_exact_mut(4) {
+                if block[3] >= 8 {
+                    (block[2], block[3]) = (0, 8);
+                }
+            }
+            match reference_word(lines, message, table, &mut mended, own, reply) {
+                word if word >> 32 != 0 => word,
+                word => {
+                    blocks.copy_from_slice(&mended);
+                    word
+                }
+            }
+        },
+    ),
+    (
+        "the jitter told is one less",
+        |lines, message, table, blocks, own, reply| {
+            let mut others = blocks.to_vec();
+            for block in others.chunks_exact_mut(4) {
+                if block[3] == 0 && block[2] > 15 {
+                    block[2] -= 16;
+                }
+            }
+            let (mut words, mut bytes) = (table.to_vec(), reply.to_vec());
+            reference_word(lines, message, &mut words, blocks, own, &mut bytes);
+            reference_word(lines, message, table, &mut others, own, reply)
+        },
+    ),
     (
         "a text ends at an escaped brace",
-        |lines, message, table, own, reply| {
-            takes_texts((lines, message, table, own, reply), |text| {
+        |lines, message, table, blocks, own, reply| {
+            takes_texts((lines, message, table, blocks, own, reply), |text| {
                 replaced(text, b"\\}", b"_}")
             })
         },
     ),
     (
         "a backslash is escaped by another",
-        |lines, message, table, own, reply| {
-            takes_texts((lines, message, table, own, reply), |text| {
+        |lines, message, table, blocks, own, reply| {
+            takes_texts((lines, message, table, blocks, own, reply), |text| {
                 replaced(text, b"\\\\}", b"__}")
             })
         },
     ),
     (
         "byte 0 is taken in a text",
-        |lines, message, table, own, reply| {
+        |lines, message, table, blocks, own, reply| {
             // As byte 1, which is a fault in all other places.
-            reference_word(lines, &replaced(message, b"\0", b"\x01"), table, own, reply)
+            reference_word(
+                lines,
+                &replaced(message, b"\0", b"\x01"),
+                table,
+                blocks,
+                own,
+                reply,
+            )
         },
     ),
     (
@@ -559,8 +685,8 @@ const DEFECTS: [(&str, Call); 46] = [
     ),
     (
         "the order of the lines is not judged",
-        |lines, message, table, own, reply| {
-            takes_lines((lines, message, table, own, reply), |lines| {
+        |lines, message, table, blocks, own, reply| {
+            takes_lines((lines, message, table, blocks, own, reply), |lines| {
                 lines.sort_by_key(|line| match line.first() {
                     Some(b'v') => 0,
                     Some(b'c') => 1,
@@ -572,8 +698,8 @@ const DEFECTS: [(&str, Call); 46] = [
     ),
     (
         "spaces at a line's end are taken",
-        |lines, message, table, own, reply| {
-            takes_lines((lines, message, table, own, reply), |lines| {
+        |lines, message, table, blocks, own, reply| {
+            takes_lines((lines, message, table, blocks, own, reply), |lines| {
                 lines
                     .iter_mut()
                     .for_each(|line| *line = line.trim_ascii_end());
@@ -582,42 +708,45 @@ const DEFECTS: [(&str, Call); 46] = [
     ),
     (
         "port 65536 is port 0",
-        |lines, message, table, own, reply| {
-            takes_texts((lines, message, table, own, reply), |text| {
+        |lines, message, table, blocks, own, reply| {
+            takes_texts((lines, message, table, blocks, own, reply), |text| {
                 replaced(text, b"audio 65536", b"audio 00000")
             })
         },
     ),
-    ("type 128 is type 0", |lines, message, table, own, reply| {
-        takes_texts((lines, message, table, own, reply), |text| {
-            replaced(text, b"RTP/AVP 128", b"RTP/AVP 000")
-        })
-    }),
+    (
+        "type 128 is type 0",
+        |lines, message, table, blocks, own, reply| {
+            takes_texts((lines, message, table, blocks, own, reply), |text| {
+                replaced(text, b"RTP/AVP 128", b"RTP/AVP 000")
+            })
+        },
+    ),
     (
         "Local is kept in Remote's place",
-        |lines, message, table, own, reply| {
+        |lines, message, table, blocks, own, reply| {
             let exchange = |side: &mut [u32]| side.rotate_left(4);
             speech(table).chunks_exact_mut(8).for_each(exchange);
-            let word = reference_word(lines, message, table, own, reply);
+            let word = reference_word(lines, message, table, blocks, own, reply);
             speech(table).chunks_exact_mut(8).for_each(exchange);
             word
         },
     ),
     (
         "the first number of an address is lowest",
-        |lines, message, table, own, reply| {
+        |lines, message, table, blocks, own, reply| {
             let backward = |side: &mut [u32]| side[1] = side[1].swap_bytes();
             speech(table).chunks_exact_mut(4).for_each(backward);
-            let word = reference_word(lines, message, table, own, reply);
+            let word = reference_word(lines, message, table, blocks, own, reply);
             speech(table).chunks_exact_mut(4).for_each(backward);
             word
         },
     ),
     (
         "one side given, the other is released",
-        |lines, message, table, own, reply| {
+        |lines, message, table, blocks, own, reply| {
             let before = speech(table).to_vec();
-            let word = reference_word(lines, message, table, own, reply);
+            let word = reference_word(lines, message, table, blocks, own, reply);
             for (new, old) in speech(table)
                 .chunks_exact_mut(8)
                 .zip(before.chunks_exact(8))
@@ -634,9 +763,9 @@ const DEFECTS: [(&str, Call); 46] = [
     ),
     (
         "a Subtract keeps where speech goes",
-        |lines, message, table, own, reply| {
+        |lines, message, table, blocks, own, reply| {
             let before = speech(table).to_vec();
-            let word = reference_word(lines, message, table, own, reply);
+            let word = reference_word(lines, message, table, blocks, own, reply);
             let exists = tables::lines_of(table.len()).map(|lines| tables::map(lines, table));
             for (place, &old) in before.iter().enumerate() {
                 if exists.is_some_and(|map| map >> (place / 8) & 1 == 0) {
@@ -653,8 +782,8 @@ const DEFECTS: [(&str, Call); 46] = [
     ("keeps state", keeps_state),
     (
         "one byte of a long reply",
-        |lines, message, table, own, reply| {
-            let word = reference_word(lines, message, table, own, reply);
+        |lines, message, table, blocks, own, reply| {
+            let word = reference_word(lines, message, table, blocks, own, reply);
             if length(word) > 200 {
                 reply[length(word) - 7] ^= 0x20;
             }
@@ -663,9 +792,9 @@ const DEFECTS: [(&str, Call); 46] = [
     ),
     (
         "the last word is not written",
-        |lines, message, table, own, reply| {
+        |lines, message, table, blocks, own, reply| {
             let before = table.to_vec();
-            let word = reference_word(lines, message, table, own, reply);
+            let word = reference_word(lines, message, table, blocks, own, reply);
             let changed = (0..before.len()).rev().find(|&at| table[at] != before[at]);
             if let Some(at) = changed {
                 table[at] = before[at];
@@ -675,8 +804,8 @@ const DEFECTS: [(&str, Call); 46] = [
     ),
     (
         "a reply that grew too long was made in the buffer",
-        |lines, message, table, own, reply| {
-            let word = reference_word(lines, message, table, own, reply);
+        |lines, message, table, blocks, own, reply| {
+            let word = reference_word(lines, message, table, blocks, own, reply);
             if has(&reply[..length(word)], b"ER=533") {
                 reply[length(word)] = b'}';
             }
@@ -685,8 +814,8 @@ const DEFECTS: [(&str, Call); 46] = [
     ),
     (
         "a reply of 2,049 bytes",
-        |lines, message, table, own, reply| {
-            let word = reference_word(lines, message, table, own, reply);
+        |lines, message, table, blocks, own, reply| {
+            let word = reference_word(lines, message, table, blocks, own, reply);
             match length(word) == 2_048 + 5 + own.len() {
                 true => word + 1,
                 false => word,
@@ -695,23 +824,23 @@ const DEFECTS: [(&str, Call); 46] = [
     ),
     (
         "1 before 2, 3 and 4",
-        |lines, message, table, own, reply| {
-            let word = reference_word(lines, message, table, own, reply);
+        |lines, message, table, blocks, own, reply| {
+            let word = reference_word(lines, message, table, blocks, own, reply);
             match word >> 32 {
                 2..=4 if message.is_empty() => 1 << 32,
                 _ => word,
             }
         },
     ),
-    ("4 before 2", |lines, message, table, own, reply| {
-        let word = reference_word(lines, message, table, own, reply);
+    ("4 before 2", |lines, message, table, blocks, own, reply| {
+        let word = reference_word(lines, message, table, blocks, own, reply);
         match word >> 32 {
             2 if !reference::text::is_mid(own) => 4 << 32,
             _ => word,
         }
     }),
-    ("8 after 3", |lines, message, table, own, reply| {
-        let word = reference_word(lines, message, table, own, reply);
+    ("8 after 3", |lines, message, table, blocks, own, reply| {
+        let word = reference_word(lines, message, table, blocks, own, reply);
         match word >> 32 {
             8 if reply.len() < reference::REPLY_BYTES => 3 << 32,
             _ => word,
@@ -719,8 +848,8 @@ const DEFECTS: [(&str, Call); 46] = [
     }),
     (
         "a refusal writes the reply",
-        |lines, message, table, own, reply| {
-            let word = reference_word(lines, message, table, own, reply);
+        |lines, message, table, blocks, own, reply| {
+            let word = reference_word(lines, message, table, blocks, own, reply);
             if word >> 32 != 0 && !reply.is_empty() {
                 reply[0] = b'!';
             }
@@ -729,8 +858,8 @@ const DEFECTS: [(&str, Call); 46] = [
     ),
     (
         "a refusal writes the table",
-        |lines, message, table, own, reply| {
-            let word = reference_word(lines, message, table, own, reply);
+        |lines, message, table, blocks, own, reply| {
+            let word = reference_word(lines, message, table, blocks, own, reply);
             if word >> 32 == 1 {
                 table[table.len() - 1] ^= 1;
             }
@@ -739,23 +868,23 @@ const DEFECTS: [(&str, Call); 46] = [
     ),
     (
         "the count of lines is read as a byte",
-        |lines, message, table, own, reply| {
-            reference_word(lines & 0xFF, message, table, own, reply)
+        |lines, message, table, blocks, own, reply| {
+            reference_word(lines & 0xFF, message, table, blocks, own, reply)
         },
     ),
     (
         "a table of any count's size is taken",
-        |lines, message, table, own, reply| {
+        |lines, message, table, blocks, own, reply| {
             let fitted = Lines::fitted(lines).and(tables::lines_of(table.len()));
             let lines = fitted.map_or(lines, Lines::count);
-            reference_word(lines, message, table, own, reply)
+            reference_word(lines, message, table, blocks, own, reply)
         },
     ),
     (
         "R/1 is written at 248 on any count",
-        |lines, message, table, own, reply| {
+        |lines, message, table, blocks, own, reply| {
             let before = table.to_vec();
-            let word = reference_word(lines, message, table, own, reply);
+            let word = reference_word(lines, message, table, blocks, own, reply);
             let first = 31 * lines as usize;
             if word >> 32 == 0 && table[first] != before[first] {
                 let context = std::mem::replace(&mut table[first], before[first]);
@@ -766,14 +895,14 @@ const DEFECTS: [(&str, Call); 46] = [
     ),
     (
         "lines up to 8 on any count",
-        |lines, message, table, own, reply| {
+        |lines, message, table, blocks, own, reply| {
             // `L/9/` and `L/10` are read as `L/_/` and `L/_0`, and reported as they were.
             let mut message = message.to_vec();
             each_line(&mut message, |digit, next| match (digit, next) {
                 (b'9', b'/') | (b'1', b'0'..=b'6') => b'_',
                 _ => digit,
             });
-            let word = reference_word(lines, &message, table, own, reply);
+            let word = reference_word(lines, &message, table, blocks, own, reply);
             each_line(&mut reply[..length(word)], |digit, next| match digit {
                 b'_' if next == b'/' => b'9',
                 b'_' => b'1',
@@ -784,12 +913,12 @@ const DEFECTS: [(&str, Call); 46] = [
     ),
     (
         "the map is not judged",
-        |lines, message, table, own, reply| {
+        |lines, message, table, blocks, own, reply| {
             let before = table.to_vec();
             if let Some(lines) = tables::lines_of(table.len()) {
                 tables::set_map(lines, table);
             }
-            let word = reference_word(lines, message, table, own, reply);
+            let word = reference_word(lines, message, table, blocks, own, reply);
             if word >> 32 != 0 {
                 table.copy_from_slice(&before);
             }
@@ -798,18 +927,18 @@ const DEFECTS: [(&str, Call); 46] = [
     ),
     (
         "the map is not written",
-        |lines, message, table, own, reply| {
+        |lines, message, table, blocks, own, reply| {
             let before = map(table).to_vec();
-            let word = reference_word(lines, message, table, own, reply);
+            let word = reference_word(lines, message, table, blocks, own, reply);
             map(table).copy_from_slice(&before);
             word
         },
     ),
     (
         "the map's high half is not written",
-        |lines, message, table, own, reply| {
+        |lines, message, table, blocks, own, reply| {
             let before = map(table).last().copied();
-            let word = reference_word(lines, message, table, own, reply);
+            let word = reference_word(lines, message, table, blocks, own, reply);
             if let (Some(last), Some(before)) = (map(table).last_mut(), before) {
                 *last = before;
             }
@@ -818,18 +947,18 @@ const DEFECTS: [(&str, Call); 46] = [
     ),
     (
         "the map's high half comes first",
-        |lines, message, table, own, reply| {
+        |lines, message, table, blocks, own, reply| {
             map(table).reverse();
-            let word = reference_word(lines, message, table, own, reply);
+            let word = reference_word(lines, message, table, blocks, own, reply);
             map(table).reverse();
             word
         },
     ),
     (
         "a joiner is isolated",
-        |lines, message, table, own, reply| {
+        |lines, message, table, blocks, own, reply| {
             leaves_square(
-                (lines, message, table, own, reply),
+                (lines, message, table, blocks, own, reply),
                 |old, new, _, square| {
                     let joined =
                         |place: usize| new.get(place).is_some_and(|one| !old.contains(one));
@@ -840,9 +969,9 @@ const DEFECTS: [(&str, Call); 46] = [
     ),
     (
         "a joiner has the last place",
-        |lines, message, table, own, reply| {
+        |lines, message, table, blocks, own, reply| {
             leaves_square(
-                (lines, message, table, own, reply),
+                (lines, message, table, blocks, own, reply),
                 |old, new, held, square| {
                     if !old.iter().all(|one| new.contains(one)) {
                         return square;
@@ -858,9 +987,9 @@ const DEFECTS: [(&str, Call); 46] = [
     ),
     (
         "a leaver's place is not closed",
-        |lines, message, table, own, reply| {
+        |lines, message, table, blocks, own, reply| {
             leaves_square(
-                (lines, message, table, own, reply),
+                (lines, message, table, blocks, own, reply),
                 |old, new, held, square| match new.iter().all(|one| old.contains(one)) {
                     true => held & bits(|from, to| from < new.len() && to < new.len()),
                     false => square,
@@ -875,32 +1004,32 @@ const DEFECTS: [(&str, Call); 46] = [
     ("the triples are set from the last on", takes_them_backward),
     (
         "the flows' high half comes first",
-        |lines, message, table, own, reply| {
+        |lines, message, table, blocks, own, reply| {
             flows(table).chunks_exact_mut(2).for_each(<[u32]>::reverse);
-            let word = reference_word(lines, message, table, own, reply);
+            let word = reference_word(lines, message, table, blocks, own, reply);
             flows(table).chunks_exact_mut(2).for_each(<[u32]>::reverse);
             word
         },
     ),
     (
         "the flows are transposed",
-        |lines, message, table, own, reply| {
+        |lines, message, table, blocks, own, reply| {
             transpose(table);
-            let word = reference_word(lines, message, table, own, reply);
+            let word = reference_word(lines, message, table, blocks, own, reply);
             transpose(table);
             word
         },
     ),
     (
         "the flows' diagonal is not judged",
-        |lines, message, table, own, reply| {
+        |lines, message, table, blocks, own, reply| {
             let before = table.to_vec();
             let diagonal = bits(|from, to| from == to);
             for halves in flows(table).chunks_exact_mut(2) {
                 halves[0] &= !(diagonal as u32);
                 halves[1] &= !((diagonal >> 32) as u32);
             }
-            let word = reference_word(lines, message, table, own, reply);
+            let word = reference_word(lines, message, table, blocks, own, reply);
             if word >> 32 != 0 {
                 table.copy_from_slice(&before);
             }
@@ -909,7 +1038,7 @@ const DEFECTS: [(&str, Call); 46] = [
     ),
     (
         "the flows' unused places are not judged",
-        |lines, message, table, own, reply| {
+        |lines, message, table, blocks, own, reply| {
             let before = table.to_vec();
             for context in 1..=CONTEXTS {
                 let Some(fitted) = tables::lines_of(table.len()) else {
@@ -920,7 +1049,7 @@ const DEFECTS: [(&str, Call); 46] = [
                 flows(table)[2 * (context - 1)] &= used as u32;
                 flows(table)[2 * context - 1] &= (used >> 32) as u32;
             }
-            let word = reference_word(lines, message, table, own, reply);
+            let word = reference_word(lines, message, table, blocks, own, reply);
             if word >> 32 != 0 {
                 table.copy_from_slice(&before);
             }
@@ -963,11 +1092,11 @@ fn the_reference_is_like_itself() {
     // Also where texts and lines are taken as they are.
     const SAME: [Call; 3] = [
         reference_word,
-        |lines, message, table, own, reply| {
-            takes_texts((lines, message, table, own, reply), <[u8]>::to_vec)
+        |lines, message, table, blocks, own, reply| {
+            takes_texts((lines, message, table, blocks, own, reply), <[u8]>::to_vec)
         },
-        |lines, message, table, own, reply| {
-            takes_lines((lines, message, table, own, reply), |_| {})
+        |lines, message, table, blocks, own, reply| {
+            takes_lines((lines, message, table, blocks, own, reply), |_| {})
         },
     ];
     for same in SAME {

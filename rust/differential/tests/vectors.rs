@@ -1,12 +1,15 @@
-//! Runs the recorded calls of the folder that the variable VECTORS names
-//! (`calls.jsonl`) on the reference and on the archive, and its listings
-//! (`listing/`) on the reference; without it, nothing is run.
+//! Runs the recorded calls and packets of the folder that the variable VECTORS
+//! names (`calls.jsonl`, `packets.jsonl` if there is one) on the reference and on
+//! the archive, and its listings (`listing/`) on the reference; without it, nothing
+//! is run.
 
 use std::fs;
 use std::path::{Path, PathBuf};
 
 use cordafina::answer_word;
 use differential::calls::{outcome, reference_word, Call, Case, GUARD};
+use differential::packets::Counted;
+use reference::blocks::BLOCK_WORDS;
 use reference::listing::listing;
 
 fn folder() -> Option<PathBuf> {
@@ -27,6 +30,7 @@ struct Row {
     case: Case,
     refusal: u64,
     reply: Vec<u8>,
+    blocks: Vec<u32>,
     after: Vec<u32>,
 }
 
@@ -135,6 +139,26 @@ impl<'a> Json<'a> {
         words
     }
 
+    /// The blocks, 64 of zeros where a row has none, and the comma after them.
+    fn blocks(&mut self, name: &str) -> Vec<u32> {
+        if !self.take(&format!("\"{name}\":")) {
+            return vec![0; BLOCK_WORDS];
+        }
+        if self.take("null") {
+            self.take(",");
+            return vec![0; BLOCK_WORDS];
+        }
+        self.skip("{");
+        self.key("len");
+        let length = self.number();
+        self.skip(",");
+        self.key("words");
+        let words = self.words(length);
+        self.skip("}");
+        self.take(",");
+        words
+    }
+
     fn row(line: &'a str) -> Row {
         let mut json = Json(line);
         json.skip("{");
@@ -164,7 +188,7 @@ impl<'a> Json<'a> {
         };
         json.take(",");
         json.none("room");
-        json.none("blocks");
+        let blocks = json.blocks("blocks");
         json.key("refusal");
         let refusal = json.number();
         json.skip(",");
@@ -175,13 +199,14 @@ impl<'a> Json<'a> {
         let after = json.words(length);
         json.take(",");
         json.none("room_after");
-        json.none("blocks_after");
+        let blocks_after = json.blocks("blocks_after");
         json.skip("}");
         assert!(json.0.trim().is_empty());
         let case = Case {
             lines,
             message: message.into_boxed_slice(),
             table,
+            blocks,
             own: own.into_boxed_slice(),
             reply: reply_length,
         };
@@ -191,6 +216,7 @@ impl<'a> Json<'a> {
             refusal,
             reply,
             after,
+            blocks: blocks_after,
         }
     }
 }
@@ -217,6 +243,9 @@ fn differs(row: &Row, call: Call) -> Option<String> {
     }
     if !got.stays_elsewhere(&row.case) {
         return Some("something past the reply or beside the buffers is written".to_string());
+    }
+    if got.blocks() != row.blocks {
+        return Some("the blocks are others".to_string());
     }
     let table = got.table();
     let word = (0..table.len()).find(|&place| table[place] != row.after[place])?;
@@ -258,6 +287,67 @@ fn calls_on_the_reference() {
 #[test]
 fn calls_on_the_archive() {
     run("archive", answer_word);
+}
+
+/// Has a side count the packet of one line of `packets.jsonl`; whether it did so
+/// as recorded.
+fn counted(line: &str, side: Counted) -> bool {
+    /// More words than any table has; the length comes behind them.
+    const MOST: usize = 4096;
+    let mut json = Json(line);
+    json.skip("{");
+    json.key("lines");
+    let lines = json.number();
+    json.skip(",");
+    let [table, blocks] = ["table", "blocks"].map(|name| {
+        json.key(name);
+        let words = json.words(MOST);
+        json.skip(",");
+        words
+    });
+    let [n, arrival, stamp, refusal] = ["n", "arrival", "stamp", "refusal"].map(|name| {
+        json.key(name);
+        let number: u32 = json.number();
+        json.skip(",");
+        number
+    });
+    json.key("after");
+    let after = json.words(MOST);
+    let [table_length, length, _] = ["table_len", "blocks_len", "after_len"].map(|name| {
+        json.skip(",");
+        json.key(name);
+        json.number::<usize>()
+    });
+    json.skip("}");
+    // The words past the blocks' length are not lent.
+    let mut lent = blocks;
+    let table = &table[..table_length];
+    let answer = side(lines, table, &mut lent[..length], n, arrival, stamp);
+    answer == refusal && lent == after
+}
+
+#[test]
+fn packets() {
+    let Some(path) = folder().map(|folder| folder.join("packets.jsonl")) else {
+        return;
+    };
+    if !path.exists() {
+        println!("no packets.jsonl: no packets are run");
+        return;
+    }
+    let text = String::from_utf8(read(&path)).unwrap();
+    for (name, side) in [
+        ("reference", reference::packet as Counted),
+        ("archive", cordafina::packet_word),
+    ] {
+        let different = text.lines().filter(|line| !counted(line, side)).count();
+        println!(
+            "{name}: {} packets, {different} different",
+            text.lines().count()
+        );
+        assert!(!text.is_empty());
+        assert_eq!(different, 0);
+    }
 }
 
 #[test]

@@ -1,10 +1,11 @@
 //! A small Megaco (H.248.1) text gateway, in plain Rust, after document 01 and
-//! document 02's requests 10, 5, 2, 1, 6 and 11.
+//! document 02's requests 10, 5, 2, 1, 6, 11 and 12.
 //!
-//! The count of lines, one message, a lent table and a lent reply buffer go in;
+//! The count of lines, one message, a lent table, lent blocks and a lent reply buffer go in;
 //! an [`Answer`] comes out. The whole message is read to a tree before anything
 //! runs. The quoted sentences in the comments are those documents'.
 
+pub mod blocks;
 pub mod listing;
 pub mod map;
 pub mod reply;
@@ -31,7 +32,7 @@ pub enum Answer {
     Taken(usize),
     /// "reply buffer under 16,640 bytes"
     ReplyTooShort,
-    /// Table not of the count's words, "or not sound"
+    /// Table not of the count's words, "or not sound"; blocks not 64, or not sound
     TableUnsound,
     /// "gateway's own mId not an mId as below, or over 64 bytes"
     MidUnfit,
@@ -57,12 +58,13 @@ impl Answer {
 
 /// Answers one message, with so many lines fitted.
 ///
-/// A call turned down changes neither `reply` nor `table`. A call taken writes
+/// A call turned down changes neither `reply` nor `table` nor `blocks`. A call taken writes
 /// its reply from the start of the buffer, "and bytes past its length stay".
 pub fn answer(
     lines: u32,
     message: &[u8],
     table: &mut [u32],
+    blocks: &mut [u32],
     own: &[u8],
     reply: &mut [u8],
 ) -> Answer {
@@ -75,6 +77,9 @@ pub fn answer(
     let Some(mut table) = Table::sound(lines, table) else {
         return Answer::TableUnsound;
     };
+    if !blocks::sound(blocks) {
+        return Answer::TableUnsound;
+    }
     if own.len() > OWN_MID_BYTES || !text::is_mid(own) {
         return Answer::MidUnfit;
     }
@@ -84,7 +89,7 @@ pub fn answer(
 
     let mut out = Reply::new(lines, own);
     match text::read(message) {
-        Ok(transactions) => run::run(&transactions, &mut table, &mut out),
+        Ok(transactions) => run::run(&transactions, &mut table, blocks, &mut out),
         Err(Fault::Message) => out.message_error(400),
         Err(Fault::Version) => out.message_error(406),
         Err(Fault::Transaction(id)) => out.transaction_error(id, 403),
@@ -92,4 +97,32 @@ pub fn answer(
     let bytes = out.bytes();
     reply[..bytes.len()].copy_from_slice(bytes);
     Answer::Taken(bytes.len())
+}
+
+/// Counts one packet of `R/n`: 8, 2 and 9 in this order, or 0.
+pub fn packet(
+    lines: u32,
+    table: &[u32],
+    blocks: &mut [u32],
+    n: u32,
+    arrival: u32,
+    stamp: u32,
+) -> u32 {
+    let Some(lines) = Lines::fitted(lines) else {
+        return 8;
+    };
+    let mut words = table.to_vec();
+    let Some(table) = Table::sound(lines, &mut words) else {
+        return 2;
+    };
+    if !blocks::sound(blocks) {
+        return 2;
+    }
+    let place = (n as usize).wrapping_sub(1);
+    if place >= table::EPHEMERALS || !table.exists(lines.line_terminations() + place) {
+        return 9;
+    }
+    let block = blocks::updated(blocks::block(blocks, place), arrival, stamp);
+    blocks::set(blocks, place, block);
+    0
 }

@@ -11,11 +11,19 @@ const LINES: Lines = Lines::EIGHT;
 
 /// Answers each line of `input` on a line of `out`, then lists the contexts.
 pub fn listing(mut input: impl BufRead, mut out: impl Write) -> io::Result<()> {
+    let mut blocks = [0; crate::blocks::BLOCK_WORDS];
     let mut table = [0; LINES.words()];
     let mut reply = vec![0; REPLY_BYTES];
     let mut line = Vec::with_capacity(MESSAGE_BYTES + 1);
     while next_line(&mut input, &mut line)? {
-        match answer(LINES.count(), &line, &mut table, OWN, &mut reply) {
+        match answer(
+            LINES.count(),
+            &line,
+            &mut table,
+            &mut blocks,
+            OWN,
+            &mut reply,
+        ) {
             Answer::Taken(length) => {
                 out.write_all(&reply[..length])?;
                 out.write_all(b"\n")?;

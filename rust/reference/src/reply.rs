@@ -112,6 +112,17 @@ impl Reply {
         }
     }
 
+    /// "Subtract of an ephemeral returns `S=R/1{SA{rtp/pr=n,rtp/jit=n}}`", with
+    /// "floor(J / 16)".
+    pub fn gone(&mut self, termination: usize, packets: u32, jitter: u64) {
+        if self.open_attempt(Kind::Subtract) {
+            write_name(self.lines, termination, &mut self.bytes);
+            let figures = format!("{{SA{{rtp/pr={packets},rtp/jit={}}}}}", jitter / 16);
+            self.bytes.extend_from_slice(figures.as_bytes());
+            self.measure();
+        }
+    }
+
     /// A Modify or an AuditValue of ROOT that succeeded.
     pub fn done_root(&mut self, kind: Kind) {
         if self.open_attempt(kind) {

@@ -3,6 +3,7 @@
 use std::ops::ControlFlow::{self, Break, Continue};
 use std::ops::Range;
 
+use crate::blocks;
 use crate::reply::Reply;
 use crate::sdp;
 use crate::table::{self, Name, Record, Session, Table, Values, MEMBERS, OUT_OF_SERVICE};
@@ -50,9 +51,10 @@ impl Kind {
 }
 
 /// Runs the transactions of a message.
-pub fn run(transactions: &[Transaction], table: &mut Table, reply: &mut Reply) {
+pub fn run(transactions: &[Transaction], table: &mut Table, blocks: &mut [u32], reply: &mut Reply) {
     let mut runner = Runner {
         table,
+        blocks,
         reply,
         matches: Vec::new(),
     };
@@ -100,6 +102,7 @@ type Code = u32;
 
 struct Runner<'r, 't> {
     table: &'r mut Table<'t>,
+    blocks: &'r mut [u32],
     reply: &'r mut Reply,
     /// The matches of the running wildcard.
     matches: Vec<usize>,
@@ -293,6 +296,11 @@ impl Runner<'_, '_> {
     /// Reports a success. "`AV=L/1/1{AT{M}}` returns
     /// `AV=L/1/1{M{TS{SI=IV},O{MO=IN}}}` with the values held".
     fn done(&mut self, kind: Kind, termination: usize, request: Request) {
+        let lines = self.table.lines().line_terminations();
+        if kind == Kind::Subtract && termination >= lines {
+            let (packets, _, jitter) = blocks::block(self.blocks, termination - lines);
+            return self.reply.gone(termination, packets, jitter);
+        }
         let held = request.media.then(|| self.table.values_of(termination));
         self.reply.done(kind, termination, held);
     }
@@ -429,6 +437,11 @@ impl Runner<'_, '_> {
                     self.table.leave(termination);
                 }
                 self.table.enter(termination, to);
+                // "a new ephemeral starts at zero"
+                let lines = self.table.lines().line_terminations();
+                if kind == Kind::Add && termination >= lines {
+                    blocks::set(self.blocks, termination - lines, (0, 0, 0));
+                }
             }
         }
         self.table.set_values(termination, values);

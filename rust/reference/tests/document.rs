@@ -16,7 +16,8 @@ const FILL: u8 = 0xA5;
 /// gives what stands after the reply's header.
 fn whole_on(lines: u32, message: &[u8], table: &mut [u32]) -> String {
     let mut reply = vec![FILL; 16_640];
-    let Answer::Taken(length) = answer(lines, message, table, OWN, &mut reply) else {
+    let Answer::Taken(length) = answer(lines, message, table, &mut [0; 256], OWN, &mut reply)
+    else {
         panic!("turned down");
     };
     assert!(reply[length..].iter().all(|&byte| byte == FILL));
@@ -55,7 +56,7 @@ const SESSION: [(&str, &str); 6] = [
     ("T=9{C=${MV=L/1/5}}", "P=9{C=2{MV=L/1/5}}"),
     (
         "T=10{C=1{S=*,A=L/2/1}}",
-        "P=10{C=1{S=R/1,A=L/2/1{ER=411{}}}}",
+        "P=10{C=1{S=R/1{SA{rtp/pr=0,rtp/jit=0}},A=L/2/1{ER=411{}}}}",
     ),
     (
         "T=11{C=2{O-S=L/8/31,MF=L/1/5{M{O{MO=SR}}}}}",
@@ -181,7 +182,7 @@ fn turned_down() {
     ] {
         let mut table = words.to_vec();
         let mut reply = vec![FILL; length];
-        let got = answer(8, message, &mut table, own, &mut reply);
+        let got = answer(8, message, &mut table, &mut [0; 256], own, &mut reply);
         assert_eq!(got, expected);
         assert_eq!(table, words);
         assert!(reply.iter().all(|&byte| byte == FILL));
@@ -194,7 +195,14 @@ fn turned_down() {
     assert_eq!(Answer::LinesUnfit.number(), 8);
     // A longer buffer, and an own mId of just 64 bytes, are fine.
     let mut reply = vec![FILL; 20_000];
-    let taken = answer(8, message, &mut [0; 1522], &own_65[..64], &mut reply);
+    let taken = answer(
+        8,
+        message,
+        &mut [0; 1522],
+        &mut [0; 256],
+        &own_65[..64],
+        &mut reply,
+    );
     assert_eq!(taken, Answer::Taken(4 + 64 + 1 + 23));
 }
 
@@ -209,7 +217,7 @@ fn tables_not_sound() {
     sound[752] = 1;
     let taken = |table: &[u32; 1522]| {
         let mut reply = vec![FILL; 16_640];
-        let got = answer(8, b"x", &mut table.clone(), OWN, &mut reply);
+        let got = answer(8, b"x", &mut table.clone(), &mut [0; 256], OWN, &mut reply);
         got != Answer::TableUnsound
     };
     assert!(taken(&sound));
@@ -372,7 +380,14 @@ fn message_of_4096() {
     message.resize(4_096, b' ');
     assert_eq!(whole(&message, &mut [0; 1522]), "P=1{C=1{A=R/1}}");
     message.push(b' ');
-    let refused = answer(8, &message, &mut [0; 1522], OWN, &mut [0; 16_640]);
+    let refused = answer(
+        8,
+        &message,
+        &mut [0; 1522],
+        &mut [0; 256],
+        OWN,
+        &mut [0; 16_640],
+    );
     assert_eq!(refused, Answer::MessageUnfit);
 }
 
@@ -501,7 +516,14 @@ fn sizes_follow_from_the_count() {
         assert_eq!(lines.words(), words);
         assert_eq!((lines.properties(), lines.records()), (properties, records));
         for length in [0, words - 62, words - 1, words, words + 1, words + 62] {
-            let got = answer(count, b"x", &mut vec![0; length], OWN, &mut [0; 16_640]);
+            let got = answer(
+                count,
+                b"x",
+                &mut vec![0; length],
+                &mut [0; 256],
+                OWN,
+                &mut [0; 16_640],
+            );
             assert_eq!(
                 got == Answer::TableUnsound,
                 length != words,
@@ -518,14 +540,14 @@ fn count_outside_1_to_16() {
         for (words, length) in [(0, 0), (1522, 16_640), (1_824, 16_640)] {
             let mut table = vec![7; words];
             let mut reply = vec![FILL; length];
-            let got = answer(count, b"", &mut table, b"", &mut reply);
+            let got = answer(count, b"", &mut table, &mut [0; 256], b"", &mut reply);
             assert_eq!(got, Answer::LinesUnfit, "{count}");
             assert!(table.iter().all(|&word| word == 7));
             assert!(reply.iter().all(|&byte| byte == FILL));
         }
     }
     for count in 1..=16 {
-        let refused = answer(count, b"", &mut [], b"", &mut [FILL; 16_639]);
+        let refused = answer(count, b"", &mut [], &mut [], b"", &mut [FILL; 16_639]);
         assert_eq!(refused, Answer::ReplyTooShort);
     }
 }
@@ -609,7 +631,7 @@ fn other_counts() {
         ];
         assert_eq!(words_of(&table), after);
         let request = format!("T=2{{C=1{{S=L/{count}/*,S=R/*}}}}");
-        let reply = format!("P=2{{C=1{{S=L/{count}/31,S=R/1}}}}");
+        let reply = format!("P=2{{C=1{{S=L/{count}/31,S=R/1{{SA{{rtp/pr=0,rtp/jit=0}}}}}}}}");
         assert_eq!(inside_on(count, &request, &mut table), reply);
         assert_eq!(words_of(&table), []);
     }
@@ -682,7 +704,14 @@ fn map_of_the_ephemerals() {
         };
         assert_eq!((low, high), (0xFFFF_FF01, u32::MAX));
         table[map.clone()].reverse();
-        let got = answer(count, b"x", &mut table, OWN, &mut [0; 16_640]);
+        let got = answer(
+            count,
+            b"x",
+            &mut table,
+            &mut [0; 256],
+            OWN,
+            &mut [0; 16_640],
+        );
         assert_eq!(got, Answer::TableUnsound);
     }
 }
@@ -794,7 +823,7 @@ fn flows_not_sound() {
         let mut table = sound;
         table[754 + bit / 32] ^= 1 << (bit % 32);
         let (from, to) = (bit / 8, bit % 8);
-        let got = answer(8, b"x", &mut table, OWN, &mut [0; 16_640]);
+        let got = answer(8, b"x", &mut table, &mut [0; 256], OWN, &mut [0; 16_640]);
         let fits = from < 3 && to < 3 && from != to;
         assert_eq!(got != Answer::TableUnsound, fits, "{bit}");
     }
@@ -802,7 +831,7 @@ fn flows_not_sound() {
     for place in 756..1010 {
         let mut table = sound;
         table[place] = 2;
-        let got = answer(8, b"x", &mut table, OWN, &mut [0; 16_640]);
+        let got = answer(8, b"x", &mut table, &mut [0; 256], OWN, &mut [0; 16_640]);
         assert_eq!(got, Answer::TableUnsound, "{place}");
     }
 }
@@ -882,7 +911,7 @@ fn line_noise() {
         }
         message.truncate(1 + numbers.next(2 * message.len()));
         whole(&message, &mut table);
-        let sound = answer(8, b"x", &mut table, OWN, &mut [0; 16_640]);
+        let sound = answer(8, b"x", &mut table, &mut [0; 256], OWN, &mut [0; 16_640]);
         assert_ne!(sound, Answer::TableUnsound);
         if round % 64 == 0 {
             table = [0; 1522];
@@ -898,7 +927,7 @@ fn speech_sound_only_so() {
     let taken = |place: usize, side: [u32; 4]| {
         let mut table = sound;
         table[place..][..4].copy_from_slice(&side);
-        answer(8, b"x", &mut table, OWN, &mut [0; 16_640]) != Answer::TableUnsound
+        answer(8, b"x", &mut table, &mut [0; 256], OWN, &mut [0; 16_640]) != Answer::TableUnsound
     };
     for place in [1010, 1014] {
         assert!(taken(place, [1, 0, 0, 0]));

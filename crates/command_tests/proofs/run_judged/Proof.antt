@@ -15,4 +15,5 @@ run-judged-spec =
     (λ c. search judged-wrong)
     (λ c. search needs)
     (λ c. search needs)
+    (λ c. search needs)
     (λ c. search judged-right))

@@ -14,4 +14,5 @@ run-named-spec =
     (λ c κs. search needs)
     (λ c. search needs)
     (λ c. search needs)
+    (λ c. search needs)
     (λ c. search named-targets))

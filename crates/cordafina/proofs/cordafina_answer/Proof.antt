@@ -11,4 +11,5 @@ cordafina-answer-spec =
     (λ c κs. search needs)
     (λ c. search needs)
     (λ c. search needs)
+    (λ c. search needs)
     (λ c. search packs))

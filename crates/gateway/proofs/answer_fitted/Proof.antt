@@ -1,4 +1,4 @@
-use Rattle.gateway.proofs.CallLaws.{short-reply, unfit-table, unsound-table, unfit-mid, unfit-message, is-taken, sound-by}
+use Rattle.gateway.proofs.CallLaws.{short-reply, unfit-state, unfit-mid, unfit-message, is-taken, sound-by}
 use borrow.Author.Needs.{needs}
 use Rattle.gateway.proofs.answer_fitted.Statement.{statement}
 use Rattle.gateway.proofs.answer_fitted.Tie as tie
@@ -9,17 +9,19 @@ answer-fitted-spec =
     (tie.spec
     (λ c. search short-reply)
     (λ c κs. search needs)
-    (λ c. search unfit-table)
     (λ c κs. search needs)
-    (λ c κs. search needs)
+    (λ c. search needs)
     (λ c. search needs)
     (λ c. search unfit-message)
     (λ c κs. search needs)
     (λ c κs. search sound-by)
     (λ c. search needs)
     (λ c. search needs)
+    (λ c. search needs)
     (λ c. search is-taken)
+    (λ c. search needs)
     (λ c. search needs)
     (λ c. search unfit-mid)
     (λ c. search needs)
-    (λ c. search unsound-table))
+    (λ c. search needs)
+    (λ c. search unfit-state))

@@ -14,4 +14,5 @@ finish-line-spec =
     (λ c κs. search needs)
     (λ c. search needs)
     (λ c. search needs)
+    (λ c. search needs)
     (λ c. search finish-last))

@@ -2,18 +2,19 @@ use borrow.Author.Needs.{needs}
 use Prim.Native.Nat.{_-_}
 use mathlib.Core.Path.{_≡_, refl}
 use lib.ListN.{length, take, drop}
+use Rattle.megaco.specs.State.{state}
 use Rattle.sessions.specs.Session.{takenIn, HoldsLine}
 use Rattle.sessions.proofs.TakenLaws.{chunk-goes, chunk-ends}
 use Rattle.listing.proofs.take_chunk.Statement.{statement}
 use Rattle.listing.proofs.take_chunk.Tie as tie
 
 abbrev Inv-loop : tie.InvT-loop
-Inv-loop chunk line₀ held table₀ out₀ h₀ from₀ line table out h from =
-    HoldsLine line h × (length line ≡ length line₀) × (length table ≡ length table₀) × (length out ≡ length out₀)
-    × (takenIn (take held line₀) table₀ chunk ≡ takenIn (take h line) table (drop from chunk))
+Inv-loop chunk line₀ held table₀ blocks₀ out₀ h₀ from₀ line table blocks out h from =
+    HoldsLine line h × (length line ≡ length line₀) × (length table ≡ length table₀) × (length blocks ≡ length blocks₀) × (length out ≡ length out₀)
+    × (takenIn (take held line₀) (state table₀ blocks₀) chunk ≡ takenIn (take h line) (state table blocks) (drop from chunk))
 
 abbrev μ-loop : tie.MeasureT-loop
-μ-loop chunk line₀ held table₀ out₀ h₀ from₀ line table out h from = length chunk - from
+μ-loop chunk line₀ held table₀ blocks₀ out₀ h₀ from₀ line table blocks out h from = length chunk - from
 
 pub take-chunk-spec : {M : Type 1} → statement M
 take-chunk-spec =
@@ -21,14 +22,15 @@ take-chunk-spec =
     (tie.spec
     Inv-loop
     μ-loop
-    (λ c. (search needs, search needs, search needs, search needs, refl))
+    (λ c. (search needs, search needs, search needs, search needs, search needs, refl))
     (λ c κs. (search needs, (search needs, search needs)))
     (λ c. search needs)
     (λ c. search needs)
     (λ c. search needs)
     (λ c κs. search needs)
     (λ c. search needs)
-    (λ c. (search needs, search needs, search needs, search needs, search chunk-goes))
+    (λ c. (search needs, search needs, search needs, search needs, search needs, search chunk-goes))
+    (λ c. search needs)
     (λ c. search needs)
     (λ c. search needs)
     (λ c. search needs)

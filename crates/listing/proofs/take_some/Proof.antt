@@ -18,4 +18,5 @@ take-some-spec =
     (λ c. search needs)
     (λ c. search needs)
     (λ c. search needs)
+    (λ c. search needs)
     (λ c. (search needs, search took-some)))

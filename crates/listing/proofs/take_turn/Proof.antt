@@ -17,6 +17,7 @@ take-turn-spec =
     (λ c. search needs)
     (λ c. search needs)
     (λ c. search needs)
+    (λ c. search needs)
     (λ c. search turn-ended)
     (λ c. search needs)
     (λ c. search turn-open))

@@ -1,4 +1,5 @@
 use borrow.Author.Needs.{needs}
+use mathlib.Core.Path.{refl}
 use Rattle.action_places.proofs.ActionPlaceLaws.{action-ends}
 use Rattle.run_action.proofs.StartedLaws.{sound-sized, held-small}
 use Rattle.run_action.proofs.ActsLaws.{action-acts}
@@ -18,4 +19,5 @@ run-action-spec =
     (λ c κs. search needs)
     (λ c. search needs)
     (λ c. search needs)
-    (λ c. (search action-acts, search action-ends)))
+    (λ c. search needs)
+    (λ c. (action-acts _ _ _ _ _ _ _ _ _ _ _ _ _ _ _ (c .before .before .before .before .before .before .before .before .before .before .before .before .before .before .before .before .before .action-places .ensures) (c .before .before .before .before .before .before .before .before .before .before .before .before .before .before .before .before .rest-of .ensures) refl (c .before .before .before .before .before .before .before .before .before .before .before .before .run-inner .ensures .0) (c .before .before .before .put-action .ensures) (c .before .before .before .before .before .before .before .before .before .before .before .before .before .before .before .before .before .before .before .before .before .before .pre .1), search action-ends)))

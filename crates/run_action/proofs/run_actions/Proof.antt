@@ -13,12 +13,12 @@ use Rattle.run_action.proofs.run_actions.Statement.{statement}
 use Rattle.run_action.proofs.run_actions.Tie as tie
 
 abbrev Inv-loop : tie.InvT-loop
-Inv-loop s from table₀ out₀ p i₀ left₀ q₀ f₀ table out i left q f =
-    (length table ≡ length table₀) × (length out ≡ length out₀) × (sound table ≡ true) × (actionsAt s from .end ≡ listP (actionAt s) s left i .end)
-    × Leads (runActions (actionsAt s from .tree) true (state table₀)) out₀ p (runActions (listP (actionAt s) s left i .tree) f (state table)) out q
+Inv-loop s from table₀ blocks₀ out₀ p i₀ left₀ q₀ f₀ table blocks out i left q f =
+    (length table ≡ length table₀) × (length blocks ≡ length blocks₀) × (length out ≡ length out₀) × (sound table ≡ true) × (actionsAt s from .end ≡ listP (actionAt s) s left i .end)
+    × Leads (runActions (actionsAt s from .tree) true (state table₀ blocks₀)) out₀ p (runActions (listP (actionAt s) s left i .tree) f (state table blocks)) out q
 
 abbrev μ-loop : tie.MeasureT-loop
-μ-loop s from table₀ out₀ p i₀ left₀ q₀ f₀ table out i left q f = left
+μ-loop s from table₀ blocks₀ out₀ p i₀ left₀ q₀ f₀ table blocks out i left q f = left
 
 pub run-actions-spec : {M : Type 1} → statement M
 run-actions-spec =
@@ -26,9 +26,10 @@ run-actions-spec =
     (tie.spec
     Inv-loop
     μ-loop
-    (λ c. (refl, refl, search needs, unfold actionsAt in refl, unfold actionsAt in begins _ _ _))
+    (λ c. (refl, refl, refl, search needs, unfold actionsAt in refl, unfold actionsAt in begins _ _ _))
     (λ c κs. (search needs, search needs))
     (λ c κs. search needs)
+    (λ c. search needs)
     (λ c. search needs)
     (λ c. search needs)
     (λ c. search needs)
@@ -36,12 +37,14 @@ run-actions-spec =
     (λ c. (search actions-last, search end-last))
     (λ c. search needs)
     (λ c. search needs)
-    (λ c. (search needs, search needs, search acts-sound, search end-more, search actions-more))
+    (λ c. (search needs, search needs, search needs, search acts-sound, search end-more, search actions-more))
     (λ c. search needs)
     (λ c κs. search needs)
     (λ c. search needs)
     (λ c. search needs)
+    (λ c. search needs)
     (λ c. (search actions-stop, search end-after))
+    (λ c. search needs)
     (λ c. search needs)
     (λ c. search needs)
     (λ c. (search actions-none, search end-none)))

@@ -17,6 +17,7 @@ run-inner-spec =
     (λ c κs. search sized-same)
     (λ c. search needs)
     (λ c. search needs)
+    (λ c. search needs)
     (λ c. (search inner-commands, search body-of-commands))
     (λ c κs. search needs)
     (λ c. search needs)

@@ -11,13 +11,13 @@ use Rattle.run_attempts.proofs.try_each.Statement.{statement}
 use Rattle.run_attempts.proofs.try_each.Tie as tie
 
 abbrev Inv-loop : tie.InvT-loop
-Inv-loop op name values matched table₀ out₀ k₀ here₀ good₀ table out k here good =
-    (length table ≡ length table₀) × (length out ≡ length out₀)
-    × Leads (attempts op true name (here₀ .given) values matched (here₀ .at) (state table₀)) (here₀ .first) out₀ (here₀ .next) good
-    (attempts op true name (here .given) values (drop k matched) (here .at) (state table)) (here .first) out (here .next)
+Inv-loop op name values matched table₀ blocks₀ out₀ k₀ here₀ good₀ table blocks out k here good =
+    (length table ≡ length table₀) × (length blocks ≡ length blocks₀) × (length out ≡ length out₀)
+    × Leads (attempts op true name (here₀ .given) values matched (here₀ .at) (state table₀ blocks₀)) (here₀ .first) out₀ (here₀ .next) good
+    (attempts op true name (here .given) values (drop k matched) (here .at) (state table blocks)) (here .first) out (here .next)
 
 abbrev μ-loop : tie.MeasureT-loop
-μ-loop op name values matched table₀ out₀ k₀ here₀ good₀ table out k here good = length matched - k
+μ-loop op name values matched table₀ blocks₀ out₀ k₀ here₀ good₀ table blocks out k here good = length matched - k
 
 pub try-each-spec : {M : Type 1} → statement M
 try-each-spec =
@@ -25,14 +25,15 @@ try-each-spec =
     (tie.spec
     Inv-loop
     μ-loop
-    (λ c. (refl, refl, begins _ _ _ _))
+    (λ c. (refl, refl, refl, begins _ _ _ _))
     (λ c. search needs)
     (λ c. search needs)
     (λ c κs. search needs)
     (λ c κs. (search sized-same, search needs))
     (λ c. search needs)
     (λ c. search needs)
-    (λ c. (search needs, search needs, search tries-on))
+    (λ c. (search needs, search needs, search needs, tries-on _ _ _ _ _ _ _ _ _ _ _ _ _ _ _ _ _ (c .before .before .before .before .before .before .before .before .before .before .before .before .before .before .loop .inv .3) _ _ _ _ (c .before .before .before .before .before .before .before .before .before .before .before .before .before .loop-test .taken) (c .before .before .before .before .before .before .before .before .before .before .before .number .ensures) (c .before .before .before .before .before .before .before .try-one .ensures)))
+    (λ c. search needs)
     (λ c. search needs)
     (λ c. search needs)
     (λ c. search tries-end))

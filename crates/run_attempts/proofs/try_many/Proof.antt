@@ -17,4 +17,5 @@ try-many-spec =
     (λ c κs. (search needs, search needs))
     (λ c. search needs)
     (λ c. search needs)
+    (λ c. search needs)
     (λ c. search many-some))

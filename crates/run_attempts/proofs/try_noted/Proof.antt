@@ -14,4 +14,5 @@ try-noted-spec =
     (λ c κs. (search needs, search needs))
     (λ c. search needs)
     (λ c. search needs)
+    (λ c. search needs)
     (λ c. search noted-attempts))

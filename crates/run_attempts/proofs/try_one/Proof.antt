@@ -18,6 +18,7 @@ try-one-spec =
     (λ c κs. search look-lines)
     (λ c. search needs)
     (λ c. search needs)
+    (λ c. search needs)
     (λ c. search attempt-does)
     (λ c. search needs)
     (λ c. search needs)

@@ -15,4 +15,5 @@ run-built-spec =
     (λ c κs. search needs)
     (λ c. search needs)
     (λ c. search needs)
+    (λ c. search needs)
     (λ c. (search built-on, search needs)))

@@ -18,4 +18,5 @@ run-command-spec =
     (λ c κs. search needs)
     (λ c. search needs)
     (λ c. search needs)
+    (λ c. search needs)
     (λ c. (search command-runs, search command-ends)))

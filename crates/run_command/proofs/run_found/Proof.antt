@@ -14,6 +14,7 @@ run-found-spec =
     (λ c κs. search needs)
     (λ c. search needs)
     (λ c. search needs)
+    (λ c. search needs)
     (λ c. (search found-built, search needs))
     (λ c. search needs)
     (λ c. (search found-unbuilt, search needs)))

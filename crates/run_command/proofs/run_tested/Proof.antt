@@ -18,4 +18,5 @@ run-tested-spec =
     (λ c κs. (search needs, search items-judged))
     (λ c. search needs)
     (λ c. search needs)
+    (λ c. search needs)
     (λ c. (search tested-on, search needs)))

@@ -12,12 +12,12 @@ use Rattle.run_message.proofs.run_all.Statement.{statement}
 use Rattle.run_message.proofs.run_all.Tie as tie
 
 abbrev Inv-loop : tie.InvT-loop
-Inv-loop s table₀ out₀ p i₀ left₀ q₀ table out i left q =
-    (length table ≡ length table₀) × (length out ≡ length out₀) × (sound table ≡ true)
-    × Leads (runTransactions (messageOf s) (state table₀)) out₀ p (runTransactions (transactionsAt left s i .tree) (state table)) out q
+Inv-loop s table₀ blocks₀ out₀ p i₀ left₀ q₀ table blocks out i left q =
+    (length table ≡ length table₀) × (length blocks ≡ length blocks₀) × (length out ≡ length out₀) × (sound table ≡ true)
+    × Leads (runTransactions (messageOf s) (state table₀ blocks₀)) out₀ p (runTransactions (transactionsAt left s i .tree) (state table blocks)) out q
 
 abbrev μ-loop : tie.MeasureT-loop
-μ-loop s table₀ out₀ p i₀ left₀ q₀ table out i left q = left
+μ-loop s table₀ blocks₀ out₀ p i₀ left₀ q₀ table blocks out i left q = left
 
 pub run-all-spec : {M : Type 1} → statement M
 run-all-spec =
@@ -26,14 +26,16 @@ run-all-spec =
     Inv-loop
     μ-loop
     (λ c κs. search needs)
-    (λ c. (refl, refl, search needs, search message-begins))
+    (λ c. (refl, refl, refl, search needs, search message-begins))
     (λ c κs. search needs)
     (λ c. search needs)
     (λ c. search needs)
-    (λ c. (search needs, search needs, search wrote-sound, search message-more))
+    (λ c. (search needs, search needs, search needs, search wrote-sound, search message-more))
+    (λ c. search needs)
     (λ c. search needs)
     (λ c. search needs)
     (λ c. search message-last)
+    (λ c. search needs)
     (λ c. search needs)
     (λ c. search needs)
     (λ c. search message-none))

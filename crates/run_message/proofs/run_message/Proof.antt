@@ -18,6 +18,7 @@ run-message-spec =
     (λ c κs. search needs)
     (λ c. search needs)
     (λ c. search needs)
+    (λ c. search needs)
     (λ c. search reads-well)
     (λ c. search needs)
     (λ c. search reads-400)

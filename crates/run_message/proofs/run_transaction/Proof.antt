@@ -20,4 +20,5 @@ run-transaction-spec =
     (λ c κs. search needs)
     (λ c. search needs)
     (λ c. search needs)
+    (λ c. search needs)
     (λ c. (search transaction-runs, search transaction-ends)))

@@ -14,4 +14,7 @@ letters-10-spec =
     (λ c κs. unfold tokenAt formsOf longOf in refl)
     (λ c κs. search needs)
     (λ c. rw (letters-10-is _) (search (pick-yes-by, pick-no-by) depth 20))
+    (λ c κs. unfold tokenAt formsOf longOf in refl)
+    (λ c κs. search needs)
+    (λ c. rw (letters-10-is _) (search (pick-yes-by, pick-no-by) depth 20))
     (λ c. unfold tokenOf in rw (letters-10-is _) (search (pick-yes-by, pick-no-by) depth 20)))

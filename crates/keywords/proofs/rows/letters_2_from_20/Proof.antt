@@ -17,4 +17,7 @@ letters-2-from-20-spec =
     (λ c κs. unfold tokenAt formsOf shortOf in refl)
     (λ c κs. search needs)
     (λ c. rw (letters-2-from-20-is _) (search (pick-yes-by, pick-no-by) depth 20))
+    (λ c κs. unfold tokenAt formsOf shortOf in refl)
+    (λ c κs. search needs)
+    (λ c. rw (letters-2-from-20-is _) (search (pick-yes-by, pick-no-by) depth 20))
     (λ c. unfold tokenOf in rw (letters-2-from-20-is _) (search (pick-yes-by, pick-no-by) depth 20)))
