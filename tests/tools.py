@@ -3,7 +3,7 @@
 
     python3 tests/tools.py
 
-Every file of tools/ but command.py is a tool. With `--help` it prints its usage on standard output and ends with status 0. With an option that
+Every file of tools/ but command.py and prover.py, which tools share, is a tool. With `--help` it prints its usage on standard output and ends with status 0. With an option that
 it does not have, a file that is not there, a file of bytes that are no text (a word too many, where it takes no file), and without rt where it runs
 rt, it ends with status 2 and prints on standard error the usage or one line that says what is wrong.
 """
@@ -16,8 +16,9 @@ import sys
 import tempfile
 
 TOP = pathlib.Path(__file__).resolve().parent.parent
-# the tools that run rt, each with words with which it does
-RUN_RT = {"definition_edits.py": [], "evaluate.py": ["calls"], "kit.sh": [], "quick_start.py": [], "try_edits.py": ["edit"]}
+SHARED = ("command.py", "prover.py")
+# the tools that need rt, each with words with which it does
+NEED_RT = {"definition_edits.py": [], "evaluate.py": ["calls"], "kit.sh": [], "quick_start.py": [], "try_edits.py": []}
 
 
 def ran(tool, words, **env):
@@ -38,7 +39,7 @@ def refuses(tool, words, says="", **env):
 
 
 def main():
-    tools = sorted(path for path in (TOP / "tools").iterdir() if path.is_file() and path.name != "command.py")
+    tools = sorted(path for path in (TOP / "tools").iterdir() if path.is_file() and path.name not in SHARED)
     failed = tried = 0
 
     def hold(name, what, held):
@@ -59,10 +60,10 @@ def main():
             hold(tool.name, "an option that it does not have", refuses(tool, ["--no-such-option"]))
             hold(tool.name, "a file that is not there", refuses(tool, [str(folder / "no-such-file")]))
             hold(tool.name, "a file of bytes that are no text", refuses(tool, [str(folder / "bytes")]))
-            runs_rt = bool(re.search(r"\[['\"]rt['\"],|\$\(rt ", tool.read_text(encoding="utf-8")))
-            hold(tool.name, "runs rt, or does not, otherwise than RUN_RT says", runs_rt == (tool.name in RUN_RT))
-            if runs_rt:
-                hold(tool.name, "without rt on the path", refuses(tool, RUN_RT.get(tool.name, []), "there is no rt", PATH=str(folder / "path")))
+            needs_rt = bool(re.search(r"\[['\"]rt['\"],|\$\(rt |need\(['\"]rt['\"]\)", tool.read_text(encoding="utf-8")))
+            hold(tool.name, "needs rt, or does not, otherwise than NEED_RT says", needs_rt == (tool.name in NEED_RT))
+            if needs_rt:
+                hold(tool.name, "without rt on the path", refuses(tool, NEED_RT.get(tool.name, []), "there is no rt", PATH=str(folder / "path")))
         # a kit with a module that is called as a crate here; and none
         (folder / "kit/bin").mkdir(parents=True)
         (folder / "kit/libs/some/src").mkdir(parents=True)
@@ -72,8 +73,8 @@ def main():
         named = ran(crates, [], PATH=str(folder / "kit/bin"))
         hold("crates.py", "a crate that is called as a module of the kit", named.returncode == 1 and "base: the kit's library some has" in named.stdout)
         hold("crates.py", "the kit is not found", ran(crates, [], PATH=str(folder / "path")).returncode == 0)
-    for name in sorted(set(RUN_RT) - {tool.name for tool in tools}):
-        hold(name, "RUN_RT names it, and it is not there", False)
+    for name in sorted(set(NEED_RT) - {tool.name for tool in tools}):
+        hold(name, "NEED_RT names it, and it is not there", False)
     print(f"tools: {len(tools)} tools, {tried} things tried, {failed} failed")
     sys.exit(1 if failed or not tools else 0)
 
