@@ -48,8 +48,8 @@ if [ "$declared" != "$defined" ] || [ -n "$wanted" ]; then
 fi
 echo "examples: the archive has the" $(echo "$declared" | wc -l) "functions that the headers declare"
 
-# Who hears whom, and packets with their figures, as the header shows them.
-for test in flows packets; do
+# Who hears whom, packets with their figures, and kept replies, as the header shows them.
+for test in flows packets room; do
     cc -std=c99 -O2 $warnings -I include "tests/$test.c" "$archive" -o "$out/$test"
     "$out/$test"
     if command -v c++ > /dev/null; then

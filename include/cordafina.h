@@ -4,10 +4,10 @@
  * about the ephemerals in use, who hears whom, and digit maps.
  *
  * A call takes the count of lines that the shelf has, one H.248.1 (Megaco) text
- * message, a table and 64 blocks of figures that the caller lends, runs the message
- * on them, and writes the reply into a buffer that the caller lends. docs/REFERENCE.md says
- * what a message may say and what is answered; the code is proved equal to the
- * definition in crates/megaco/specs.
+ * message, and a table, a room of kept replies and 64 blocks of figures that the
+ * caller lends, runs the message on them, and writes the reply into a buffer that
+ * the caller lends. docs/REFERENCE.md says what a message may say and what is
+ * answered; the code is proved equal to the definition in crates/megaco/specs.
  *
  *     cc -I include program.c target/staticlib/libcordafina.a
  *
@@ -34,9 +34,10 @@
  * compiled again, and no more; a table that was kept by an older version is of
  * another length and is turned down (CORDAFINA_TABLE_UNSOUND), and so is one lent
  * by a program that was compiled with an older header. All zero stays the fresh
- * table.
+ * table. With 6 and with 7 cordafina_answer got new arguments: a program must be
+ * compiled with the header of its archive.
  */
-#define CORDAFINA_VERSION 6
+#define CORDAFINA_VERSION 7
 
 /*
  * Stack that a call of any function here uses at most, but for the plain digit
@@ -135,6 +136,30 @@ typedef char cordafina_blocks_are_words[
 /* From a context's flows, as cordafina_flows gives them: 1 if member i flows to member j (j hears i), else 0. */
 #define CORDAFINA_FLOW(flows, i, j) ((int)((flows) >> (8 * (i) + (j)) & 1))
 
+/*
+ * The room of kept replies: 64 words and 33,920 bytes, for 16 slots numbered 1 to
+ * 16. All zero is a room that keeps nothing.
+ *
+ *   word            holds
+ *   0 .. 15         the row: the slots that hold a reply, the oldest first; then 0
+ *   15 + n          of slot n: the identifier
+ *   31 + n          the length of the sender's mId, at most 72
+ *   47 + n          the length of the reply, at most 2,048
+ *
+ *   bytes from 2,120 * (n - 1) on, of slot n: 72 for the mId, then 2,048 for the reply
+ *
+ * Sound is a room of these sizes whose row is different numbers of 1 to 16 and then
+ * zeros alone, in which no slot of the row has a length past its limit and no two
+ * have the same identifier and the same mId. The words and bytes of a slot that is
+ * not in the row, and bytes past a length, may be anything and stay until they are
+ * used. The next reply goes into the lowest slot that is not in the row, and with
+ * 16 in it into the oldest's.
+ */
+#define CORDAFINA_ROOM_SLOTS 16
+/* Words and bytes of a room: exactly so many. */
+#define CORDAFINA_ROOM_WORDS 64
+#define CORDAFINA_ROOM_BYTES 33920
+
 /* Bytes of a reply buffer: at least so many. No reply is longer. */
 #define CORDAFINA_REPLY_BYTES 16640
 /* Bytes of an output for the contexts as text: at least so many. No text is longer. */
@@ -149,11 +174,12 @@ typedef char cordafina_blocks_are_words[
  * proved code; 6 and 7 are in cordafina_digit_maps.h. Numbers that are missing
  * belong to functions that are not built.
  */
-#define CORDAFINA_TAKEN 0             /* not turned down: there is a reply, or a text */
+#define CORDAFINA_TAKEN 0             /* not turned down */
 #define CORDAFINA_MESSAGE_UNFIT 1     /* message of 0 or over 4,096 bytes */
 #define CORDAFINA_TABLE_UNSOUND 2     /* table not of the count's words, not 64 blocks, or either not sound */
 #define CORDAFINA_REPLY_TOO_SHORT 3   /* reply buffer under 16,640 bytes */
 #define CORDAFINA_MID_UNFIT 4         /* own mId not an mId, or over 64 bytes */
+#define CORDAFINA_ROOM_UNSOUND 5      /* room not of 64 words and 33,920 bytes, or not sound */
 #define CORDAFINA_LINES_UNFIT 8       /* count of lines outside 1 to 16 */
 #define CORDAFINA_EPHEMERAL_ABSENT 9  /* packet of an ephemeral that does not exist, or outside 1 to 64 */
 #define CORDAFINA_OUTPUT_TOO_SHORT 11 /* output under 8,192 bytes */
@@ -173,42 +199,55 @@ extern "C" {
  *   lines                  the count of lines, 1 to 16
  *   message, message_len   the message's bytes; read only
  *   table, table_len       the table, its length in words; read and written
+ *   room_words, room_words_len   the words of the room of kept replies (64) and
+ *   room_bytes, room_bytes_len   its bytes (33,920); read and written
  *   blocks, blocks_len     the figures of the ephemerals, their length in words (256); read and written
  *   own_mid, own_mid_len   the gateway's own mId, as `[10.0.0.9]`; read only
  *   reply, reply_len       where the reply goes, from the first byte on
  *
  * The low 32 bits of the result are the reply's length in bytes, the high 32
  * bits the refusal: cordafina_length and cordafina_refusal take them apart.
- * The refusals are judged in the order 8, 3, 2, 4, 1, and the first that holds
+ * The refusals are judged in the order 8, 3, 2, 5, 4, 1, and the first that holds
  * is given, with length 0. Any other call is taken and has a reply, whatever the
- * message is: one that does not read is answered by an error text and changes
- * no word of the table or of the blocks. The reply is not ended by a zero byte.
+ * message is: one that does not read is answered by an error text and changes no
+ * word of the table or of the blocks, and nothing of the room. But a message of
+ * acknowledgements (K) alone is taken with length 0: nothing is to be sent, and no
+ * byte of the reply is written. The reply is not ended by a zero byte.
  *
- * Ownership. The five areas are the caller's before, during and after the
+ * A repeat. The reply of each transaction that ran is kept in the room, under the
+ * sender's mId as received and the identifier; with 16 kept the oldest goes. A
+ * transaction whose sender and identifier are kept is answered with the bytes kept,
+ * and nothing runs. K drops the sender's own replies that it names.
+ *
+ * Ownership. The seven areas are the caller's before, during and after the
  * call. The library keeps no pointer, has no state and no heap, and frees
- * nothing. The table and the blocks are all there is of the gateway's memory: keep
- * them between calls with the count of lines, copy them, or store them. A new
- * ephemeral's block is set to zero; no call changes a block otherwise.
+ * nothing. The table, the blocks and the room are all there is of the gateway's
+ * memory: keep them between calls with the count of lines, copy them, or store
+ * them. A new ephemeral's block is set to zero; no call changes a block otherwise.
  *
- * What stays. A call turned down writes no byte of the reply and no word of
- * the table or of the blocks. A call taken writes the first cordafina_length(..) bytes of the
- * reply, and the bytes past them stay. Table and blocks that were sound stay sound.
- * The message and the own mId are never written, nor is anything outside the table,
- * the blocks and the reply buffer.
+ * What stays. A call turned down writes no byte of the reply or the room and no
+ * word of the table, the blocks or the room. A call taken writes the first
+ * cordafina_length(..) bytes of the reply, and the bytes past them stay. Table,
+ * blocks and room that were sound stay sound. The message and the own mId are
+ * never written, nor is anything outside the table, the blocks, the room and the
+ * reply buffer.
  *
  * What the caller sees to. Contents, lengths and the count of lines need no
  * check beforehand: line noise, a damaged table, one of another count and a
  * short buffer are answered. But each pointer
- * must be that of a readable (table, blocks, reply: writable) area of the length
- * given, not null even where that is 0; table and blocks are aligned as a uint32_t
- * is; and none of the three overlaps any other of the five areas.
+ * must be that of a readable (table, room, blocks, reply: writable) area of the
+ * length given, not null even where that is 0; the table, the blocks and the
+ * room's words are aligned as a uint32_t is; and neither table, room, blocks nor
+ * reply overlaps any other area.
  *
- * Threads. Calls may run at the same time where no table, no blocks and no reply
- * buffer are used by two of them. Messages and own mIds may be shared.
+ * Threads. Calls may run at the same time where no table, room, blocks or reply
+ * buffer is used by two of them. Messages and own mIds may be shared.
  */
 uint64_t cordafina_answer(uint32_t lines,
                           const uint8_t *message, size_t message_len,
                           uint32_t *table, size_t table_len,
+                          uint32_t *room_words, size_t room_words_len,
+                          uint8_t *room_bytes, size_t room_bytes_len,
                           uint32_t *blocks, size_t blocks_len,
                           const uint8_t *own_mid, size_t own_mid_len,
                           uint8_t *reply, size_t reply_len);
@@ -374,6 +413,7 @@ static inline const char *cordafina_refusal_text(int refusal)
     case CORDAFINA_TABLE_UNSOUND: return "table not of its count's words, not 64 blocks, or either not sound";
     case CORDAFINA_REPLY_TOO_SHORT: return "reply buffer under 16,640 bytes";
     case CORDAFINA_MID_UNFIT: return "own mId not an mId, or over 64 bytes";
+    case CORDAFINA_ROOM_UNSOUND: return "room not of 64 words and 33,920 bytes, or not sound";
     case CORDAFINA_BAD_MAP: return "digit map malformed or too large";
     case CORDAFINA_BAD_STRING: return "dialled string over 32 symbols, or with a foreign one";
     case CORDAFINA_LINES_UNFIT: return "count of lines outside 1 to 16";

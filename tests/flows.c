@@ -28,11 +28,15 @@ static void request(const char *text)
 {
     static const char own[] = "[10.0.0.9]", head[] = "!/1 [10.0.0.1] ";
     char message[256];
+    static uint32_t room_words[CORDAFINA_ROOM_WORDS];
+    static uint8_t room_bytes[CORDAFINA_ROOM_BYTES];
     size_t length, place;
     uint64_t answer;
     strcpy(message, head);
     strcat(message, text);
+    memset(room_words, 0, sizeof room_words);
     answer = cordafina_answer(lines, (const uint8_t *)message, strlen(message), table, CORDAFINA_TABLE_WORDS(lines),
+                              room_words, CORDAFINA_ROOM_WORDS, room_bytes, sizeof room_bytes,
                               blocks, CORDAFINA_BLOCK_WORDS, (const uint8_t *)own, strlen(own), reply, sizeof reply);
     length = cordafina_length(answer);
     for (place = 0; place + 2 < length && memcmp(reply + place, "ER=", 3) != 0; place++) {

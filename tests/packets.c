@@ -11,6 +11,8 @@ static uint32_t table[CORDAFINA_TABLE_WORDS(CORDAFINA_MOST_LINES)];
 /* One more on either side, which no call may touch. */
 static cordafina_block all[CORDAFINA_EPHEMERALS + 2], before[CORDAFINA_EPHEMERALS + 2];
 static cordafina_block *const blocks = all + 1;
+static uint32_t room_words[CORDAFINA_ROOM_WORDS];
+static uint8_t room_bytes[CORDAFINA_ROOM_BYTES];
 static uint8_t reply[CORDAFINA_REPLY_BYTES];
 static uint32_t lines;
 static int failed, checks;
@@ -34,6 +36,7 @@ static void request(const char *text, const char *expected)
     strcat(message, text);
     memcpy(before, all, sizeof all);
     answer = cordafina_answer(lines, (const uint8_t *)message, strlen(message), table, CORDAFINA_TABLE_WORDS(lines),
+                              room_words, CORDAFINA_ROOM_WORDS, room_bytes, sizeof room_bytes,
                               cordafina_block_words(blocks), CORDAFINA_BLOCK_WORDS, (const uint8_t *)own, strlen(own), reply, sizeof reply);
     expect(cordafina_length(answer) == strlen(start) + strlen(expected) && memcmp(reply, start, strlen(start)) == 0
                && memcmp(reply + strlen(start), expected, strlen(expected)) == 0,
@@ -72,8 +75,9 @@ static void unsound(const char *what)
     uint64_t answer;
     expect(packet(2, 5, 3) == CORDAFINA_TABLE_UNSOUND && packet(65, 5, 3) == CORDAFINA_TABLE_UNSOUND, what);
     left(0, blocks[0], what);
-    answer = cordafina_answer(lines, (const uint8_t *)"x", 1, table, CORDAFINA_TABLE_WORDS(lines), cordafina_block_words(blocks),
-                              CORDAFINA_BLOCK_WORDS, (const uint8_t *)"mg", 2, reply, sizeof reply);
+    answer = cordafina_answer(lines, (const uint8_t *)"x", 1, table, CORDAFINA_TABLE_WORDS(lines),
+                              room_words, CORDAFINA_ROOM_WORDS, room_bytes, sizeof room_bytes,
+                              cordafina_block_words(blocks), CORDAFINA_BLOCK_WORDS, (const uint8_t *)"mg", 2, reply, sizeof reply);
     expect(cordafina_refusal(answer) == CORDAFINA_TABLE_UNSOUND, what);
     left(0, blocks[0], what);
 }
@@ -85,6 +89,7 @@ static void one_count(void)
     const uint32_t *words = cordafina_block_words(blocks);
 
     memset(table, 0, sizeof table);
+    memset(room_words, 0, sizeof room_words);
     memset(all, 0xA5, sizeof all);
     memset(blocks, 0, CORDAFINA_BLOCK_WORDS * sizeof(uint32_t));
     expect(packet(1, 1000, 200) == CORDAFINA_EPHEMERAL_ABSENT, "no ephemeral yet");

@@ -56,10 +56,15 @@ static void nothing(void)
 {
 }
 
+/* Kept replies: none before a message, and its own when it is sent again. */
+static uint32_t room_words[CORDAFINA_ROOM_WORDS];
+static uint8_t room_bytes[CORDAFINA_ROOM_BYTES];
+
 static void answer(void)
 {
-    cordafina_answer(lines, (const uint8_t *)text, length, table, CORDAFINA_TABLE_WORDS(lines), blocks, CORDAFINA_BLOCK_WORDS,
-                     (const uint8_t *)own, sizeof own - 1, reply, sizeof reply);
+    cordafina_answer(lines, (const uint8_t *)text, length, table, CORDAFINA_TABLE_WORDS(lines), room_words,
+                     CORDAFINA_ROOM_WORDS, room_bytes, sizeof room_bytes, blocks, CORDAFINA_BLOCK_WORDS, (const uint8_t *)own,
+                     sizeof own - 1, reply, sizeof reply);
 }
 
 static void contexts(void)
@@ -113,6 +118,8 @@ static const char *const messages[] = {
     "!/1 [10.0.0.1] T=1{C=1{MV=*,S=*}}",
     "!/1 [10.0.0.1] T=1{C=1{O-S=*,O-S=ROOT,O-A=$,O-MV=R/*}}T=2{C=1{PR=3,EG}}T=3{C=2{W-A=$}}",
     "!/1 [10.0.0.1] T=1{C=${A=${M{O{MO=SR},L{v=0\nc=IN IP4 10.0.0.9\nm=audio 4000 RTP/AVP 8\n},R{}}},A=L/1/1}}",
+    "!/1 [10.0.0.1] T=1{C=-{MF=*}}K{1,3-9,4294967295}T=1{C=5{S=*}}TransactionResponseAck { 2 , 1-1 }",
+    "!/1 [10.0.0.1] K{1-4294967295}",
     ";a comment\r\n MEGACO / 1",
     "noise",
 };
@@ -136,6 +143,8 @@ static void message(const char *bytes, size_t count)
 {
     text = bytes;
     length = count;
+    memset(room_words, 0, sizeof room_words);
+    by_call = most(by_call, used(answer));
     by_call = most(by_call, used(answer));
     by_contexts = most(by_contexts, used(contexts));
     by_texts = most(by_texts, used(texts));

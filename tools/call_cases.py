@@ -2,15 +2,18 @@
 """The calls that crates/calls_run reads, and what each must answer: writes its stdin and its stdout from recorded calls.
 
 Takes the rows at a boundary first, then rows that show a code, a refusal, a report or a kind that few before them show, as
-tools/evaluate.py does, and adds the calls of SESSION and SINGLE, which stand in this file: document 01 gives their replies and
-tables, or its rules decide them. Nothing is taken from the program: a row's reply, its table and its buffer are the recorded ones.
+tools/evaluate.py does, and adds the calls of SESSION, SINGLE, KEPT and ROOMS, which stand in this file: document 01 gives their replies and
+tables, or its rules and those of document 02's request 3 decide them. Nothing is taken from the program: a row's reply, its table, its
+buffer and its room are the recorded ones. A row that has kept replies in its room is taken with an empty one, where nothing of it is a
+repeat or an acknowledgement: then the replies that it kept, and they alone, are kept.
 
-Input, for each call: a line of 48 bytes (eight numbers of five digits: the bytes of the own mId, the bytes of the message, the
-runs of equal words that are not 0, the lines told, the words of the table, the bytes of the buffer, the runs of the blocks, the words
-of the blocks), the own mId, the message, the runs of the table and those of the blocks (from, to: five digits each; the word: ten
-digits, and a space), a line end.
-Output, for each call: its number, the refusal or the reply's length and its bytes, the sum of the table, the sum of the blocks and
-the sum of the whole buffer, which is filled with 170 before the call.
+Input, for each call: a line of 72 bytes (twelve numbers of five digits: the bytes of the own mId, the bytes of the message, the
+runs of equal words that are not 0, the lines told, the words of the table, the bytes of the buffer, the words and the bytes of the room,
+the runs put into the room's words, 1 where the room is first emptied, the runs of the blocks, the words of the blocks), the own mId, the
+message, the runs of the table, of the room's words and of the blocks (from, to: five digits each; the word: ten digits, and a space), a
+line end. The room stays from call to call.
+Output, for each call: its number, the refusal or the reply's length and its bytes, the sum of the table, the sum of the blocks, the sum
+of the whole buffer, which is filled with 170 before the call, and the sums of the room's words and bytes.
 """
 import collections
 import os
@@ -21,8 +24,8 @@ import sys
 sys.dont_write_bytecode = True
 import command
 
-OWN, HEAD = b"[10.0.0.9]", b"!/1 [10.0.0.1] "
-LINES, WORDS, BUFFER, BLOCKS = 8, 1522, 16640, 256
+OWN, HEAD, SENDER = b"[10.0.0.9]", b"!/1 [10.0.0.1] ", b"[10.0.0.1]"
+LINES, WORDS, BUFFER, BLOCKS, ROOM_WORDS, ROOM_BYTES = 8, 1522, 16640, 256, 64, 33920
 FEW = 12          # how many rows are to show the same thing
 LONGEST = 300     # bytes of a message, boundaries aside
 ROOM = 800000     # bytes of the input
@@ -62,12 +65,28 @@ def blocks(row, what="blocks"):
     return words
 
 
+EMPTY = {"words_len": ROOM_WORDS, "words": [], "bytes_len": ROOM_BYTES, "bytes": []}
+
+
 def record(row):
     message, own, held = bytes.fromhex(row["message"]), bytes.fromhex(row["own"]), runs(row["table"])
-    lent = blocks(row)
-    figures = runs([(i, v) for i, v in enumerate(lent) if v])
-    head = b"%05d %05d %05d %05d %05d %05d %05d %05d\n" % (len(own), len(message), len(held), row.get("lines", LINES), row["table_len"], row["buf"], len(figures), len(lent))
-    return head + own + message + b"".join(b"%05d%05d%010d " % tuple(w) for w in held + figures) + b"\n"
+    lent, room = blocks(row), row.get("room") or EMPTY
+    figures, kept = runs([(i, v) for i, v in enumerate(lent) if v]), [] if row.get("goes_on") else runs(room["words"])
+    head = b"%05d %05d %05d %05d %05d %05d %05d %05d %05d %05d %05d %05d\n" % (
+        len(own), len(message), len(held), row.get("lines", LINES), row["table_len"], row["buf"], room["words_len"], room["bytes_len"],
+        len(kept), 0 if row.get("goes_on") else 1, len(figures), len(lent))
+    return head + own + message + b"".join(b"%05d%05d%010d " % tuple(w) for w in held + kept + figures) + b"\n"
+
+
+def room_sums(row):
+    """The sums of the room's words and of its bytes after the call."""
+    room = row.get("room_after") or EMPTY
+    words, octets = [0] * room["words_len"], bytearray(room["bytes_len"])
+    for i, v in room["words"]:
+        words[i] = v
+    for i, v in room["bytes"]:
+        octets[i : i + len(v) // 2] = bytes.fromhex(v)
+    return total(words), total(octets)
 
 
 def total(numbers):
@@ -83,7 +102,7 @@ def row_text(k, row):
         table[i] = v
     buffer = reply + b"\xaa" * (row["buf"] - len(reply))
     said = b"refused %d" % row["refusal"] if row["refusal"] else b"taken %d %s" % (len(reply), reply)
-    return b"%d %s %d %d %d\n" % (k, said, total(table), total(blocks(row, "blocks_after")), total(buffer))
+    return b"%d %s %d %d %d %d %d\n" % (k, said, total(table), total(blocks(row, "blocks_after")), total(buffer), *room_sums(row))
 
 
 # ---- the calls of document 01
@@ -155,17 +174,130 @@ SINGLE = [
 ]
 
 
-def row(message, reply, before, after):
-    return {"kind": "document 01", "message": (HEAD + message).hex(), "own": OWN.hex(), "lines": LINES, "table_len": WORDS, "buf": BUFFER, "refusal": 0,
-            "reply": (b"!/1 " + OWN + b" " + reply).hex(), "table": sorted(flowing(before).items()), "after": sorted(flowing(before if after is None else after).items())}
+class Room:
+    """A room of kept replies by the rules: the last 16, a free slot is the lowest, the oldest goes where there is none."""
+
+    def __init__(self, words=()):
+        self.words, self.octets = [0] * ROOM_WORDS, bytearray(ROOM_BYTES)
+        for i, v in dict(words).items():
+            self.words[i] = v
+
+    def set_held(self, held):
+        self.words[:16] = held + [0] * (16 - len(held))
+
+    def held(self):
+        return [n for n in self.words[:16] if n]
+
+    def pair(self, n):
+        return bytes(self.octets[2120 * (n - 1) : 2120 * (n - 1) + self.words[31 + n]]), self.words[15 + n]
+
+    def keep(self, sender, id, reply):
+        held = self.held()[-15:] if len(self.held()) == 16 else self.held()
+        n = min(set(range(1, 17)) - set(held))
+        self.set_held(held + [n])
+        self.words[15 + n], self.words[31 + n], self.words[47 + n] = id, len(sender), len(reply)
+        self.octets[2120 * (n - 1) : 2120 * (n - 1) + len(sender)] = sender
+        self.octets[2120 * (n - 1) + 72 : 2120 * (n - 1) + 72 + len(reply)] = reply
+
+    def drop(self, sender, first, last):
+        self.set_held([n for n in self.held() if self.pair(n)[0] != sender or not first <= self.pair(n)[1] <= last])
+
+    def recorded(self):
+        pieces = [(at, self.octets[at : at + size]) for n in range(16) for at, size in ((2120 * n, 72), (2120 * n + 72, 2048))]
+        return {**EMPTY, "words": [(i, v) for i, v in enumerate(self.words) if v], "bytes": [(at, piece.hex()) for at, piece in pieces if any(piece)]}
+
+
+def row(message, reply, before, after, room=None, sender=SENDER):
+    """A message, from an empty room unless one is given: what it leaves. A transaction that ran is kept."""
+    said, id = b"!/1 " + OWN + b" " + reply, re.match(rb"P=(\d+)\{(?!ER=40)", reply)
+    if room is None:
+        room = Room()
+        if id:
+            room.keep(sender, int(id[1]), reply)
+    return {"kind": "document 01", "message": (b"!/1 " + sender + b" " + message).hex(), "own": OWN.hex(), "lines": LINES, "table_len": WORDS,
+            "buf": BUFFER, "refusal": 0, "reply": said.hex() if reply else "", "table": sorted(flowing(before).items()),
+            "after": sorted(flowing(before if after is None else after).items()), "room_after": room.recorded()}
+
+
+def session():
+    """The session in one room; then its first request again, which is answered and does not run; then the replies are acknowledged."""
+    rows, before, room = [], {}, Room()
+    for message, reply, after in SESSION:
+        room.keep(SENDER, int(message[2 : message.index(b"{")]), reply)
+        rows.append({**row(message, reply, before, after, room), "goes_on": bool(rows)})
+        before = after
+    for message, reply, dropped in [(SESSION[0][0], SESSION[0][1], []), (b"T=8{C=5{S=*}}", SESSION[1][1], []), (b"K{8,10-11}", b"", [(8, 8), (10, 11)]),
+                                    (SESSION[0][0], SESSION[0][1], []), (b"TransactionResponseAck{1-4294967295}", b"", [(1, 2 ** 32 - 1)])]:
+        for first, last in dropped:
+            room.drop(SENDER, first, last)
+        rows.append({**row(message, reply, before, None, room), "goes_on": True})
+    return rows
+
+
+GONE, OTHER = b"C=9{S=*{ER=411{}}}", b"<" + b"g" * 64 + b">:65535"
+# On a fresh table, in one room: a sender, a message, its reply, and what is kept (identifier, reply) or dropped (first, last), in this order.
+KEPT = [(SENDER, b"T=%d{C=9{S=*}}" % n, b"P=%d{%s}" % (n, GONE), [(n, b"P=%d{%s}" % (n, GONE))]) for n in range(1, 16)] + [
+    (OTHER, b"T=1{C=8{S=*}}", b"P=1{C=8{S=*{ER=411{}}}}", [(1, b"P=1{C=8{S=*{ER=411{}}}}")]),
+    # a repeat of the oldest of 16, which stays the oldest; faults, which are not kept; the oldest goes, and then runs again
+    (SENDER, b"T=0001{C=-{MF=ROOT}}", b"P=1{%s}" % GONE, []),
+    (SENDER, b"T=16{}", b"P=16{ER=403{}}", []), (SENDER, b"T=0{C=-{MF=ROOT}}", b"P=0{ER=403{}}", []),
+    (SENDER, b"T=16{C=-{MF=ROOT}}", b"P=16{C=-{MF=ROOT}}", [(16, b"P=16{C=-{MF=ROOT}}")]),
+    (SENDER, b"T=1{C=-{MF=ROOT}}", b"P=1{C=-{MF=ROOT}}", [(1, b"P=1{C=-{MF=ROOT}}")]),
+    # each is looked up in its turn: 17 takes the place of 3; of two with one identifier the second is a repeat
+    (SENDER, b"T=17{C=-{MF=ROOT}}T=3{C=-{MF=ROOT}}T=3{}", b"P=3{ER=403{}}", []),
+    (SENDER, b"T=17{C=-{MF=ROOT}}T=3{C=-{MF=ROOT}}T=3{C=9{S=*}}", b"P=17{C=-{MF=ROOT}}P=3{C=-{MF=ROOT}}P=3{C=-{MF=ROOT}}",
+     [(17, b"P=17{C=-{MF=ROOT}}"), (3, b"P=3{C=-{MF=ROOT}}")]),
+    # another sender's are not dropped, by the bytes of the mId; a fault drops none; room freed is used
+    (b"[10.0.0.01]", b"K{1-4294967295}", b"", [range(1, 2 ** 32)]),
+    (OTHER.upper(), b"T=1{C=-{MF=ROOT}}K{1}", b"P=1{C=-{MF=ROOT}}", [(1, b"P=1{C=-{MF=ROOT}}"), range(1, 2)]),
+    *[(SENDER, b"K{%s}" % bad, b"ER=400{}", []) for bad in (b"", b"0", b"7-6", b"7,", b"7 -8", b"4294967296", b"00000000007", b"7-8-9")],
+    (SENDER, b"K{7}K{8}T=1{", b"P=1{ER=403{}}", []),
+    (SENDER, b"K{7-9,17,4294967295}", b"", [range(7, 10), range(17, 18)]),
+    (SENDER, b"k { 5 }T=5{C=-{MF=ROOT}}", b"P=5{C=-{MF=ROOT}}", [range(5, 6), (5, b"P=5{C=-{MF=ROOT}}")]),
+    (SENDER, b"T=5{C=9{S=*}}K{5}T=20{C=9{S=*}}", b"P=5{C=-{MF=ROOT}}P=20{%s}" % GONE, [range(5, 6), (20, b"P=20{%s}" % GONE)]),
+    (SENDER, b"K{1}" * 9, b"ER=400{}", []), (SENDER, b"K{1}" * 8, b"", [range(1, 2)]),
+    (OTHER, b"T=1{C=-{MF=*}}K{1}T=1{C=-{MF=*}}", b"P=1{C=8{S=*{ER=411{}}}}P=1{ER=533{}}", [range(1, 2), (1, b"P=1{ER=533{}}")]),
+]
+# The words of a room of no bytes but 0, and whether it is sound.
+ROOMS = [({0: 17}, False), ({1: 1}, False), ({0: 1, 1: 1}, False), ({15: 1}, False), ({0: 2 ** 32 - 1}, False), ({0: 1, 1: 2}, False),
+         ({0: 1, 48: 2049}, False), ({0: 1, 32: 73}, False), ({0: 16, 63: 2 ** 31}, False), ({0: 1, 48: 2048, 32: 72}, True), ({0: 1, 1: 2, 17: 1}, True),
+         ({0: 1, 1: 2, 33: 1}, True), ({0: 16, 49: 2049, 33: 73}, True), ({n: 16 - n for n in range(16)} | {16 + n: n for n in range(16)}, True)]
+
+
+def kept():
+    rows, room = [], Room()
+    for sender, message, reply, changes in KEPT:
+        for change in changes:
+            if isinstance(change, range):
+                room.drop(sender, change.start, change.stop - 1)
+            else:
+                room.keep(sender, *change)
+        rows.append({**row(message, reply, {}, None, room, sender), "goes_on": bool(rows)})
+    return rows
+
+
+def rooms():
+    """A room that is not sound is told before an unfit own mId, and is left; a sound one keeps the reply."""
+    rows = []
+    for words, sound in ROOMS:
+        room, lent = Room(words), Room(words).recorded()
+        if sound:
+            room.keep(SENDER, 1, b"P=1{C=-{MF=ROOT}}")
+        made = row(b"T=1{C=-{MF=ROOT}}", b"P=1{C=-{MF=ROOT}}", {}, None, room)
+        rows.append({**made, "room": lent} if sound else {**made, "room": lent, "refusal": 5, "reply": "", "own": b"no mId".hex()})
+    return rows
+
+
+def own_mids():
+    """An own mId that is none, or of 65 bytes, is told after the room and before a message of no bytes; one of 64 bytes is fine."""
+    made, fine = row(b"Q=1{}", b"ER=400{}", {}, None), b"a" * 64
+    rows = [{**made, "own": own.hex(), "message": message.hex(), "refusal": 4, "reply": ""}
+            for own in (b"no mId", b"", fine + b"a", b"[10.0.0.256]") for message in (b"", b"x")]
+    return rows + [{**made, "own": fine.hex(), "reply": (b"!/1 " + fine + b" ER=400{}").hex()}, {**made, "message": "", "refusal": 1, "reply": ""}]
 
 
 def own_rows():
-    rows, before = [], {}
-    for message, reply, after in SESSION:
-        rows.append(row(message, reply, before, after))
-        before = after
-    return rows + [row(*x) for x in SINGLE] + [last(n) for n in range(1, 17)]
+    return session() + kept() + rooms() + own_mids() + [row(*x) for x in SINGLE] + [last(n) for n in range(1, 17)]
 
 
 def last(n):
@@ -177,6 +309,39 @@ def last(n):
 
 
 # ---- the choice
+
+def replies(room):
+    """The kept replies of a recorded room, the oldest first: sender, identifier, reply."""
+    words, octets = dict(map(tuple, room["words"])), bytearray(room["bytes_len"])
+    for at, piece in room["bytes"]:
+        octets[at : at + len(piece) // 2] = bytes.fromhex(piece)
+    out = []
+    for n in [words[i] for i in range(16) if i in words]:
+        at, sender, reply = 2120 * (n - 1), words.get(31 + n, 0), words.get(47 + n, 0)
+        out.append((bytes(octets[at : at + sender]), words.get(15 + n, 0), bytes(octets[at + 72 : at + 72 + reply])))
+    return out
+
+
+def emptied(r):
+    """A row whose room has kept replies, in an empty room: if it is turned down for another reason, or reads with a fault, or all its replies
+    are of transactions that ran; else none. An acknowledgement may be anywhere."""
+    room, after = r.get("room") or EMPTY, r.get("room_after") or EMPTY
+    if not room["bytes"] and not room["words"]:
+        return r
+    said = bytes.fromhex(r["reply"])[len(b"!/1  ") + len(r["own"]) // 2 :]
+    if r["refusal"] == 5 or re.search(rb"\bK\b|RESPONSEACK", bytes.fromhex(r["message"]).upper()):
+        return None
+    held = Room()
+    if not r["refusal"] and not re.fullmatch(rb"(P=\d+\{ER=403\{\}\}|ER=40[06]\{\})", said):
+        old = replies(room)
+        new = [one for one in replies(after) if one not in old]
+        # a repeat shows in the reply, but for one whose kept reply has no bytes
+        if b"".join(reply for _, _, reply in new) != said or not all(reply for _, _, reply in old):
+            return None
+        for one in new:
+            held.keep(*one)
+    return {**r, "room": EMPTY, "room_after": held.recorded()}
+
 
 def row_changes(r):
     return not r["refusal"] and blocks(r) != blocks(r, "blocks_after")
@@ -206,6 +371,7 @@ def marks(r):
 
 
 def choose(rows, room):
+    rows = [r for r in map(emptied, rows) if r and (r.get("room") or EMPTY)["words_len"] <= 80]
     rows = [r for r in rows if r["table_len"] <= 2100 and len(blocks(r)) <= 300 and r["buf"] <= 20000 and r.get("lines", LINES) < 100000]
     random.Random(1).shuffle(rows)
     edges = [r for r in rows if r["kind"].startswith("e") and not r["kind"].startswith("e byte ")]
@@ -214,12 +380,16 @@ def choose(rows, room):
     edges += sorted((r for r in rows if row_changes(r)), key=lambda r: len(record(r)))[:FEW]
     rest = [r for r in rows if r["table_len"] == words(r) and (r["kind"][0] != "e" or r["kind"].startswith("e byte "))]
     rest = sorted((r for r in rest if len(r["message"]) // 2 <= LONGEST), key=lambda r: len(record(r)) // 1000)
-    have, taken = collections.Counter(), []
-    for r in edges + [r for r in rest if r not in edges]:
-        few = FEW if len(record(r)) < 1000 else 4
-        if any(have[m] < few for m in marks(r)) and len(record(r)) <= room:
+    have, taken, known = collections.Counter(), [], set()
+    # first each thing once, but for the kinds, by the shortest rows that show it
+    ordered = [(True, r) for r in sorted(edges + rest, key=lambda r: len(record(r)))] + [(False, r) for r in edges + rest]
+    for once, r in ordered:
+        shown = {m for m in marks(r) if m[0] != "kind"} if once else marks(r)
+        few = 1 if once else FEW if len(record(r)) < 1000 else 4
+        if id(r) not in known and any(have[m] < few for m in shown) and len(record(r)) <= room:
             room -= len(record(r))
             taken.append(r)
+            known.add(id(r))
             have.update(marks(r))
     return taken
 
@@ -239,7 +409,8 @@ def main():
     for what in ("code", "refusal", "topology", "direction", "report", "wildcard", "lines", "table", "buffer", "blocks"):
         print(what, " ".join("%s:%d" % (c.decode() if isinstance(c, bytes) else c, n) for (k, c), n in sorted(shown.items(), key=str) if k == what))
     every = {m for r in rows for m in marks(r)}
-    print(len(taken), "calls; shown by no call:", sorted(map(str, every - set(shown))))
+    missing = every - set(shown)
+    print(len(taken), "calls; shown by no call:", sorted(str(m) for m in missing if m[0] != "kind"), "and", sum(m[0] == "kind" for m in missing), "kinds")
 
 
 if __name__ == "__main__":

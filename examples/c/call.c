@@ -20,6 +20,8 @@ int main(void)
 {
     static const char own[] = "[10.0.0.9]";
     static uint32_t table[CORDAFINA_TABLE_WORDS(LINES)];
+    static uint32_t room_words[CORDAFINA_ROOM_WORDS];
+    static uint8_t room_bytes[CORDAFINA_ROOM_BYTES];
     static uint32_t blocks[CORDAFINA_BLOCK_WORDS];
     static uint8_t reply[CORDAFINA_REPLY_BYTES];
     static uint8_t text[CORDAFINA_OUTPUT_BYTES];
@@ -27,6 +29,7 @@ int main(void)
     for (size_t i = 0; i < sizeof messages / sizeof messages[0]; i++) {
         uint64_t answer = cordafina_answer(LINES, (const uint8_t *)messages[i], strlen(messages[i]),
                                            table, CORDAFINA_TABLE_WORDS(LINES),
+                                           room_words, CORDAFINA_ROOM_WORDS, room_bytes, sizeof room_bytes,
                                            blocks, CORDAFINA_BLOCK_WORDS,
                                            (const uint8_t *)own, strlen(own),
                                            reply, sizeof reply);

@@ -15,13 +15,15 @@ namespace {
 class Gateway {
 public:
     Gateway(std::string own, std::uint32_t lines)
-        : own_(own), lines_(lines), table_(CORDAFINA_TABLE_WORDS(lines)), reply_(CORDAFINA_REPLY_BYTES)
+        : own_(own), lines_(lines), table_(CORDAFINA_TABLE_WORDS(lines)),
+          room_words_(CORDAFINA_ROOM_WORDS), room_bytes_(CORDAFINA_ROOM_BYTES), reply_(CORDAFINA_REPLY_BYTES)
     {
     }
 
     std::string answer(const std::string &message)
     {
         return taken(cordafina_answer(lines_, bytes(message), message.size(), table_.data(), table_.size(),
+                                      room_words_.data(), room_words_.size(), room_bytes_.data(), room_bytes_.size(),
                                       blocks_.data(), blocks_.size(), bytes(own_), own_.size(), reply_.data(), reply_.size()),
                      reply_);
     }
@@ -53,6 +55,8 @@ private:
     std::string own_;
     std::uint32_t lines_;
     std::vector<std::uint32_t> table_;
+    std::vector<std::uint32_t> room_words_;
+    std::vector<std::uint8_t> room_bytes_;
     std::vector<std::uint32_t> blocks_ = std::vector<std::uint32_t>(CORDAFINA_BLOCK_WORDS);
     std::vector<std::uint8_t> reply_;
 };

@@ -9,15 +9,16 @@ use Rattle.base.specs.Pick.{pick}
 use Rattle.base.specs.Lists.{isAt, part}
 use Rattle.megaco.specs.Bytes.{comma, leftBrace, rightBrace, dash, dollar, star}
 use Rattle.megaco.specs.Keywords.{spells}
-use Rattle.megaco.specs.Tokens.{markAt, rowAt, terminationAt, numberAt}
+use Rattle.megaco.specs.White.{sepAt}
+use Rattle.megaco.specs.Tokens.{markAt, rowAt, terminationAt, numberAt, mIdAt}
 use Rattle.megaco.specs.Tree.{priority, emergency, topology, Triple}
-use Rattle.megaco.specs.Reading.{unlimited, keyAt, isProperty, wordHere, senderAt}
-use Rattle.protocol.specs.Types.{Parsed, Next, Fault, Number, Got, Bad, WordByte, Null, Numbered, Choose, All, Direction, Priority, Emergency, Topology, CtxToken, EmergencyToken, TopologyToken}
+use Rattle.megaco.specs.Reading.{unlimited, keyAt, isProperty, wordHere, identifierFrom, senderAt}
+use Rattle.protocol.specs.Types.{Parsed, Next, Fault, Number, Got, Bad, WordByte, Null, Numbered, Choose, All, Direction, Priority, Emergency, Topology, CtxToken, EmergencyToken, TopologyToken, ResponseAckToken}
 use Rattle.read_command.specs.declared.Piece.{Piece}
 use Rattle.read_command.specs.Pieces.{Holds}
 use Rattle.read_command.specs.declared.Rest.{Rest}
-use Rattle.read_command.specs.Places.{priorityAt, commandAt, commandsAt, contextStart, contextAt, bodyStart, directionOf, directionAt, partyAt, partyEnd, twoStart, directionStart, tripleAt, triplesStart, triplesAt, topologyAt, propertyAt, rest, restOf, restIn, bodyEnd, actionAt, actionsAt}
-use Rattle.read_command.specs.Messages.{braceAt, identifierAt, versionAt, actionsStart, closingEnd, transactionEnd, headerEnd}
+use Rattle.read_command.specs.Places.{priorityAt, commandAt, commandsAt, contextStart, contextAt, bodyStart, directionOf, directionAt, partyAt, partyEnd, twoStart, directionStart, tripleAt, triplesStart, triplesAt, topologyAt, propertyAt, rest, restOf, restIn, bodyEnd, actionAt, actionsAt, rangeAt, ackAt, acksStart}
+use Rattle.read_command.specs.Messages.{braceAt, identifierAt, versionAt, actionsStart, closingEnd, transactionEnd, isAcknowledgement, headerEnd}
 use Rattle.read_command.specs.Production.{endOf, valueIn, nextIn, pastWhite, pastSign, wordEnd, listEnd, listP}
 use Rattle.command_places.specs.Found.{nextAt}
 use Rattle.command_places.proofs.NextLaws.{part-last, part-more}
@@ -26,7 +27,7 @@ use Rattle.action_places.specs.declared.ActionPlaces.{ActionPlaces}
 use Rattle.action_places.specs.declared.TriplePlaces.{TriplePlaces}
 use Rattle.action_places.specs.declared.PropertyPlaces.{PropertyPlaces}
 use Rattle.action_places.specs.declared.TransactionPlaces.{TransactionPlaces}
-use Rattle.action_places.specs.ActionPlaces.{contextPlaces, actionPlaces, OfTriple, tripleFrom, kindOf, propertyPlaces, transactionPlaces}
+use Rattle.action_places.specs.ActionPlaces.{contextPlaces, actionPlaces, OfTriple, tripleFrom, kindOf, propertyPlaces, transactionPlaces, ackPlaces, senderStart, senderEnd}
 
 -- ---- numbers
 
@@ -212,3 +213,38 @@ transaction-ends s at e r p ep ee er =
 pub header-ends : (s : List ℕ) (p r : ℕ) (n : Number) (x : Parsed) → n ≡ versionAt s → p ≡ nextIn n → x ≡ senderAt s p → r ≡ endOf x → r ≡ headerEnd s
 unfolding headerEnd
 header-ends s p r n x en ep ex er = er ∙ rw (ex, ep, en)
+
+-- a transaction that is passed over
+pub transaction-passed : (s : List ℕ) (at e r : ℕ) (p : TransactionPlaces) → p ≡ transactionPlaces s at → e ≡ listP (actionAt s) s 16 (p .body) .end → r ≡ closingEnd s e → r ≡ transactionEnd s at
+unfolding actionsAt
+transaction-passed s at e r p ep ee er = transaction-ends s at e r p ep ee er
+
+-- ---- acknowledgements
+
+pub acknowledges : (s : List ℕ) (at : ℕ) (r : Bool) → r ≡ spells ResponseAckToken (wordHere s at) → r ≡ isAcknowledgement s at
+unfolding isAcknowledgement
+acknowledges s at r e = e
+
+pub acks-first : (s : List ℕ) (at e p r : ℕ) → e ≡ rowAt WordByte s at → p ≡ pastWhite s e → r ≡ pastSign leftBrace s p → r ≡ acksStart s at
+unfolding acksStart wordEnd
+acks-first s at e p r h g f = f ∙ rw (g, h)
+
+module _ (s : List ℕ) (at : ℕ) (n : Number) (v p : ℕ) (x : Bool) (e : n ≡ identifierFrom 1 s at) (a : v ≡ valueIn n) (b : p ≡ nextIn n) (g : x ≡ isAt s p dash) where
+  pub ack-one : (q : ℕ) → x ≡ false → q ≡ pastWhite s p → record { ack = record { first = v; last = v }; end = q } ≡ ackPlaces s at
+  unfolding ackPlaces ackAt rangeAt pick
+  ack-one q t d = rw (← e, ← a, ← b, ← g, t, d)
+
+  pub ack-range : x ≡ true → (m : Number) (l u q : ℕ) → m ≡ identifierFrom v s (p + 1) → l ≡ valueIn m → u ≡ nextIn m → q ≡ pastWhite s u
+      → record { ack = record { first = v; last = l }; end = q } ≡ ackPlaces s at
+  unfolding ackPlaces ackAt rangeAt pick
+  ack-range t m l u q f c d h = rw (← e, ← a, ← b, ← g, t, ← f, c, h, d)
+
+-- ---- the sender
+
+pub sender-found : (s : List ℕ) (p a e : ℕ) (n : Number) (x y : Parsed) (w : Piece) → n ≡ versionAt s → p ≡ nextIn n → x ≡ sepAt s p → a ≡ endOf x → y ≡ mIdAt s a → e ≡ endOf y → Holds s a e w
+    → Holds s (senderStart s) (senderEnd s) w
+unfolding senderStart senderEnd
+sender-found s p a e n x y w en ep ex ea ey ee h =
+    let f : a ≡ senderStart s = ea ∙ rw (ex, ep, en) in
+    let g : e ≡ senderEnd s = ee ∙ rw (ey, f) in
+    rw f at (rw g at h)

@@ -3,9 +3,11 @@
 ghost use mathlib.Core.Path.{_≡_};
 ghost use Rattle.megaco.specs.Reading.{unlimited};
 ghost use Rattle.read_command.specs.Production.{valueIn, nextIn, listAfter, listP};
-ghost use Rattle.read_command.specs.Places.{commandAt, directionAt, tripleAt, triplesStart, triplesAt, topologyAt, bodyEnd, restOf, actionAt};
-ghost use Rattle.read_command.specs.Messages.{closingEnd, headerEnd};
-ghost use Rattle.action_places.specs.ActionPlaces.{contextPlaces, actionPlaces, OfTriple, propertyPlaces, transactionPlaces};
+ghost use Rattle.read_command.specs.Places.{ackAt, acksStart, commandAt, directionAt, tripleAt, triplesStart, triplesAt, topologyAt, bodyEnd, restOf, actionAt};
+ghost use Rattle.read_command.specs.Messages.{closingEnd, transactionEnd, headerEnd, isAcknowledgement};
+ghost use Rattle.read_command.specs.Pieces.{Holds};
+ghost use Rattle.action_places.specs.ActionPlaces.{contextPlaces, actionPlaces, OfTriple, propertyPlaces, transactionPlaces, ackPlaces, senderStart, senderEnd};
+use megaco::Ack;
 use megaco::Class;
 use megaco::Context;
 use megaco::Direction;
@@ -46,6 +48,12 @@ pub struct PropertyPlaces {
 pub struct TransactionPlaces {
     pub id: u32,
     pub body: usize,
+}
+
+// What an acknowledgement names, and the place behind it.
+pub struct AckPlaces {
+    pub ack: Ack,
+    pub end: usize,
 }
 
 fn value_in(n: Number) -> u32
@@ -347,6 +355,68 @@ pub fn closing_end(s: &[u8], at: usize) -> usize
     ensures { λ r. ⌜ r ≡ closingEnd (now (s .entry)) at ⌝ }
 {
     command_places::past_white(s, command_places::end_of(text::mark(s, at, b'}')))
+}
+
+// The end of a transaction that is passed over.
+pub fn transaction_end(s: &[u8], at: usize) -> usize
+    ensures { λ r. ⌜ r ≡ transactionEnd (now (s .entry)) at ⌝ }
+{
+    let a = transaction_places(s, at);
+    let b = a.body;
+    closing_end(s, actions_end(s, 16, b))
+}
+
+// ---- acknowledgements
+
+// Whether an acknowledgement stands here, and no transaction.
+pub fn is_acknowledgement(s: &[u8], at: usize) -> bool
+    ensures { λ r. ⌜ r ≡ isAcknowledgement (now (s .entry)) at ⌝ }
+{
+    read_action::here_spells(s, at, Token::ResponseAckToken)
+}
+
+// Where what it names begins.
+pub fn acks_start(s: &[u8], at: usize) -> usize
+    ensures { λ r. ⌜ r ≡ acksStart (now (s .entry)) at ⌝ }
+{
+    command_places::past_opening(
+        s,
+        command_places::past_white(s, text::row(s, at, Class::WordByte)),
+    )
+}
+
+// An identifier, or a first and a last.
+pub fn ack_places(s: &[u8], at: usize) -> AckPlaces
+    ensures { λ r. ⌜ r ≡ ackPlaces (now (s .entry)) at ⌝ }
+{
+    let n = read_message::identifier_from(s, at, 1);
+    let v = value_in(n);
+    let p = next_in(n);
+    if text::is_at(s, p, b'-') {
+        let m = read_message::identifier_from(s, p + 1, v);
+        return AckPlaces {
+            ack: Ack {
+                first: v,
+                last: value_in(m),
+            },
+            end: command_places::past_white(s, next_in(m)),
+        };
+    }
+    AckPlaces {
+        ack: Ack { first: v, last: v },
+        end: command_places::past_white(s, p),
+    }
+}
+
+// ---- the header
+
+// The sender's mId.
+pub fn sender_piece(s: &[u8]) -> Piece
+    ensures { λ r. ⌜ Holds (now (s .entry)) (senderStart (now (s .entry))) (senderEnd (now (s .entry))) r ⌝ }
+{
+    let v = read_message::version(s);
+    let a = command_places::end_of(text::sep(s, next_in(v)));
+    read_command::piece_of(s, a, command_places::end_of(tokens::mid(s, a)))
 }
 
 // Where the transactions begin.

@@ -4,7 +4,7 @@ use mathlib.Core.Path.{_≡_, ap, sym, _∙_}
 use mathlib.Core.Logic.{_≢_, _⊎_, inl, inr}
 use mathlib.Core.List.{List}
 use native.Mathlib.Omega.{arith}
-use Rattle.megaco.specs.Tree.{Transaction, wellFormed, fault400, fault403, fault406}
+use Rattle.megaco.specs.Tree.{Part, wellFormed, fault400, fault403, fault406}
 use Rattle.megaco.specs.Reading.{messageR}
 use Rattle.megaco.specs.State.{State}
 use Rattle.megaco.specs.Call.{call}
@@ -15,13 +15,13 @@ use Rattle.audits.proofs.Reporting.{reports-held, reports-named}
 use Rattle.audits.proofs.Matching.{reports-wild}
 use Rattle.audits.proofs.ReadBack.{texts-tell}
 
-not-run : (m : List ℕ) → Faulty m → (xs : List Transaction) → messageR m ≢ wellFormed xs
+not-run : (m : List ℕ) → Faulty m → (xs : List Part) → messageR m ≢ wellFormed xs
 not-run m (inl e) xs q = let z : _≡_ {A = ℕ} 0 1 = cc in omega arith
 not-run m (inr (inl (id, e))) xs q = let z : _≡_ {A = ℕ} 0 1 = cc in omega arith
 not-run m (inr (inr e)) xs q = let z : _≡_ {A = ℕ} 0 1 = cc in omega arith
 
 as-before : AsBefore
-as-before n m k st own o o′ f = ap (λ (u : State). call n k u own o′) (fault-keeps n m st own o (not-run m f))
+as-before n m k st r own o o′ f = let q = fault-keeps n m st r own o (not-run m f) in (λ i. call n k (q .0 i) (q .1 i) own o′)
 
 pub audits : Trusted
 audits =

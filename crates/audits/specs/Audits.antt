@@ -16,6 +16,7 @@ use Rattle.megaco.specs.Reply.{nothing, media, Report, done, refused, failed, d
 use Rattle.megaco.specs.Attempt.{seen, numberOf, detailOf}
 use Rattle.megaco.specs.Command.{noContext, matches, opOf, runCommand}
 use Rattle.megaco.specs.Transaction.{runTransaction}
+use Rattle.megaco.specs.Room.{Room}
 use Rattle.megaco.specs.Call.{call}
 use Rattle.protocol.specs.Types.{Context, AuditValue, Range, Termination, Wildcard, Right, Values}
 use Rattle.laws.specs.Membership.{_∈_}
@@ -116,7 +117,8 @@ abbrev pub Faulty : List ℕ → Type 0
 Faulty m = (messageR m ≡ fault400) ⊎ ((id : ℕ) × (messageR m ≡ fault403 id)) ⊎ (messageR m ≡ fault406)
 
 abbrev pub AsBefore : Type 0
-AsBefore = (n : ℕ) (m k : List ℕ) (st : State) (own o o′ : List ℕ) → Faulty m → call n k (call n m st own o .state) own o′ ≡ call n k st own o′
+AsBefore =
+    (n : ℕ) (m k : List ℕ) (st : State) (r : Room) (own o o′ : List ℕ) → Faulty m → call n k (call n m st r own o .state) (call n m st r own o .room) own o′ ≡ call n k st r own o′
 
 -- ---- all of it
 pub record Trusted : Type 0 where

@@ -4,14 +4,15 @@ use mathlib.Core.Path.{_≡_, _∙_}
 use mathlib.Core.List.{List}
 use native.Mathlib.Omega.{arith}
 use Rattle.megaco.specs.State.{State}
+use Rattle.megaco.specs.Room.{Room}
 use Rattle.megaco.specs.Call.{Called}
 use Rattle.gateway.specs.Answers.{refusalOf, sizeOf, Answered, numberOf, Packed}
 use Rattle.gateway.specs.declared.CallOutcome.{CallOutcome}
-use Rattle.gateway.specs.declared.CallOutcome.the-variants.{Taken, ReplyTooShort, TableUnsound, MidUnfit, MessageUnfit, LinesUnfit}
+use Rattle.gateway.specs.declared.CallOutcome.the-variants.{Taken, ReplyTooShort, TableUnsound, RoomUnsound, MidUnfit, MessageUnfit, LinesUnfit}
 
-pub packs : (c : Called) (t′ : State) (o′ : List ℕ) (a : CallOutcome) (r : ℕ) → Answered c t′ o′ a → r ≡ numberOf a → Packed c t′ o′ r
+pub packs : (c : Called) (t′ : State) (r′ : Room) (o′ : List ℕ) (a : CallOutcome) (r : ℕ) → Answered c t′ r′ o′ a → r ≡ numberOf a → Packed c t′ r′ o′ r
 unfolding numberOf
-packs c t′ o′ a r d e = record { answer = e ∙ (λ i. d .size i + 4294967296 * d .refusal i); state = d .state; reply = d .reply }
+packs c t′ r′ o′ a r d e = record { answer = e ∙ (λ i. d .size i + 4294967296 * d .refusal i); state = d .state; room = d .room; reply = d .reply }
 
 module _ (a : CallOutcome) where
   pub number-taken : (n : ℕ) → a ≡ Taken n → n ≡ numberOf a
@@ -25,6 +26,10 @@ module _ (a : CallOutcome) where
   pub number-unsound : a ≡ TableUnsound → 2 * 4294967296 ≡ numberOf a
   unfolding numberOf sizeOf refusalOf
   number-unsound e = rw e
+
+  pub number-room : a ≡ RoomUnsound → 5 * 4294967296 ≡ numberOf a
+  unfolding numberOf sizeOf refusalOf
+  number-room e = rw e
 
   pub number-mid : a ≡ MidUnfit → 4 * 4294967296 ≡ numberOf a
   unfolding numberOf sizeOf refusalOf

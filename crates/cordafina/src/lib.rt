@@ -9,6 +9,7 @@ ghost use mathlib.Core.Path.{_≡_};
 ghost use Rattle.base.specs.Lists.{lowestAbsent};
 ghost use Rattle.megaco.specs.Map.{digits, inUse};
 ghost use Rattle.megaco.specs.State.{state};
+ghost use Rattle.megaco.specs.Room.{room};
 ghost use Rattle.megaco.specs.Call.{call, packet};
 ghost use Rattle.gateway.specs.Answers.{numberOf, Packed, Counted};
 
@@ -20,25 +21,29 @@ fn number_of(a: CallOutcome) -> u64
         CallOutcome::Taken(n) => n as u64,
         CallOutcome::ReplyTooShort => 3 * 4294967296,
         CallOutcome::TableUnsound => 2 * 4294967296,
+        CallOutcome::RoomUnsound => 5 * 4294967296,
         CallOutcome::MidUnfit => 4 * 4294967296,
         CallOutcome::MessageUnfit => 4294967296,
         CallOutcome::LinesUnfit => 8 * 4294967296,
     }
 }
 
-// The call: the lines fitted, one message, the lent table, the lent blocks, the gateway's own mId and the lent reply buffer.
+// The call: the lines fitted, one message, the lent table, the lent room of kept replies (64 words and 33,920 bytes), the lent blocks, the
+// gateway's own mId and the lent reply buffer.
 #[no_mangle]
 pub extern "C" fn cordafina_answer(
     lines: u32,
     message: &[u8],
     table: &mut [u32],
+    words: &mut [u32],
+    bytes: &mut [u8],
     blocks: &mut [u32],
     own: &[u8],
     reply: &mut [u8],
 ) -> u64
-    ensures { λ r. ⌜ Packed (call lines (now (message .entry)) (state (now (table .entry)) (now (blocks .entry))) (now (own .entry)) (now (reply .entry))) (state (now (table .exit)) (now (blocks .exit))) (now (reply .exit)) r ⌝ }
+    ensures { λ r. ⌜ Packed (call lines (now (message .entry)) (state (now (table .entry)) (now (blocks .entry))) (room (now (words .entry)) (now (bytes .entry))) (now (own .entry)) (now (reply .entry))) (state (now (table .exit)) (now (blocks .exit))) (room (now (words .exit)) (now (bytes .exit))) (now (reply .exit)) r ⌝ }
 {
-    let a = gateway::answer(lines, message, table, blocks, own, reply);
+    let a = gateway::answer(lines, message, table, blocks, words, bytes, own, reply);
     number_of(a)
 }
 

@@ -1,4 +1,4 @@
--- The reply tells what was done: no run of transactions, whatever they are, replies what a fault does, nor one fault what another.
+-- The reply tells what was done, where each kept reply is one that a transaction gave: no run replies what a fault does, nor one fault what another.
 use Prim.Native.Nat.{ℕ, zero, suc, _+_, _*_, _-_, _/_, _%_, _<_}
 use mathlib.Core.Path.{_≡_, refl, sym, ap, _∙_}
 use mathlib.Core.Logic.{_≢_}
@@ -10,11 +10,14 @@ use native.Mathlib.Omega.{arith}
 use Rattle.base.specs.Pick.{pick}
 use Rattle.base.specs.Bytes.{text, _then_, decimalF, decimal}
 use Rattle.base.proofs.PickLaws.{pick-ind}
-use Rattle.megaco.specs.Tree.{Transaction, transaction, Message, wellFormed, fault400, fault403, fault406}
+use Rattle.megaco.specs.Kept.{Kept}
+use Rattle.megaco.specs.Tree.{Message, wellFormed, fault400, fault403, fault406}
 use Rattle.megaco.specs.State.{State}
 use Rattle.megaco.specs.Reply.{Acted, actionText, earlierText, actionsText, errorText, replyText, limited, transactionText}
-use Rattle.megaco.specs.Transaction.{runTransaction, runTransactions, runMessage}
+use Rattle.laws.specs.KeptReplies.{messageBy}
 use Rattle.grammar.specs.Grammar.{valueFrom}
+use Rattle.demands.specs.Demands.{Genuine}
+use Rattle.demands.proofs.Genuine.{Replies, no-replies, one-more, parts-good}
 
 -- ---- a number in decimal is digits, and tells the number
 
@@ -120,43 +123,42 @@ first-limited : (id : ℕ) (x rest : List ℕ) → getD (limited id (replyText i
 unfolding limited replyText _then_
 first-limited id x rest = pick-ind (λ z. getD (z ++ rest) 0 0 ≡ 0x50) (ltb 2048 (length (replyText id x))) (replyText id (errorText 533)) (replyText id x) (λ _. refl) (λ _. refl)
 
-run-not-403 : (xs : List Transaction) (st : State) (j : ℕ) → runTransactions xs st .text ≢ replyText j (errorText 403)
-unfolding runTransactions runTransaction transactionText _then_
-run-not-403 [] st j e = omega (arith, reply-first j (errorText 403), ap (λ (z : List ℕ). getD z 0 0) e)
-run-not-403 (transaction id acts ∷ xs) st j e = not-403 id j _ _ e
+pub replies-not-403 : (x : List ℕ) → Replies x → (j : ℕ) → x ≢ replyText j (errorText 403)
+unfolding transactionText
+replies-not-403 x no-replies j e = omega (arith, reply-first j (errorText 403), ap (λ (z : List ℕ). getD z 0 0) e)
+replies-not-403 x (one-more id acts {x = y} r) j e = not-403 id j acts y e
 
-run-not-error : (xs : List Transaction) (st : State) → getD (runTransactions xs st .text) 0 0 ≢ 0x45
-unfolding runTransactions runTransaction transactionText _then_
-run-not-error [] st e = omega (arith, e)
-run-not-error (transaction id acts ∷ xs) st e = let f : _≡_ {A = ℕ} 0x50 0x45 = sym (first-limited id _ _) ∙ e in omega (arith, f)
+pub replies-not-error : (x : List ℕ) → Replies x → getD x 0 0 ≢ 0x45
+unfolding transactionText
+replies-not-error x no-replies e = omega (arith, e)
+replies-not-error x (one-more id acts {x = y} r) e = let f : _≡_ {A = ℕ} 0x50 0x45 = sym (first-limited id (actionsText acts) y) ∙ e in omega (arith, f)
 
 -- ---- so a text tells the message's kind
 
-module _ (st : State) where
-  pub only-run : (y : Message) (xs : List Transaction) → runMessage y st .text ≡ runTransactions xs st .text → (ys : List Transaction) × (y ≡ wellFormed ys)
-  unfolding runMessage
-  only-run (wellFormed ys) xs e = (ys, refl)
-  only-run fault400 xs e = absurd (run-not-error xs st (sym (ap (λ (z : List ℕ). getD z 0 0) (rw error-400 at e))))
-  only-run (fault403 id) xs e = absurd (run-not-403 xs st id (sym e))
-  only-run fault406 xs e = absurd (run-not-error xs st (sym (ap (λ (z : List ℕ). getD z 0 0) (rw error-406 at e))))
+pub replies-not-400 : (x : List ℕ) → Replies x → x ≢ errorText 400
+replies-not-400 x r e = replies-not-error x r (ap (λ (z : List ℕ). getD z 0 0) (rw error-400 at e))
 
-  pub only-400 : (y : Message) → runMessage y st .text ≡ errorText 400 → y ≡ fault400
-  unfolding runMessage
-  only-400 (wellFormed ys) e = absurd (run-not-error ys st (ap (λ (z : List ℕ). getD z 0 0) (rw error-400 at e)))
+pub replies-not-406 : (x : List ℕ) → Replies x → x ≢ errorText 406
+replies-not-406 x r e = replies-not-error x r (ap (λ (z : List ℕ). getD z 0 0) (rw error-406 at e))
+
+module _ (m : List ℕ) (st : State) (ks : List Kept) (g : Genuine ks) where
+  pub only-400 : (y : Message) → messageBy m y st ks .text ≡ errorText 400 → y ≡ fault400
+  unfolding messageBy
+  only-400 (wellFormed ps) e = absurd (replies-not-400 _ (parts-good m ps st ks g .0) e)
   only-400 fault400 e = refl
   only-400 (fault403 id) e = absurd (omega (arith, reply-first id (errorText 403), ap (λ (z : List ℕ). getD z 0 0) (rw error-400 at e)))
   only-400 fault406 e = absurd (omega (arith, ap (λ (z : List ℕ). getD z 5 0) (rw (error-400, error-406) at e)))
 
-  pub only-406 : (y : Message) → runMessage y st .text ≡ errorText 406 → y ≡ fault406
-  unfolding runMessage
-  only-406 (wellFormed ys) e = absurd (run-not-error ys st (ap (λ (z : List ℕ). getD z 0 0) (rw error-406 at e)))
+  pub only-406 : (y : Message) → messageBy m y st ks .text ≡ errorText 406 → y ≡ fault406
+  unfolding messageBy
+  only-406 (wellFormed ps) e = absurd (replies-not-406 _ (parts-good m ps st ks g .0) e)
   only-406 fault400 e = absurd (omega (arith, ap (λ (z : List ℕ). getD z 5 0) (rw (error-400, error-406) at e)))
   only-406 (fault403 id) e = absurd (omega (arith, reply-first id (errorText 403), ap (λ (z : List ℕ). getD z 0 0) (rw error-406 at e)))
   only-406 fault406 e = refl
 
-  pub only-403 : (y : Message) (id : ℕ) → runMessage y st .text ≡ replyText id (errorText 403) → y ≡ fault403 id
-  unfolding runMessage
-  only-403 (wellFormed ys) id e = absurd (run-not-403 ys st id e)
+  pub only-403 : (y : Message) (id : ℕ) → messageBy m y st ks .text ≡ replyText id (errorText 403) → y ≡ fault403 id
+  unfolding messageBy
+  only-403 (wellFormed ps) id e = absurd (replies-not-403 _ (parts-good m ps st ks g .0) id e)
   only-403 fault400 id e = absurd (omega (arith, reply-first id (errorText 403), ap (λ (z : List ℕ). getD z 0 0) (rw error-400 at e)))
   only-403 (fault403 j) id e = ap fault403 (behind-brace j id (errorText 403) (errorText 403) [] (append-nil (replyText j (errorText 403)) ∙ e) .0)
   only-403 fault406 id e = absurd (omega (arith, reply-first id (errorText 403), ap (λ (z : List ℕ). getD z 0 0) (rw error-406 at e)))

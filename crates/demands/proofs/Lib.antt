@@ -1,7 +1,10 @@
 pub mod Turning
+pub mod Genuine
 pub mod ByReply
 pub mod Admitting
+pub mod Repeating
 pub mod Ordering
 pub mod Witness
 pub mod Afternoon
+pub mod PairsNeeded
 pub mod Theorems

@@ -1,13 +1,15 @@
-// The call: the lines fitted, one message, a lent table, lent blocks, the gateway's own mId and a lent reply buffer; and a packet of an
+// The call: the lines fitted, one message, a lent table, lent blocks, the lent room of kept replies, the gateway's own mId and a lent reply buffer; and a packet of an
 // ephemeral.
 ghost use mathlib.Core.Path.{_≡_};
 ghost use mathlib.Core.Bool.{true};
-ghost use Prim.Native.Nat.{_-_};
-ghost use Rattle.megaco.specs.Table.{words, mostLines};
+ghost use Prim.Native.Nat.{_-_, _≤_};
+ghost use lib.ListN.{length};
+ghost use Rattle.megaco.specs.Table.{words, mostLines, sound};
 ghost use Rattle.megaco.specs.State.{state};
+ghost use Rattle.megaco.specs.Room.{room, roomSound};
 ghost use Rattle.megaco.specs.Names.{within};
-ghost use Rattle.megaco.specs.Call.{stateFits, call, packet};
-ghost use Rattle.gateway.specs.Answers.{Answered, Counted};
+ghost use Rattle.megaco.specs.Call.{stateFits, taken, call, packet};
+ghost use Rattle.gateway.specs.Answers.{Answered, Replied, Counted};
 
 // Document 01's limits: the longest message, the shortest reply buffer.
 pub const LONGEST_MESSAGE: usize = 4096;
@@ -19,25 +21,28 @@ pub enum CallOutcome {
     Taken(usize),
     ReplyTooShort,
     TableUnsound,
+    RoomUnsound,
     MidUnfit,
     MessageUnfit,
     LinesUnfit,
 }
 
-// Reads the message, runs it on the table and the blocks and writes the reply from the start of the buffer. A call that is turned down changes
-// none of them.
+// Reads the message, runs it on the table and the blocks with the kept replies and writes the reply from the start of the buffer. A call that
+// is turned down changes none of these.
 pub fn answer(
     lines: u32,
     message: &[u8],
     table: &mut [u32],
     blocks: &mut [u32],
+    words: &mut [u32],
+    bytes: &mut [u8],
     own: &[u8],
     reply: &mut [u8],
 ) -> CallOutcome
-    ensures { λ r. ⌜ Answered (call lines (now (message .entry)) (state (now (table .entry)) (now (blocks .entry))) (now (own .entry)) (now (reply .entry))) (state (now (table .exit)) (now (blocks .exit))) (now (reply .exit)) r ⌝ }
+    ensures { λ r. ⌜ Answered (call lines (now (message .entry)) (state (now (table .entry)) (now (blocks .entry))) (room (now (words .entry)) (now (bytes .entry))) (now (own .entry)) (now (reply .entry))) (state (now (table .exit)) (now (blocks .exit))) (room (now (words .exit)) (now (bytes .exit))) (now (reply .exit)) r ⌝ }
 {
     if are_fitted(lines) {
-        return answer_fitted(lines, message, table, blocks, own, reply);
+        return answer_fitted(lines, message, table, blocks, words, bytes, own, reply);
     }
     CallOutcome::LinesUnfit
 }
@@ -73,26 +78,51 @@ fn answer_fitted(
     message: &[u8],
     table: &mut [u32],
     blocks: &mut [u32],
+    words: &mut [u32],
+    bytes: &mut [u8],
     own: &[u8],
     reply: &mut [u8],
 ) -> CallOutcome
     requires { ⌜ within lines mostLines ≡ true ⌝ }
-    ensures { λ r. ⌜ Answered (call lines (now (message .entry)) (state (now (table .entry)) (now (blocks .entry))) (now (own .entry)) (now (reply .entry))) (state (now (table .exit)) (now (blocks .exit))) (now (reply .exit)) r ⌝ }
+    ensures { λ r. ⌜ Answered (call lines (now (message .entry)) (state (now (table .entry)) (now (blocks .entry))) (room (now (words .entry)) (now (bytes .entry))) (now (own .entry)) (now (reply .entry))) (state (now (table .exit)) (now (blocks .exit))) (room (now (words .exit)) (now (bytes .exit))) (now (reply .exit)) r ⌝ }
 {
     if reply.len() < REPLY_ROOM {
         return CallOutcome::ReplyTooShort;
     }
     if state_fits(lines, table, blocks) {
-        if tokens::is_mid(own) {
-            if (message.len() == 0) | (LONGEST_MESSAGE < message.len()) {
-                return CallOutcome::MessageUnfit;
+        if room::is_sound(words, bytes) {
+            if tokens::is_mid(own) {
+                if (message.len() == 0) | (LONGEST_MESSAGE < message.len()) {
+                    return CallOutcome::MessageUnfit;
+                }
+                return CallOutcome::Taken(serve(message, table, blocks, words, bytes, own, reply));
             }
-            let p = reply::put_header(reply, 0, own);
-            return CallOutcome::Taken(run_message::run_message(message, table, blocks, reply, p));
+            return CallOutcome::MidUnfit;
         }
-        return CallOutcome::MidUnfit;
+        return CallOutcome::RoomUnsound;
     }
     CallOutcome::TableUnsound
+}
+
+// A message that is taken: the reply's length. The header is written last, since a message of acknowledgements alone has no reply.
+fn serve(
+    message: &[u8],
+    table: &mut [u32],
+    blocks: &mut [u32],
+    words: &mut [u32],
+    bytes: &mut [u8],
+    own: &[u8],
+    reply: &mut [u8],
+) -> usize
+    requires { ⌜ (sound (now table) ≡ true) × (roomSound (room (now words) (now bytes)) ≡ true) × (length (now own) ≤ 64) × (16640 ≤ length (now reply)) ⌝ }
+    ensures { λ r. ⌜ Replied (taken (now (message .entry)) (state (now (table .entry)) (now (blocks .entry))) (room (now (words .entry)) (now (bytes .entry))) (now (own .entry)) (now (reply .entry))) (state (now (table .exit)) (now (blocks .exit))) (room (now (words .exit)) (now (bytes .exit))) (now (reply .exit)) r ⌝ }
+{
+    let m = run_message::run_message(message, table, blocks, words, bytes, reply, own.len() + 5);
+    if m.told {
+        reply::put_header(reply, 0, own);
+        return m.next;
+    }
+    0
 }
 
 // ---- a packet

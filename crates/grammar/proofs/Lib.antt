@@ -14,6 +14,7 @@ pub mod TopologyLaws
 pub mod PropertyLaws
 pub mod ActionLaws
 pub mod HeaderLaws
+pub mod AckLaws
 pub mod TransactionLaws
 pub mod OutcomeLaws
 pub mod FaultLaws

@@ -30,7 +30,7 @@ pub word-here : (s rest : List ℕ) {a : List ℕ} (at : ℕ) → NAME a → Sto
 unfolding wordHere
 word-here s rest {a} at n k h = rw (row-is WordByte word-tests s rest at (name-many n) k h) (part-is s a rest at h)
 
-word-read : (s : List ℕ) (at e : ℕ) → wordAt s at ≡ Next e → wordHere s at ≡ part s at e
+pub word-read : (s : List ℕ) (at e : ℕ) → wordAt s at ≡ Next e → wordHere s at ≡ part s at e
 unfolding wordAt wordHere
 word-read s at e h = ap (part s at) (up-to-64 at (rowAt WordByte s at) e (pick-next (letterAt s at) _ e h .1) .0)
 

@@ -1,7 +1,7 @@
 -- Reading finds exactly what the grammar derives, with its one tree: a message is well-formed, with its tree, exactly when the grammar admits it with version 1; no text
 -- has two trees; and each fault is told exactly where the grammar calls for it.
 use Prim.Native.Nat.{ℕ}
-use mathlib.Core.Path.{_≡_, refl, _∙_}
+use mathlib.Core.Path.{_≡_, refl, sym, _∙_, subst}
 use mathlib.Core.Logic.{_↔_}
 use mathlib.Core.Bool.{false}
 use mathlib.Core.List.{List, _++_, append-assoc}
@@ -13,8 +13,8 @@ use Rattle.base.specs.Pick.{pick}
 use Rattle.base.specs.Bytes.{text}
 use Rattle.megaco.specs.White.{goesOn}
 use Rattle.megaco.specs.Tokens.{numberAt}
-use Rattle.megaco.specs.Tree.{Transaction, Message, wellFormed, fault400, fault403, fault406}
-use Rattle.megaco.specs.Reading.{elsewhere, numbered, startAt, senderAt, transactionsR, messageR}
+use Rattle.megaco.specs.Tree.{Part, Message, wellFormed, fault400, fault403, fault406}
+use Rattle.megaco.specs.Reading.{elsewhere, numbered, startAt, senderAt, transactionsR, messageR, senderOf}
 use Rattle.grammar.specs.Grammar.{atMost, Header, megacoMessage, message}
 use Rattle.grammar.specs.Faults.{Fault406, otherVersion, Fault403, badTransaction}
 use Rattle.grammar.proofs.Classes.{white-has}
@@ -28,15 +28,15 @@ use Rattle.grammar.proofs.FaultLaws.{whole-solid, whole-bad}
 -- ---- what a message reads as, in the words of the grammar
 
 data Meaning (s : List ℕ) : Message → Type 0 where
-  admitted : {xs : List Transaction} → megacoMessage s 1 xs → Meaning s (wellFormed xs)
+  admitted : {xs : List Part} → megacoMessage s 1 (senderOf s) xs → Meaning s (wellFormed xs)
   versioned : Fault406 s → Meaning s fault406
   inTransaction : {id : ℕ} → Fault403 s id → Meaning s (fault403 id)
   elsewhereFault : Meaning s fault400
 
-behind-header : {s t : List ℕ} {m : Message} (y : Stands (λ a. Header a 1) Solid s t) → TransactionsRead 8 t m → Meaning s m
-behind-header y (reads xs l) = rw (y .split) (admitted (message (y .derives) (atMost xs l)))
-behind-header y (faults {w} {c} o l b e) =
-    rw (y .split, e, ← (append-assoc (y .bytes) w c)) (inTransaction (badTransaction (y .derives) o (omega arith) b))
+behind-header : {s t : List ℕ} {m : Message} (y : Stands (λ a. Header a 1 (senderOf s)) Solid s t) → TransactionsRead 8 t m → Meaning s m
+behind-header {s} y (reads {xs} ys l) = admitted (subst (λ (z : List ℕ). megacoMessage z 1 (senderOf s) xs) (sym (y .split)) (message (y .derives) (atMost ys l)))
+behind-header y (faults {id} {w} {c} o l b e) =
+    inTransaction (subst (λ (z : List ℕ). Fault403 z id) (sym (y .split ∙ rw e (sym (append-assoc (y .bytes) w c)))) (badTransaction (y .derives) o (omega arith) b))
 behind-header y other = elsewhereFault
 
 meaning : (s : List ℕ) → Meaning s (messageR s)
@@ -48,44 +48,48 @@ meaning s =
     given (header-sound s v p q r m n o) (λ y.
     by-pick (Meaning s) (eqb v 1) _ _
     (λ z. behind-header (rw (eqb-true v 1 z) at y) (transactions-read s 8 r))
-    (λ z. rw (y .split) (versioned (otherVersion (y .derives) (eqb-false v 1 z) (stops-without (goesOn false) (text " \t\r\n;") white-has solid-end
+    (λ z. versioned (subst Fault406 (sym (y .split)) (otherVersion (y .derives) (eqb-false v 1 z) (stops-without (goesOn false) (text " \t\r\n;") white-has solid-end
     (drop r s) (y .stops)))))))))
 
--- ---- sound: what is read as well-formed, the grammar admits with the same tree
+-- ---- sound: what is read as well-formed, the grammar admits with the same sender and the same tree
 
-pub read-derives : (s : List ℕ) (xs : List Transaction) → messageR s ≡ wellFormed xs → megacoMessage s 1 xs
+pub read-derives : (s : List ℕ) (xs : List Part) → messageR s ≡ wellFormed xs → megacoMessage s 1 (senderOf s) xs
 read-derives s xs e = go (rw e at (meaning s))
   where
-    go : Meaning s (wellFormed xs) → megacoMessage s 1 xs
+    go : Meaning s (wellFormed xs) → megacoMessage s 1 (senderOf s) xs
     go (admitted m) = m
 
 -- ---- complete: what the grammar admits with version 1 is read as well-formed, with the same tree
 
-message-reads : {s : List ℕ} {v : ℕ} {xs : List Transaction} → megacoMessage s v xs
-    → (b : List ℕ) × (x : Headed s v b) × (transactionsR 8 s (x .end) ≡ wellFormed xs)
+message-reads : {s m : List ℕ} {v : ℕ} {xs : List Part} → megacoMessage s v m xs
+    → (b : List ℕ) × (x : Headed s v m b) × (transactionsR 8 s (x .end) ≡ wellFormed xs)
 message-reads (message {a} {b} h (atMost ys l)) =
     given (header-complete (a ++ b) b h (list-solid ys) refl) (λ x. (b, x, list-wellFormed (a ++ b) 8 (x .end) ys l (x .leaves)))
 
-headed : {s b : List ℕ} {v : ℕ} (x : Headed s v b) → messageR s ≡ pick (eqb v 1) (transactionsR 8 s (x .end)) fault406
+headed : {s m b : List ℕ} {v : ℕ} (x : Headed s v m b) → messageR s ≡ pick (eqb v 1) (transactionsR 8 s (x .end)) fault406
 unfolding messageR elsewhere numbered
 headed x = rw (x .start, x .version, x .sender)
 
-pub complete : (s : List ℕ) (xs : List Transaction) → megacoMessage s 1 xs → messageR s ≡ wellFormed xs
+pub complete : (s m : List ℕ) (xs : List Part) → megacoMessage s 1 m xs → messageR s ≡ wellFormed xs
 unfolding pick
-complete s xs m = given (message-reads m) (λ x. headed (x .1) ∙ x .2)
+complete s w xs m = given (message-reads m) (λ x. headed (x .1) ∙ x .2)
 
--- a message is well-formed exactly when the grammar admits it and its version is 1
-pub well-formed : (s : List ℕ) (xs : List Transaction) → messageR s ≡ wellFormed xs ↔ megacoMessage s 1 xs
-well-formed s xs = (read-derives s xs, complete s xs)
+-- the sender that is read is the mId that the grammar finds, whatever the version
+pub sender-is : (s m : List ℕ) (v : ℕ) (xs : List Part) → megacoMessage s v m xs → senderOf s ≡ m
+sender-is s w v xs m = given (message-reads m) (λ x. x .1 .from)
 
--- ---- one meaning: no text has two trees, nor two versions
+-- a message is well-formed exactly when the grammar admits it, with the sender that is read, and its version is 1
+pub well-formed : (s : List ℕ) (xs : List Part) → messageR s ≡ wellFormed xs ↔ megacoMessage s 1 (senderOf s) xs
+well-formed s xs = (read-derives s xs, complete s (senderOf s) xs)
 
-headed-once : {s a b : List ℕ} {v u : ℕ} (x : Headed s v a) (y : Headed s u b) → (v ≡ u) × (x .end ≡ y .end)
+-- ---- one meaning: no text has two trees, nor two versions, nor two senders
+
+headed-once : {s m n a b : List ℕ} {v u : ℕ} (x : Headed s v m a) (y : Headed s u n b) → (v ≡ u) × (x .end ≡ y .end)
 headed-once x y = ((cc), (cc))
 
-pub one-meaning : (s : List ℕ) (v u : ℕ) (xs ys : List Transaction) → megacoMessage s v xs → megacoMessage s u ys → (v ≡ u) × (xs ≡ ys)
-one-meaning s v u xs ys m n = given (message-reads m) (λ x. given (message-reads n) (λ y. given (headed-once (x .1) (y .1)) (λ z.
-    (z .0, (cc)))))
+pub one-meaning : (s : List ℕ) (v u : ℕ) (m n : List ℕ) (xs ys : List Part) → megacoMessage s v m xs → megacoMessage s u n ys → (v ≡ u) × (m ≡ n) × (xs ≡ ys)
+one-meaning s v u w t xs ys m n = given (message-reads m) (λ x. given (message-reads n) (λ y. given (headed-once (x .1) (y .1)) (λ z.
+    (z .0, sym (x .1 .from) ∙ y .1 .from, (cc)))))
 
 -- ---- the faults
 
@@ -114,19 +118,19 @@ fault-403 s id = (λ e. to (rw e at (meaning s)), from)
 
 -- "Fault elsewhere"
 pub fault-400 : (s : List ℕ)
-    → messageR s ≡ fault400 ↔ ((xs : List Transaction) → ¬ megacoMessage s 1 xs) × ((id : ℕ) → ¬ Fault403 s id) × (¬ Fault406 s)
+    → messageR s ≡ fault400 ↔ ((m : List ℕ) (xs : List Part) → ¬ megacoMessage s 1 m xs) × ((id : ℕ) → ¬ Fault403 s id) × (¬ Fault406 s)
 fault-400 s = (to, λ h. from (messageR s) (meaning s) h)
   where
-    to : messageR s ≡ fault400 → ((xs : List Transaction) → ¬ megacoMessage s 1 xs) × ((id : ℕ) → ¬ Fault403 s id) × (¬ Fault406 s)
+    to : messageR s ≡ fault400 → ((m : List ℕ) (xs : List Part) → ¬ megacoMessage s 1 m xs) × ((id : ℕ) → ¬ Fault403 s id) × (¬ Fault406 s)
     to e = (
-      (λ xs m. let q = complete s xs m in let z : _≡_ {A = ℕ} 0 1 = cc in omega arith),
+      (λ w xs m. let q = complete s w xs m in let z : _≡_ {A = ℕ} 0 1 = cc in omega arith),
       (λ id f. let q = fault-403 s id .1 f in let z : _≡_ {A = ℕ} 0 1 = cc in omega arith),
       (λ f. let q = fault-406 s .1 f in let z : _≡_ {A = ℕ} 0 1 = cc in omega arith),
     )
 
-    from : (m : Message) → Meaning s m → ((xs : List Transaction) → ¬ megacoMessage s 1 xs) × ((id : ℕ) → ¬ Fault403 s id) × (¬ Fault406 s)
+    from : (m : Message) → Meaning s m → ((m : List ℕ) (xs : List Part) → ¬ megacoMessage s 1 m xs) × ((id : ℕ) → ¬ Fault403 s id) × (¬ Fault406 s)
         → m ≡ fault400
-    from m (admitted {xs} f) h = absurd (h .0 xs f)
+    from m (admitted {xs} f) h = absurd (h .0 (senderOf s) xs f)
     from m (versioned f) h = absurd (h .2 f)
     from m (inTransaction {id} f) h = absurd (h .1 id f)
     from m elsewhereFault h = refl

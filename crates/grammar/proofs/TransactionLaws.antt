@@ -1,4 +1,4 @@
--- Transactions are read exactly as the grammar derives them.
+-- Transactions and acknowledgements are read exactly as the grammar derives them.
 use Prim.Native.Nat.{ℕ, zero, suc, _-_, _<_, _≤_}
 use mathlib.Core.Path.{_≡_, refl, sym, ap, _∙_}
 use mathlib.Core.Bool.{true, false}
@@ -8,25 +8,28 @@ use lib.Dec.{eqb, ltb}
 use borrow.Author.Tests.{ne-eqb, lt-ltb, le-ltb}
 use native.Mathlib.Omega.{arith}
 use Rattle.base.specs.Pick.{pick}
-use Rattle.base.specs.Lists.{has}
+use Rattle.base.specs.Lists.{has, same}
 use Rattle.base.specs.Bytes.{text}
 use Rattle.megaco.specs.Bytes.{leftBrace, rightBrace, isWhite}
 use Rattle.megaco.specs.White.{goesOn, whiteAt}
 use Rattle.megaco.specs.Tokens.{markAt}
-use Rattle.megaco.specs.Tree.{Action, Transaction, transaction, Message, wellFormed}
-use Rattle.megaco.specs.Reading.{got, listR, actionR, actionsR, elsewhere, numbered, inside, followed, endOr, bracesThen, transactionsR}
-use Rattle.protocol.specs.Types.{TransToken, Next}
+use Rattle.megaco.specs.Tree.{Action, Transaction, transaction, Part, request, acknowledge, Message, wellFormed}
+use Rattle.megaco.specs.Reading.{got, listR, actionR, wordHere, actionsR, elsewhere, numbered, inside, acknowledged, followed, endOr, bracesThen, requestThen, acksThen, transactionsR}
+use Rattle.megaco.specs.Keywords.{formsOf, spelt, spells}
+use Rattle.protocol.specs.Types.{TransToken, ResponseAckToken, Next, Ack}
 use Rattle.grammar.specs.Characters.{Keyword}
-use Rattle.grammar.specs.Grammar.{LWSP, around, EQUAL, Commas, AtMost, NAME, name, actionRequest, TransactionID, identifier, transactionRequest, withActions, transactionList, lastRequest, nextRequest}
+use Rattle.grammar.specs.Grammar.{LWSP, around, EQUAL, Commas, AtMost, NAME, name, actionRequest, TransactionID, identifier, transactionRequest, withActions, transactionResponseAck, withAcks, transactionPart, aRequest, anAck, transactionList, lastPart, nextPart}
 use Rattle.grammar.specs.Faults.{Closed, closed}
-use Rattle.grammar.proofs.Places.{regroup3, regroup6, regroup-request, Any, Stands, Gets, gets-here, gets-skip, gets-bind, finds-after, given, got-same, skip-got, bind-got}
+use Rattle.grammar.proofs.Places.{regroup3, regroup4, regroup6, regroup-request, Any, Stands, Gets, gets-here, gets-skip, gets-bind, finds-after, given, got-same, skip-got, bind-got}
 use Rattle.grammar.proofs.WhiteLaws.{Solid, solid-end, white-complete, white-sound}
 use Rattle.grammar.proofs.RowLaws.{mark-complete, mark-sound, number-complete}
-use Rattle.grammar.proofs.FollowLaws.{white-ends, ends-digit}
-use Rattle.grammar.proofs.WordLaws.{trans-name}
+use Rattle.grammar.proofs.FollowLaws.{white-ends, around-ends, ends-word, ends-digit}
+use Rattle.grammar.proofs.WordLaws.{trans-name, ack-name, keyword-spells}
 use Rattle.grammar.proofs.ListLaws.{key-complete, Complete, list-complete, list-sound}
 use Rattle.grammar.proofs.ItemLaws.{name-solid}
-use Rattle.grammar.proofs.PropertyLaws.{uint-solid}
+use Rattle.grammar.proofs.PropertyLaws.{uint-solid, word-here}
+use Rattle.grammar.proofs.TopologyLaws.{keyword-only}
+use Rattle.grammar.proofs.AckLaws.{acks-reads}
 use Rattle.grammar.proofs.ActionLaws.{action-complete, action-sound}
 
 -- ---- from behind the opening brace through the closing one
@@ -64,34 +67,44 @@ module _ (s : List ℕ) where
 
 -- what is read from behind the opening brace of transaction id
 abbrev pub opened : List ℕ → ℕ → ℕ → ℕ → Message
-opened s k id p = inside id (actionsR s p) (λ acts q. elsewhere (whiteAt s q) (λ e. endOr (transactionsR k s) (transaction id acts) s e))
+opened s k id p = inside id (actionsR s p) (λ acts q. elsewhere (whiteAt s q) (λ e. endOr (transactionsR k s) (request (transaction id acts)) s e))
 
 pub record Opens (s : List ℕ) (at id : ℕ) (t : List ℕ) : Type 0 where
   pub end : ℕ
   pub is : (k : ℕ) → transactionsR (suc k) s at ≡ opened s k id end
   pub leaves : drop end s ≡ t
 
+-- its word is no acknowledgement's
+trans-only : (a : List ℕ) → Keyword TransToken a → spells ResponseAckToken a ≡ false
+unfolding formsOf spelt same pick
+trans-only a x = keyword-only TransToken ResponseAckToken a x refl
+
+pub no-ack : (s rest : List ℕ) {a b : List ℕ} (at : ℕ) → Keyword TransToken a → EQUAL b → drop at s ≡ a ++ (b ++ rest) → spells ResponseAckToken (wordHere s at) ≡ false
+unfolding has pick
+no-ack s rest {a} at k e h = rw (word-here s _ at (trans-name k) (ends-word (around-ends rest refl e)) h) (trans-only a k)
+
 pub opening-complete : (s t : List ℕ) {a b c d : List ℕ} {id : ℕ} (at : ℕ) → Keyword TransToken a → EQUAL b → TransactionID c id → LWSP d
     → drop at s ≡ a ++ (b ++ (c ++ (d ++ leftBrace ∷ t)))
     → Opens s at id t
-unfolding transactionsR bracesThen elsewhere numbered has pick goesOn isWhite
-opening-complete s t {d} {id} at k e (identifier n l) w h =
+unfolding transactionsR requestThen bracesThen elsewhere numbered has pick goesOn isWhite
+opening-complete s t {a} {b} {c} {d} {id} at k e (identifier n l) w h =
+    given (no-ack s _ at k e h) (λ v.
     given (key-complete TransToken s _ at k (trans-name k) e (uint-solid _ n) h) (λ x.
     given (number-complete s _ (x .end) 10 4294967295 n (ends-digit (white-ends w (record { first = refl }))) (x .leaves)) (λ y.
     given (finds-after s (whiteAt s (y .end)) (markAt leftBrace s) (white-complete s (leftBrace ∷ t) (y .end) w refl (y .leaves))
     (λ p m. mark-complete s p leftBrace t m)) (λ z.
     let i : eqb id 0 ≡ false = ne-eqb id 0 (λ f. omega arith) in
-    record { end = z .end; is = λ j. rw (x .is, y .is, i, z .is); leaves = z .leaves })))
+    record { end = z .end; is = λ j. rw (v, x .is, y .is, i, z .is); leaves = z .leaves }))))
 
 -- ---- a whole transaction
 
-pub record Comes (s : List ℕ) (at : ℕ) (x : Transaction) (t : List ℕ) : Type 0 where
+pub record Comes (s : List ℕ) (at : ℕ) (x : Part) (t : List ℕ) : Type 0 where
   pub end : ℕ
   pub is : (k : ℕ) → transactionsR (suc k) s at ≡ endOr (transactionsR k s) x s end
   pub leaves : drop end s ≡ t
 
-pub transaction-complete : (s t : List ℕ) {a : List ℕ} {x : Transaction} (at : ℕ) → transactionRequest a x → Solid t → drop at s ≡ a ++ t
-    → Comes s at x t
+transaction-complete : (s t : List ℕ) {a : List ℕ} {x : Transaction} (at : ℕ) → transactionRequest a x → Solid t → drop at s ≡ a ++ t
+    → Comes s at (request x) t
 unfolding inside elsewhere
 transaction-complete s t at (withActions {a} {b} {c} {e} {id} {xs} k q n (around {a = u₁} {b = v₁} i₁ j₁) y (around {a = u₂} {b = v₂} i₂ j₂)) z h =
     let g : drop at s ≡ a ++ (b ++ (c ++ (u₁ ++ (leftBrace ∷ v₁ ++ (e ++ (u₂ ++ (rightBrace ∷ v₂ ++ t))))))) =
@@ -101,24 +114,41 @@ transaction-complete s t at (withActions {a} {b} {c} {e} {id} {xs} k q n (around
     given (white-complete s t (r .end) j₂ z (r .leaves)) (λ w.
     record { end = w .end; is = λ j. o .is j ∙ rw (r .is, w .is); leaves = w .leaves })))
 
--- ---- the list of transactions, to the end of the message
+-- ---- an acknowledgement
 
-pub trans-solid : {a : List ℕ} {x : Transaction} (t : List ℕ) → transactionRequest a x → Solid (a ++ t)
-trans-solid t (withActions {a} {b} {c} {d} {e} {f} k q n i y j) = rw (regroup6 a b c d e f t) (name-solid _ (trans-name k))
+ack-word : (s t : List ℕ) {a : List ℕ} {ks : List Ack} (at : ℕ) → transactionResponseAck a ks → drop at s ≡ a ++ t → spells ResponseAckToken (wordHere s at) ≡ true
+unfolding has pick
+ack-word s t at (withAcks {a} {b} {c} {d} k l y r) h =
+    rw (word-here s _ at (ack-name k) (ends-word (around-ends (c ++ (d ++ t)) refl l)) (h ∙ regroup4 a b c d t)) (keyword-spells ResponseAckToken a k)
 
-pub trans-long : {a : List ℕ} {x : Transaction} (t : List ℕ) → transactionRequest a x → 0 < length (a ++ t)
-trans-long t (withActions {a} {b} {c} {d} {e} {f} k q n i y j) = rw (regroup6 a b c d e f t) (long _ (trans-name k))
-  where
-    long : {a : List ℕ} (t : List ℕ) → NAME a → 0 < length (a ++ t)
-    long t (name h m l) = omega arith
+ack-complete : (s t : List ℕ) {a : List ℕ} {ks : List Ack} (at : ℕ) → transactionResponseAck a ks → Solid t → drop at s ≡ a ++ t → Comes s at (acknowledge ks) t
+unfolding transactionsR acksThen acknowledged pick
+ack-complete s t at y z h = given (acks-reads s t at y z h) (λ r. record { end = r .end; is = λ j. rw (ack-word s t at y h, r .is); leaves = r .leaves })
 
-pub list-solid : {a : List ℕ} {xs : List Transaction} → transactionList a xs → Solid a
-list-solid (lastRequest {a} x) = rw append-nil at (trans-solid [] x)
-list-solid (nextRequest {b} x xs) = trans-solid b x
+pub part-complete : (s t : List ℕ) {a : List ℕ} {x : Part} (at : ℕ) → transactionPart a x → Solid t → drop at s ≡ a ++ t → Comes s at x t
+part-complete s t at (aRequest y) z h = transaction-complete s t at y z h
+part-complete s t at (anAck y) z h = ack-complete s t at y z h
 
-list-long : {a : List ℕ} {xs : List Transaction} → transactionList a xs → 0 < length a
-list-long (lastRequest {a} x) = rw append-nil at (trans-long [] x)
-list-long (nextRequest {b} x xs) = trans-long b x
+-- ---- the list of them, to the end of the message
+
+name-long : {a : List ℕ} (t : List ℕ) → NAME a → 0 < length (a ++ t)
+name-long t (name h m l) = omega arith
+
+pub part-solid : {a : List ℕ} {x : Part} (t : List ℕ) → transactionPart a x → Solid (a ++ t)
+part-solid t (aRequest (withActions {a} {b} {c} {d} {e} {f} k q n i y j)) = rw (regroup6 a b c d e f t) (name-solid _ (trans-name k))
+part-solid t (anAck (withAcks {a} {b} {c} {d} k l y r)) = rw (regroup4 a b c d t) (name-solid _ (ack-name k))
+
+pub part-long : {a : List ℕ} {x : Part} (t : List ℕ) → transactionPart a x → 0 < length (a ++ t)
+part-long t (aRequest (withActions {a} {b} {c} {d} {e} {f} k q n i y j)) = rw (regroup6 a b c d e f t) (name-long _ (trans-name k))
+part-long t (anAck (withAcks {a} {b} {c} {d} k l y r)) = rw (regroup4 a b c d t) (name-long _ (ack-name k))
+
+pub list-solid : {a : List ℕ} {xs : List Part} → transactionList a xs → Solid a
+list-solid (lastPart {a} x) = rw append-nil at (part-solid [] x)
+list-solid (nextPart {b} x xs) = part-solid b x
+
+list-long : {a : List ℕ} {xs : List Part} → transactionList a xs → 0 < length a
+list-long (lastPart {a} x) = rw append-nil at (part-long [] x)
+list-long (nextPart {b} x xs) = part-long b x
 
 -- the end of the message, or more of it
 at-end : (s : List ℕ) (e : ℕ) → drop e s ≡ [] → ltb e (length s) ≡ false
@@ -127,12 +157,12 @@ at-end s e h = let n : length s - e ≡ 0 = sym (length-drop e s) ∙ ap length 
 pub more-of : (s t : List ℕ) (e : ℕ) → drop e s ≡ t → 0 < length t → ltb e (length s) ≡ true
 more-of s t e h l = let n : length s - e ≡ length t = sym (length-drop e s) ∙ ap length h in lt-ltb e (length s) (omega arith)
 
-pub list-wellFormed : (s : List ℕ) (k : ℕ) {a : List ℕ} {xs : List Transaction} (at : ℕ) → transactionList a xs → length xs ≤ k → drop at s ≡ a
+pub list-wellFormed : (s : List ℕ) (k : ℕ) {a : List ℕ} {xs : List Part} (at : ℕ) → transactionList a xs → length xs ≤ k → drop at s ≡ a
     → transactionsR k s at ≡ wellFormed xs
 unfolding endOr followed pick
-list-wellFormed s zero at (lastRequest x) l h = absurd (omega arith)
-list-wellFormed s zero at (nextRequest x xs) l h = absurd (omega arith)
-list-wellFormed s (suc k) at (lastRequest {a} y) l h =
-    given (transaction-complete s [] at y solid-end (h ∙ sym (append-nil a))) (λ r. r .is k ∙ rw (at-end s (r .end) (r .leaves)))
-list-wellFormed s (suc k) at (nextRequest {b} y ys) l h = given (transaction-complete s b at y (list-solid ys) h) (λ r.
+list-wellFormed s zero at (lastPart x) l h = absurd (omega arith)
+list-wellFormed s zero at (nextPart x xs) l h = absurd (omega arith)
+list-wellFormed s (suc k) at (lastPart {a} y) l h =
+    given (part-complete s [] at y solid-end (h ∙ sym (append-nil a))) (λ r. r .is k ∙ rw (at-end s (r .end) (r .leaves)))
+list-wellFormed s (suc k) at (nextPart {b} y ys) l h = given (part-complete s b at y (list-solid ys) h) (λ r.
     r .is k ∙ rw (more-of s b (r .end) (r .leaves) (list-long ys), list-wellFormed s k (r .end) ys (omega arith) (r .leaves)))

@@ -15,7 +15,7 @@ use Rattle.megaco.specs.Bytes.{isLetter, inClass, capital, capitals}
 use Rattle.megaco.specs.White.{after}
 use Rattle.megaco.specs.Keywords.{Forms, forms, formsOf, spelt, spells}
 use Rattle.megaco.specs.Tokens.{letterAt, rowAt, wordAt, keywordAt}
-use Rattle.protocol.specs.Types.{Token, AuditToken, TransToken, CtxToken, PriorityToken, EmergencyToken, TopologyToken, IsolateToken, OnewayToken, BothwayToken, LocalToken, RemoteToken, Class, WordByte, Next}
+use Rattle.protocol.specs.Types.{Token, AuditToken, TransToken, CtxToken, PriorityToken, EmergencyToken, TopologyToken, IsolateToken, OnewayToken, BothwayToken, LocalToken, RemoteToken, Class, WordByte, Next, ResponseAckToken}
 use Rattle.base.proofs.TestLaws.{same-is, pick-both}
 use Rattle.grammar.specs.Characters.{Spelling, long, short, Keyword, ALPHA, lower, AlphaDigitOr, orAlpha, Many, noMore, andThen}
 use Rattle.grammar.specs.Grammar.{NAME, name}
@@ -178,6 +178,10 @@ spelling-name {a} (short {l} {s} e) t = letters-name a s (and-parts (lettersOnly
 pub trans-name : {a : List ℕ} → Keyword TransToken a → NAME a
 unfolding formsOf every pick isLetter
 trans-name x = spelling-name x refl
+
+pub ack-name : {a : List ℕ} → Keyword ResponseAckToken a → NAME a
+unfolding formsOf every pick isLetter
+ack-name x = spelling-name x refl
 
 pub context-name : {a : List ℕ} → Keyword CtxToken a → NAME a
 unfolding formsOf every pick isLetter

@@ -13,8 +13,8 @@ use lib.Dec.{eqb}
 use Rattle.base.specs.Bytes.{text}
 use Rattle.megaco.specs.Bytes.{equal, comma, leftBrace, rightBrace, slash, colon, dot, quote, semicolon, dash, dollar, star, capital, capitals}
 use Rattle.grammar.specs.Characters.{Keyword, ALPHA, DIGIT, AlphaDigitOr, SafeChar, WSP, QuotedChar, CommentChar, Many, Without}
-use Rattle.megaco.specs.Tree.{Value, plain, quoted, octets, ItemOf, item, Item, Items, Command, command, Action, action, Transaction, transaction, Triple, triple, Property, priority, emergency, topology}
-use Rattle.protocol.specs.Types.{Token, AuditToken, MediaToken, LocalToken, RemoteToken, MegacopToken, TransToken, CtxToken, PriorityToken, EmergencyToken, TopologyToken, IsolateToken, OnewayToken, BothwayToken, Context, Null, Numbered, Choose, All, Direction, Isolate, Oneway, Bothway}
+use Rattle.megaco.specs.Tree.{Value, plain, quoted, octets, ItemOf, item, Item, Items, Command, command, Action, action, Transaction, transaction, Triple, triple, Property, priority, emergency, topology, Part, request, acknowledge}
+use Rattle.protocol.specs.Types.{Token, AuditToken, MediaToken, LocalToken, RemoteToken, MegacopToken, TransToken, CtxToken, PriorityToken, EmergencyToken, TopologyToken, IsolateToken, OnewayToken, BothwayToken, Context, Null, Numbered, Choose, All, Direction, Isolate, Oneway, Bothway, ResponseAckToken, Ack}
 
 -- ---- white space
 
@@ -283,21 +283,35 @@ pub data transactionRequest : List ℕ → Transaction → Type 0 where
   withActions : {a b c d e f : List ℕ} {id : ℕ} {xs : List Action} → Keyword TransToken a → EQUAL b → TransactionID c id
       → LBRKT d → AtMost 16 (Commas actionRequest) e xs → RBRKT f → transactionRequest (a ++ b ++ c ++ d ++ e ++ f) (transaction id xs)
 
--- transactionList = 1*( transactionRequest )
-pub data transactionList : List ℕ → List Transaction → Type 0 where
-  lastRequest : {a : List ℕ} {x : Transaction} → transactionRequest a x → transactionList a (x ∷ [])
-  nextRequest : {a b : List ℕ} {x : Transaction} {xs : List Transaction} → transactionRequest a x → transactionList b xs
-      → transactionList (a ++ b) (x ∷ xs)
+-- transactionAck = transactionID / (transactionID "-" transactionID): "a backward range" is a fault
+pub data transactionAck : List ℕ → Ack → Type 0 where
+  oneID : {a : List ℕ} {n : ℕ} → TransactionID a n → transactionAck a (record { first = n; last = n })
+  fromTo : {a b : List ℕ} {n m : ℕ} → TransactionID a n → TransactionID b m → n ≤ m → transactionAck (a ++ dash ∷ b) (record { first = n; last = m })
 
--- messageBody = transactionList: "1 to 8 transactions with no comma between"
-abbrev pub messageBody : List ℕ → List Transaction → Type 0
+-- transactionResponseAck = ResponseAckToken LBRKT transactionAck *(COMMA transactionAck) RBRKT
+pub data transactionResponseAck : List ℕ → List Ack → Type 0 where
+  withAcks : {a b c d : List ℕ} {ks : List Ack} → Keyword ResponseAckToken a → LBRKT b → Commas transactionAck c ks → RBRKT d
+      → transactionResponseAck (a ++ b ++ c ++ d) ks
+
+-- ( transactionRequest / transactionResponseAck )
+pub data transactionPart : List ℕ → Part → Type 0 where
+  aRequest : {a : List ℕ} {x : Transaction} → transactionRequest a x → transactionPart a (request x)
+  anAck : {a : List ℕ} {ks : List Ack} → transactionResponseAck a ks → transactionPart a (acknowledge ks)
+
+-- transactionList = 1*( transactionRequest / transactionResponseAck )
+pub data transactionList : List ℕ → List Part → Type 0 where
+  lastPart : {a : List ℕ} {x : Part} → transactionPart a x → transactionList a (x ∷ [])
+  nextPart : {a b : List ℕ} {x : Part} {xs : List Part} → transactionPart a x → transactionList b xs → transactionList (a ++ b) (x ∷ xs)
+
+-- messageBody = transactionList: "1 to 8 transactions with no comma between"; K stands "as one of the eight"
+abbrev pub messageBody : List ℕ → List Part → Type 0
 messageBody = AtMost 8 transactionList
 
--- LWSP MegacopToken SLASH Version SEP mId SEP: "A header (through all the white space after the mId)"
-pub data Header : List ℕ → ℕ → Type 0 where
+-- LWSP MegacopToken SLASH Version SEP mId SEP: "A header (through all the white space after the mId)", with its version and its mId
+pub data Header : List ℕ → ℕ → List ℕ → Type 0 where
   header : {a b c d e f : List ℕ} {v : ℕ} → LWSP a → Keyword MegacopToken b → Version c v → SEP d → mId e → SEP f
-      → Header (a ++ b ++ slash ∷ c ++ d ++ e ++ f) v
+      → Header (a ++ b ++ slash ∷ c ++ d ++ e ++ f) v e
 
--- megacoMessage = LWSP message, message = MegacopToken SLASH Version SEP mId SEP messageBody
-pub data megacoMessage : List ℕ → ℕ → List Transaction → Type 0 where
-  message : {a b : List ℕ} {v : ℕ} {xs : List Transaction} → Header a v → messageBody b xs → megacoMessage (a ++ b) v xs
+-- megacoMessage = LWSP message, message = MegacopToken SLASH Version SEP mId SEP messageBody; with its version, "the sender's mId bytes" and its parts
+pub data megacoMessage : List ℕ → ℕ → List ℕ → List Part → Type 0 where
+  message : {a b m : List ℕ} {v : ℕ} {xs : List Part} → Header a v m → messageBody b xs → megacoMessage (a ++ b) v m xs

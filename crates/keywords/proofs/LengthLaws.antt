@@ -23,9 +23,14 @@ pub letters-1-from-5-is : (w : List ℕ) → meaningLater 1 5 w
     (pick (same (capitals w) (shortOf (formsOf (tokenAt 22)))) (some (tokenAt 22))
     (pick (same (capitals w) (shortOf (formsOf (tokenAt 23)))) (some (tokenAt 23))
     (pick (same (capitals w) (shortOf (formsOf (tokenAt 28)))) (some (tokenAt 28))
-    (pick (same (capitals w) (shortOf (formsOf (tokenAt 32)))) (some (tokenAt 32)) none))))
+    (pick (same (capitals w) (shortOf (formsOf (tokenAt 32)))) (some (tokenAt 32)) (meaningLater 1 10 w)))))
 unfolding pick meaningLater sized later spellingsOf formsOf firstOf longOf shortOf tokenAt
 letters-1-from-5-is w = refl
+
+pub letters-1-from-10-is : (w : List ℕ) → meaningLater 1 10 w
+    ≡ pick (same (capitals w) (shortOf (formsOf (tokenAt 33)))) (some (tokenAt 33)) none
+unfolding pick meaningLater sized later spellingsOf formsOf firstOf longOf shortOf tokenAt
+letters-1-from-10-is w = refl
 
 pub letters-2-is : (w : List ℕ) → meaningLater 2 0 w
     ≡ pick (same (capitals w) (shortOf (formsOf (tokenAt 1)))) (some (tokenAt 1))
@@ -154,3 +159,8 @@ pub letters-16-is : (w : List ℕ) → meaningLater 16 0 w
     ≡ pick (same (capitals w) (longOf (formsOf (tokenAt 29)))) (some (tokenAt 29)) none
 unfolding pick meaningLater sized later spellingsOf formsOf firstOf longOf shortOf tokenAt
 letters-16-is w = refl
+
+pub letters-22-is : (w : List ℕ) → meaningLater 22 0 w
+    ≡ pick (same (capitals w) (longOf (formsOf (tokenAt 33)))) (some (tokenAt 33)) none
+unfolding pick meaningLater sized later spellingsOf formsOf firstOf longOf shortOf tokenAt
+letters-22-is w = refl

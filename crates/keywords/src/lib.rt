@@ -23,7 +23,7 @@ pub enum Meaning {
 }
 
 // Annex B.2's tokens in its order. Error, Reply and Statistics are written only: no reader asks for them.
-pub const KEYWORDS: [Row; 33] = [
+pub const KEYWORDS: [Row; 34] = [
     Row(Token::AddToken, *b"ADD                     ", *b"A "),
     Row(Token::AuditToken, *b"AUDIT                   ", *b"AT"),
     Row(Token::AuditValueToken, *b"AUDITVALUE              ", *b"AV"),
@@ -57,6 +57,7 @@ pub const KEYWORDS: [Row; 33] = [
     Row(Token::TestToken, *b"TEST                    ", *b"TE"),
     Row(Token::TopologyToken, *b"TOPOLOGY                ", *b"TP"),
     Row(Token::TransToken, *b"TRANSACTION             ", *b"T "),
+    Row(Token::ResponseAckToken, *b"TRANSACTIONRESPONSEACK  ", *b"K "),
 ];
 
 // ---- bytes as one number, lowest first

@@ -14,7 +14,7 @@ use megaco::Token;
 // ---- rows
 
 // The table, laid down by itself: where its rows are also told apart the check is far dearer.
-fn table() -> [Row; 33]
+fn table() -> [Row; 34]
     ensures { λ r. ⌜ r ≡ rowsOf page ⌝ }
 {
     KEYWORDS
@@ -59,7 +59,8 @@ fn row_at(i: usize) -> Row
         29 => t[29],
         30 => t[30],
         31 => t[31],
-        _ => t[32],
+        32 => t[32],
+        _ => t[33],
     }
 }
 
@@ -126,6 +127,7 @@ pub fn spells(k: Token, w: &[u8]) -> bool
         Token::TestToken => is_either(w, 30, 4, 2),
         Token::TopologyToken => is_either(w, 31, 8, 2),
         Token::TransToken => is_either(w, 32, 11, 1),
+        Token::ResponseAckToken => is_either(w, 33, 22, 1),
     }
 }
 
@@ -139,6 +141,15 @@ fn of(i: usize) -> Meaning
 }
 
 // ---- words by their length
+
+fn letters_22(w: &[u8]) -> Meaning
+    ensures { λ r. ⌜ tokenOf r ≡ meaningLater 22 0 (now (w .entry)) ⌝ }
+{
+    if is_long(w, 33, 22) {
+        return of(33);
+    }
+    Meaning::Nothing
+}
 
 fn letters_16(w: &[u8]) -> Meaning
     ensures { λ r. ⌜ tokenOf r ≡ meaningLater 16 0 (now (w .entry)) ⌝ }
@@ -416,6 +427,15 @@ fn letters_2(w: &[u8]) -> Meaning
     letters_2_from_5(w)
 }
 
+fn letters_1_from_10(w: &[u8]) -> Meaning
+    ensures { λ r. ⌜ tokenOf r ≡ meaningLater 1 10 (now (w .entry)) ⌝ }
+{
+    if is_short(w, 33, 1) {
+        return of(33);
+    }
+    Meaning::Nothing
+}
+
 fn letters_1_from_5(w: &[u8]) -> Meaning
     ensures { λ r. ⌜ tokenOf r ≡ meaningLater 1 5 (now (w .entry)) ⌝ }
 {
@@ -434,7 +454,7 @@ fn letters_1_from_5(w: &[u8]) -> Meaning
     if is_short(w, 32, 1) {
         return of(32);
     }
-    Meaning::Nothing
+    letters_1_from_10(w)
 }
 
 fn letters_1(w: &[u8]) -> Meaning
@@ -504,6 +524,9 @@ pub fn meaning_of(w: &[u8]) -> Meaning
     }
     if n == 16 {
         return letters_16(w);
+    }
+    if n == 22 {
+        return letters_22(w);
     }
     Meaning::Nothing
 }

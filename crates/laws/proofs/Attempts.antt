@@ -2,21 +2,21 @@
 use Prim.Native.Nat.{ℕ, zero, suc, _+_, _-_, _%_, _≤_, _<_, min}
 use mathlib.Core.Path.{_≡_, refl, sym, ap, _∙_}
 use mathlib.Core.Logic.{_≢_}
-use mathlib.Core.Bool.{Bool, true, false, not, _&&_, _||_, and-true, and-false}
+use mathlib.Core.Bool.{Bool, true, false, not, _&&_, and-true, and-false}
 use mathlib.Core.List.{List, [], _∷_}
 use lib.Dec.{ltb, leb, eqb}
 use borrow.Author.Tests.{eqb-true, eqb-false, eq-eqb, ltb-true, lt-ltb, leb-true, leb-false, le-leb, not-true, not-false}
 use native.Mathlib.Omega.{arith}
 use Rattle.base.specs.Pick.{pick}
 use Rattle.protocol.specs.Types.{Context, Numbered, Choose, Op, Add, Modify, Subtract, Move, AuditValue, Checked, Speech, Kept, Released, Values, View}
-use Rattle.megaco.specs.Table.{lineTerminations, terminations, contexts, fitted, most, prop, rec, used, flow, lowFlow, highFlow, speech, ctx, cell, get, Write, write, apply, recordWords, isEphemeral, exists, known, members, freeContext}
+use Rattle.megaco.specs.Table.{lineTerminations, terminations, contexts, fitted, most, prop, rec, used, flow, lowFlow, highFlow, ctx, cell, get, Write, write, apply, recordWords, isEphemeral, exists, known, members, freeContext}
 use Rattle.megaco.specs.Square.{Square, joined as joinedSquare, parted}
 use Rattle.megaco.proofs.Squares.{shape-joined, shape-parted}
 use Rattle.megaco.specs.Items.{update}
 use Rattle.megaco.specs.Blocks.{blockAt}
 use Rattle.megaco.specs.State.{State, wrote, renewed}
 use Rattle.megaco.specs.declared.Block.{Block}
-use Rattle.megaco.specs.Attempt.{unseen, seenIn, seen, flowsOf, flowing, numberOf, freeAt, look, isChoose, target, roomChecks, checks, joining, leaving, placed, marking, added, subtracted, speaks, onLine, speaking, spoken, forgetting, changes, settled, Effect, concluded, effect}
+use Rattle.megaco.specs.Attempt.{unseen, seenIn, seen, flowsOf, flowing, numberOf, freeAt, look, isChoose, target, roomChecks, checks, joining, leaving, placed, marking, added, subtracted, onLine, speaking, spoken, forgetting, changes, settled, Effect, concluded, effect}
 use Rattle.megaco.specs.Command.{inPlace, attempts}
 use Rattle.base.proofs.TestLaws.{clash, and-both, both-and, pick-of}
 use Rattle.laws.specs.Passed.{Passed}

@@ -1,29 +1,36 @@
 -- What holds of every call: how long a reply can be, and what is left as it was.
 use Prim.Native.Nat.{ℕ, zero, suc, _+_, _*_, _-_, _≤_, _<_}
-use mathlib.Core.Path.{_≡_, refl}
+use mathlib.Core.Path.{_≡_, refl, subst}
 use mathlib.Core.Logic.{_≢_}
-use mathlib.Core.Bool.{true, _&&_, and-eq-true-iff}
+use mathlib.Core.Bool.{true, _&&_, and-eq-true-iff, false}
 use mathlib.Core.List.{List, [], _∷_}
-use lib.ListN.{length, drop}
+use lib.ListN.{length, take, drop}
 use lib.Dec.{ltb, leb, eqb}
 use borrow.Author.Tests.{ltb-false, leb-true, eqb-true, eqb-false, not-false}
 use native.Mathlib.Omega.{arith}
+use Rattle.base.specs.Pick.{pick}
+use Rattle.base.specs.Bytes.{put, _then_}
 use Rattle.base.proofs.PickLaws.{pick-ind}
 use Rattle.base.proofs.TestLaws.{or-neither}
 use Rattle.base.proofs.TextLaws.{length-then, length-decimal}
 use Rattle.base.proofs.OutLaws.{length-put, take-front, take-put, drop-put}
-use Rattle.protocol.specs.Types.{Parsed, Next, Fault, Number, Got, Bad}
+use Rattle.protocol.specs.Types.{Parsed, Next, Fault, Number, Got, Bad, Ack}
 use Rattle.megaco.specs.Tokens.{numberAt, numberFrom, numberEnd, isMid}
-use Rattle.megaco.specs.Tree.{Action, Transaction, transaction, Message, wellFormed, fault400, fault403, fault406}
-use Rattle.megaco.specs.Reading.{Read, got, fault, elsewhere, numbered, inside, followed, endOr, bracesThen, transactionsR, messageR}
+use Rattle.megaco.specs.Tree.{Action, Transaction, transaction, Part, request, acknowledge, Message, wellFormed, fault400, fault403, fault406}
+use Rattle.megaco.specs.Reading.{Read, got, fault, acksR, elsewhere, numbered, inside, acknowledged, followed, endOr, bracesThen, requestThen, acksThen, transactionsR, messageR, senderOf}
 use Rattle.megaco.specs.Reply.{Acted, errorText, replyText, limited, transactionText, headerText}
 use Rattle.megaco.specs.State.{State}
-use Rattle.megaco.specs.Transaction.{course, fresh, run, steps, runTransaction, runTransactions, runMessage}
+use Rattle.megaco.specs.Transaction.{course, fresh, run, steps, runTransaction}
+use Rattle.megaco.specs.Room.{Room, keptOf, roomSound}
+use Rattle.megaco.specs.Message.{runPart, runParts, runMessage}
 use Rattle.megaco.specs.Table.{mostLines, words, sound}
 use Rattle.megaco.specs.Blocks.{blocksAreSound}
 use Rattle.megaco.specs.Names.{within}
 use Rattle.megaco.specs.Call.{Called, turnedDown, stateFits, written, replied, taken, call}
-use Rattle.laws.specs.Bounds.{largest, Few, few-none, few-more, FewIn, replyTo, Kept, Bounded, Taken}
+use Rattle.laws.specs.Bounds.{largest, Few, few-none, FewIn, replyTo, Kept, Bounded, Taken, few-request, few-ack, servedBy}
+use Rattle.laws.specs.KeptReplies.{notedOf, partsBy, messageBy}
+use Rattle.laws.proofs.Senders.{sender-short}
+use Rattle.laws.proofs.KeptRuns.{Fits, AllFit, FitIn, Follows, part-follows, parts-follow, message-follows, part-short, parts-twice}
 
 -- ---- what is read: at most 8 transactions, each with an identifier of 32 bits
 
@@ -64,28 +71,42 @@ unfolding inside
 few-inside k id (got acts p) f l h = h acts p
 few-inside k id fault f l h = l
 
-few-followed : (k id : ℕ) (acts : List Action) (m : Message) → id ≤ largest → FewIn k m → FewIn (suc k) (followed (transaction id acts) m)
+few-acknowledged : (k : ℕ) (r : Read (List Ack)) (f : List Ack → ℕ → Message) → ((ks : List Ack) (p : ℕ) → FewIn k (f ks p)) → FewIn k (acknowledged r f)
+unfolding acknowledged
+few-acknowledged k (got ks p) f h = h ks p
+few-acknowledged k fault f h = tt
+
+-- a part that may stand before a message of k parts
+abbrev Adds : Part → Type 0
+Adds p = (k : ℕ) (xs : List Part) → Few k xs → Few (suc k) (p ∷ xs)
+
+few-followed : (k : ℕ) (x : Part) (m : Message) → Adds x → FewIn k m → FewIn (suc k) (followed x m)
 unfolding followed
-few-followed k id acts (wellFormed xs) l h = few-more l h
-few-followed k id acts fault400 l h = tt
-few-followed k id acts (fault403 i) l h = h
-few-followed k id acts fault406 l h = tt
+few-followed k x (wellFormed xs) a h = a k xs h
+few-followed k x fault400 a h = tt
+few-followed k x (fault403 i) a h = h
+few-followed k x fault406 a h = tt
+
+few-end : (k : ℕ) (rest : ℕ → Message) (x : Part) (s : List ℕ) (e : ℕ) → Adds x → ((p : ℕ) → FewIn k (rest p)) → FewIn (suc k) (endOr rest x s e)
+unfolding endOr
+few-end k rest x s e a h = pick-ind (FewIn (suc k)) _ _ _ (λ t. few-followed k x (rest e) a (h e)) (λ t. a k [] few-none)
 
 few-braces : (k : ℕ) (rest : ℕ → Message) (id : ℕ) (s : List ℕ) (at : ℕ) → id ≤ largest → ((p : ℕ) → FewIn k (rest p)) → FewIn (suc k) (bracesThen rest id s at)
-unfolding bracesThen endOr
+unfolding bracesThen
 few-braces k rest id s at l h =
     few-elsewhere (suc k) _ _ λ p.
     few-inside (suc k) id _ _ l λ acts q.
-    few-elsewhere (suc k) _ _ λ e.
-    pick-ind (FewIn (suc k)) _ _ _ (λ t. few-followed k id acts (rest e) l (h e)) (λ t. few-more l few-none)
+    few-elsewhere (suc k) _ _ λ e. few-end k rest (request (transaction id acts)) s e (λ j xs f. few-request l f) h
 
 few-transactions : (k : ℕ) (s : List ℕ) (at : ℕ) → FewIn k (transactionsR k s at)
-unfolding transactionsR
+unfolding transactionsR requestThen acksThen
 few-transactions zero s at = tt
 few-transactions (suc k) s at =
-    few-elsewhere (suc k) _ _ λ p.
+    pick-ind (FewIn (suc k)) _ _ _
+    (λ a. few-acknowledged (suc k) (acksR s at) _ λ ks e. few-end k (transactionsR k s) (acknowledge ks) s e (λ j xs f. few-ack f) (few-transactions k s))
+    (λ a. few-elsewhere (suc k) _ _ λ p.
     few-numbered (suc k) largest _ _ (number-within s p 10 largest) λ id q l.
-    pick-ind (FewIn (suc k)) _ _ _ (λ t. omega arith) (λ t. few-braces k (transactionsR k s) id s q l (few-transactions k s))
+    pick-ind (FewIn (suc k)) _ _ _ (λ t. omega arith) (λ t. few-braces k (transactionsR k s) id s q l (few-transactions k s)))
 
 pub few-read : (m : List ℕ) → FewIn 8 (messageR m)
 unfolding messageR
@@ -117,24 +138,63 @@ pub transaction-fits : (id : ℕ) (acts : List Acted) → id ≤ largest → len
 unfolding transactionText
 transaction-fits id acts h = limited-length id _ h
 
-transactions-fit : (k : ℕ) (xs : List Transaction) (st : State) → Few k xs → length (runTransactions xs st .text) ≤ k * 2048
-unfolding runTransactions runTransaction
-transactions-fit k [] st few-none = omega arith
-transactions-fit (suc k) (transaction id acts ∷ xs) st (few-more l f) =
-    let x = run (steps acts) (course st fresh) in
-    simp length-then (omega (arith, transaction-fits id (x .progress .acts) l, transactions-fit k xs (x .state) f))
+request-fits : (id : ℕ) (acts : List Action) → id ≤ largest → Fits (request (transaction id acts))
+unfolding runTransaction
+request-fits id acts l st = transaction-fits id (run (steps acts) (course st fresh) .progress .acts) l
 
-message-fits : (x : Message) (st : State) → FewIn 8 x → length (runMessage x st .text) ≤ 16384
+all-fit : (k : ℕ) (ps : List Part) → Few k ps → AllFit ps
+all-fit k [] few-none = tt
+all-fit (suc k) (request (transaction id acts) ∷ ps) (few-request l f) = (request-fits id acts l, all-fit k ps f)
+all-fit (suc k) (acknowledge ks ∷ ps) (few-ack f) = (tt, all-fit k ps f)
+
+fit-in : (x : Message) → FewIn 8 x → FitIn x
+fit-in (wellFormed ps) h = all-fit 8 ps h
+fit-in fault400 h = tt
+fit-in (fault403 id) h = tt
+fit-in fault406 h = tt
+
+-- what a message leaves of a sound room is sound, and is told by the list of kept replies
+pub served-follows : (m : List ℕ) (st : State) (r : Room) → roomSound r ≡ true → Follows (servedBy m st r) (messageBy (senderOf m) (messageR m) st (keptOf r))
+served-follows m st r s = message-follows (senderOf m) (sender-short m) (messageR m) st r (fit-in (messageR m) (few-read m)) s
+
+-- and so is what a list of parts leaves
+pub parts-by-the-list : (m : List ℕ) → length m ≤ 72 → (k : ℕ) (ps : List Part) → Few k ps → (st : State) (r : Room) → roomSound r ≡ true
+    → notedOf (runParts m ps st r) ≡ partsBy m ps st (keptOf r)
+parts-by-the-list m h k ps f st r s = parts-follow m h ps st r (all-fit k ps f) s .noted-is
+
+-- a message of one transaction, sent again
+pub repeated : (m : List ℕ) (x : Transaction) → messageR m ≡ wellFormed (request x ∷ []) → (st : State) (r : Room) → roomSound r ≡ true
+    → let y = runMessage (senderOf m) (messageR m) st r in runMessage (senderOf m) (messageR m) (y .state) (y .room) ≡ y
 unfolding runMessage
-message-fits (wellFormed xs) st h = transactions-fit 8 xs st h
-message-fits fault400 st h = omega (arith, error-length 400 (omega arith))
-message-fits (fault403 id) st h = omega (arith, fault-length id 403 h (omega arith))
-message-fits fault406 st h = omega (arith, error-length 406 (omega arith))
+repeated m x e st r s =
+    let f : FitIn (wellFormed (request x ∷ [])) = fit-in (wellFormed (request x ∷ [])) (subst (FewIn 8) e (few-read m)) in
+    rw e (parts-twice (senderOf m) (sender-short m) x (f .0) st r s)
+
+few-rest : (k : ℕ) (p : Part) (ps : List Part) → Few (suc k) (p ∷ ps) → Few k ps
+few-rest k (request (transaction id acts)) ps (few-request l f) = f
+few-rest k (acknowledge ks) ps (few-ack f) = f
+
+parts-fit : (m : List ℕ) → length m ≤ 72 → (k : ℕ) (ps : List Part) (st : State) (r : Room) → Few k ps → AllFit ps → roomSound r ≡ true → length (runParts m ps st r .text) ≤ k * 2048
+unfolding runParts
+parts-fit m h k [] st r f a s = omega arith
+parts-fit m h (suc k) (p ∷ ps) st r f a s =
+    let y = runPart m p st r in
+    simp length-then (omega (arith, part-short m p st r (a .0) s, parts-fit m h k ps (y .state) (y .room) (few-rest k p ps f) (a .1) (part-follows m h p st r (a .0) s .sound)))
+
+message-fits : (m : List ℕ) → length m ≤ 72 → (x : Message) (st : State) (r : Room) → FewIn 8 x → roomSound r ≡ true → length (runMessage m x st r .text) ≤ 16384
+unfolding runMessage
+message-fits m l (wellFormed xs) st r h s = parts-fit m l 8 xs st r h (all-fit 8 xs h) s
+message-fits m l fault400 st r h s = omega (arith, error-length 400 (omega arith))
+message-fits m l (fault403 id) st r h s = omega (arith, fault-length id 403 h (omega arith))
+message-fits m l fault406 st r h s = omega (arith, error-length 406 (omega arith))
 
 -- "reply buffer under 16,640 bytes" is turned down: every reply fits into one of that size
-pub reply-fits : (m : List ℕ) (st : State) (own : List ℕ) → length own ≤ 64 → length (replyTo m st own) ≤ 16640
+pub text-fits : (m : List ℕ) (st : State) (r : Room) (own : List ℕ) → roomSound r ≡ true → length own ≤ 64 → length (headerText own then servedBy m st r .text) ≤ 16640
 unfolding headerText
-reply-fits m st own h = simp length-then (omega (arith, message-fits (messageR m) st (few-read m)))
+text-fits m st r own s h = simp length-then (omega (arith, message-fits (senderOf m) (sender-short m) (messageR m) st r (few-read m) s))
+
+pub reply-fits : (m : List ℕ) (st : State) (r : Room) (own : List ℕ) → roomSound r ≡ true → length own ≤ 64 → length (replyTo m st r own) ≤ 16640
+reply-fits m st r own s h = pick-ind (λ y. length y ≤ 16640) (servedBy m st r .told) (headerText own then servedBy m st r .text) [] (λ t. text-fits m st r own s h) (λ t. omega arith)
 
 -- ---- every call is turned down or taken
 
@@ -143,62 +203,87 @@ unfolding isMid
 own-fits own e = leb-true _ _ (and-eq-true-iff (leb (length own) 64) _ .0 e .0)
 
 -- what holds of each way to turn a call down, and of a call that is taken, holds of every call
-pub call-ind : (P : Called → Type 0) (n : ℕ) (m : List ℕ) (st : State) (own o : List ℕ) → ((k : ℕ) → 0 < k → P (turnedDown k st o))
-    → (within n mostLines ≡ true → 16640 ≤ length o → length (st .table) ≡ words n → sound (st .table) ≡ true → blocksAreSound (st .blocks) ≡ true → isMid own ≡ true → 0 < length m → length m ≤ 4096 → P (taken m st own o)) → P (call n m st own o)
+pub call-ind : (P : Called → Type 0) (n : ℕ) (m : List ℕ) (st : State) (r : Room) (own o : List ℕ) → ((k : ℕ) → 0 < k → P (turnedDown k st r o))
+    → (within n mostLines ≡ true → 16640 ≤ length o → length (st .table) ≡ words n → sound (st .table) ≡ true → blocksAreSound (st .blocks) ≡ true → roomSound r ≡ true → isMid own ≡ true → 0 < length m → length m ≤ 4096 → P (taken m st r own o))
+    → P (call n m st r own o)
 unfolding call stateFits
-call-ind P n m st own o down up =
+call-ind P n m st r own o down up =
     pick-ind P _ _ _ (λ e. down 8 (omega arith)) λ w.
     pick-ind P _ _ _ (λ e. down 3 (omega arith)) λ a.
     pick-ind P _ _ _ (λ e. down 2 (omega arith)) λ b.
+    pick-ind P _ _ _ (λ e. down 5 (omega arith)) λ f.
     pick-ind P _ _ _ (λ e. down 4 (omega arith)) λ c.
     pick-ind P _ _ _ (λ e. down 1 (omega arith)) λ d.
     let z = or-neither (eqb (length m) 0) (ltb 4096 (length m)) d in
     let x = and-eq-true-iff (eqb (length (st .table)) (words n) && sound (st .table)) (blocksAreSound (st .blocks)) .0 (not-false _ b) in
     let y = and-eq-true-iff (eqb (length (st .table)) (words n)) (sound (st .table)) .0 (x .0) in
-    up (not-false _ w) (ltb-false _ _ a) (eqb-true (length (st .table)) (words n) (y .0)) (y .1) (x .1) (not-false _ c) (omega (arith, eqb-false (length m) 0 (z .0))) (ltb-false _ _ (z .1))
+    up (not-false _ w) (ltb-false _ _ a) (eqb-true (length (st .table)) (words n) (y .0)) (y .1) (x .1) (not-false _ f) (not-false _ c) (omega (arith, eqb-false (length m) 0 (z .0))) (ltb-false _ _ (z .1))
 
-pub refusal-keeps : (n : ℕ) (m : List ℕ) (st : State) (own o : List ℕ) → call n m st own o .refusal ≢ 0 → Kept st o (call n m st own o)
+pub refusal-keeps : (n : ℕ) (m : List ℕ) (st : State) (r : Room) (own o : List ℕ) → call n m st r own o .refusal ≢ 0 → Kept st r o (call n m st r own o)
 unfolding taken replied written
-refusal-keeps n m st own o =
-    call-ind (λ x. x .refusal ≢ 0 → Kept st o x) n m st own o
-    (λ k p h. record { size = refl; state = refl; reply = refl })
-    (λ w a l b f c d e h. absurd (h refl))
+refusal-keeps n m st r own o =
+    call-ind (λ x. x .refusal ≢ 0 → Kept st r o x) n m st r own o
+    (λ k p h. record { size = refl; state = refl; room = refl; reply = refl })
+    (λ w a l b y s c d e h. absurd (h refl))
 
-pub call-bounded : (n : ℕ) (m : List ℕ) (st : State) (own o : List ℕ) → Bounded o (call n m st own o)
+pub call-bounded : (n : ℕ) (m : List ℕ) (st : State) (r : Room) (own o : List ℕ) → Bounded o (call n m st r own o)
 unfolding taken replied written
-call-bounded n m st own o =
-    call-ind (Bounded o) n m st own o
+call-bounded n m st r own o =
+    call-ind (Bounded o) n m st r own o
     (λ k p. record { long = refl; past = refl; fits = omega arith })
-    (λ w a l b f c d e.
+    (λ w a l b y s c d e.
     record {
-      long = length-put o 0 (replyTo m st own);
-      past = drop-put o 0 (replyTo m st own) (length (replyTo m st own)) (omega arith);
-      fits = reply-fits m st own (own-fits own c);
+      long = length-put o 0 (replyTo m st r own);
+      past = drop-put o 0 (replyTo m st r own) (length (replyTo m st r own)) (omega arith);
+      fits = reply-fits m st r own s (own-fits own c);
     })
 
-pub call-taken : (n : ℕ) (m : List ℕ) (st : State) (own o : List ℕ) → call n m st own o .refusal ≡ 0 → Taken m st own (call n m st own o)
+put-none : (o : List ℕ) → put o 0 [] ≡ o
+unfolding put
+put-none [] = refl
+put-none (y ∷ o) = refl
+
+header-first : (m : List ℕ) (st : State) (r : Room) (own o : List ℕ) → roomSound r ≡ true → isMid own ≡ true → 16640 ≤ length o → servedBy m st r .told ≡ true
+    → take (length (headerText own)) (put o 0 (replyTo m st r own)) ≡ headerText own
+unfolding pick
+header-first m st r own o s c a t =
+    rw t (take-front o (headerText own) (servedBy m st r .text) (omega (arith, text-fits m st r own s (own-fits own c), length-then (headerText own) (servedBy m st r .text))))
+
+says-nothing : (m : List ℕ) (st : State) (r : Room) (own o : List ℕ) → servedBy m st r .told ≡ false → (length (replyTo m st r own) ≡ 0) × (put o 0 (replyTo m st r own) ≡ o)
+unfolding pick
+says-nothing m st r own o t = rw t (refl, put-none o)
+
+pub call-taken : (n : ℕ) (m : List ℕ) (st : State) (r : Room) (own o : List ℕ) → call n m st r own o .refusal ≡ 0 → Taken m st r own o (call n m st r own o)
 unfolding taken replied written
-call-taken n m st own o =
-    call-ind (λ x. x .refusal ≡ 0 → Taken m st own x) n m st own o
+call-taken n m st r own o =
+    call-ind (λ x. x .refusal ≡ 0 → Taken m st r own o x) n m st r own o
     (λ k p h. absurd (omega arith))
-    (λ w a l b f c d e h.
-    let r : length (replyTo m st own) ≤ length o = omega (arith, reply-fits m st own (own-fits own c)) in
+    (λ w a l b y s c d e h.
+    let f : length (replyTo m st r own) ≤ length o = omega (arith, reply-fits m st r own s (own-fits own c)) in
     record {
       state = refl;
+      room = refl;
       size = refl;
-      whole = take-put o (replyTo m st own) r;
-      header = take-front o (headerText own) _ (omega (arith, length-then (headerText own) (runMessage (messageR m) st .text)));
+      whole = take-put o (replyTo m st r own) f;
+      header = header-first m st r own o s c a;
+      silent = says-nothing m st r own o;
     })
 
 -- "On a fault nothing runs"
-fault-runs-nothing : (x : Message) (st : State) → ((xs : List Transaction) → x ≢ wellFormed xs) → runMessage x st .state ≡ st
+fault-runs-nothing : (m : List ℕ) (x : Message) (st : State) (r : Room) → ((xs : List Part) → x ≢ wellFormed xs) → (runMessage m x st r .state ≡ st) × (runMessage m x st r .room ≡ r)
 unfolding runMessage
-fault-runs-nothing (wellFormed xs) st h = absurd (h xs refl)
-fault-runs-nothing fault400 st h = refl
-fault-runs-nothing (fault403 id) st h = refl
-fault-runs-nothing fault406 st h = refl
+fault-runs-nothing m (wellFormed xs) st r h = absurd (h xs refl)
+fault-runs-nothing m fault400 st r h = (refl, refl)
+fault-runs-nothing m (fault403 id) st r h = (refl, refl)
+fault-runs-nothing m fault406 st r h = (refl, refl)
 
-pub fault-keeps : (n : ℕ) (m : List ℕ) (st : State) (own o : List ℕ) → ((xs : List Transaction) → messageR m ≢ wellFormed xs) → call n m st own o .state ≡ st
+pub fault-keeps : (n : ℕ) (m : List ℕ) (st : State) (r : Room) (own o : List ℕ) → ((xs : List Part) → messageR m ≢ wellFormed xs) → (call n m st r own o .state ≡ st) × (call n m st r own o .room ≡ r)
 unfolding taken replied written
-fault-keeps n m st own o h =
-    call-ind (λ x. x .state ≡ st) n m st own o (λ k p. refl) (λ w a l b f c d e. fault-runs-nothing (messageR m) st h)
+fault-keeps n m st r own o h =
+    call-ind (λ x. (x .state ≡ st) × (x .room ≡ r)) n m st r own o (λ k p. (refl, refl)) (λ w a l b y s c d e. fault-runs-nothing (senderOf m) (messageR m) st r h)
+
+-- a sound room stays sound
+pub room-keeps : (n : ℕ) (m : List ℕ) (st : State) (r : Room) (own o : List ℕ) → roomSound r ≡ true → roomSound (call n m st r own o .room) ≡ true
+unfolding taken replied written
+room-keeps n m st r own o s =
+    call-ind (λ x. roomSound (x .room) ≡ true) n m st r own o (λ k p. s) (λ w a l b y z c d e. served-follows m st r s .sound)

@@ -18,6 +18,7 @@ use Rattle.megaco.specs.State.{State, wrote, renewed}
 use Rattle.megaco.specs.Names.{nameOf}
 use Rattle.megaco.specs.Attempt.{checks, renews, look, Effect, concluded, effect}
 use Rattle.megaco.specs.Command.{isAdd, attempts, commandError, Targets, noTarget, gateway, targets, targetsOf, runTargets}
+use Rattle.megaco.specs.Room.{Room}
 use Rattle.megaco.specs.Call.{call}
 use Rattle.megaco.specs.declared.Block.{Block}
 use Rattle.laws.specs.Passed.{Passed}
@@ -190,23 +191,23 @@ from-kept a =
       gives = λ c ps alone there links. tt;
     }
 
-call-from : (n : ℕ) (m : List ℕ) (st : State) (own o : List ℕ) → From (st .blocks) (call n m st own o .state .blocks)
-call-from n m st own o = call-keeps (λ u. From (st .blocks) (u .blocks)) (λ _. Unit {0}) (from-kept (st .blocks)) n m st own o (from-here (st .blocks))
+call-from : (n : ℕ) (m : List ℕ) (st : State) (r : Room) (own o : List ℕ) → From (st .blocks) (call n m st r own o .state .blocks)
+call-from n m st r own o = call-keeps (λ u. From (st .blocks) (u .blocks)) (λ _. Unit {0}) (from-kept (st .blocks)) n m st r own o (from-here (st .blocks))
 
-pub call-length-blocks : (n : ℕ) (m : List ℕ) (st : State) (own o : List ℕ) → length (call n m st own o .state .blocks) ≡ length (st .blocks)
-call-length-blocks n m st own o = call-from n m st own o .long
+pub call-length-blocks : (n : ℕ) (m : List ℕ) (st : State) (r : Room) (own o : List ℕ) → length (call n m st r own o .state .blocks) ≡ length (st .blocks)
+call-length-blocks n m st r own o = call-from n m st r own o .long
 
-pub call-otherwise : (n : ℕ) (m : List ℕ) (st : State) (own o : List ℕ) (k : ℕ) → length (st .blocks) ≡ blockWords → k < ephemerals
-    → (blockAt k (call n m st own o .state .blocks) ≡ blockAt k (st .blocks)) ⊎ (blockAt k (call n m st own o .state .blocks) ≡ noPackets)
-call-otherwise n m st own o k l h = call-from n m st own o .each l k h
+pub call-otherwise : (n : ℕ) (m : List ℕ) (st : State) (r : Room) (own o : List ℕ) (k : ℕ) → length (st .blocks) ≡ blockWords → k < ephemerals
+    → (blockAt k (call n m st r own o .state .blocks) ≡ blockAt k (st .blocks)) ⊎ (blockAt k (call n m st r own o .state .blocks) ≡ noPackets)
+call-otherwise n m st r own o k l h = call-from n m st r own o .each l k h
 
-pub call-blocks-sound : (n : ℕ) (m : List ℕ) (st : State) (own o : List ℕ) → blocksAreSound (st .blocks) ≡ true → blocksAreSound (call n m st own o .state .blocks) ≡ true
-call-blocks-sound n m st own o e =
+pub call-blocks-sound : (n : ℕ) (m : List ℕ) (st : State) (r : Room) (own o : List ℕ) → blocksAreSound (st .blocks) ≡ true → blocksAreSound (call n m st r own o .state .blocks) ≡ true
+call-blocks-sound n m st r own o e =
     let s = sound-blocks (st .blocks) e in
-    blocks-sound _ (record { long = call-length-blocks n m st own o ∙ s .long; each = λ k h. by k (s .each k h) (call-otherwise n m st own o k (s .long) h) })
+    blocks-sound _ (record { long = call-length-blocks n m st r own o ∙ s .long; each = λ k h. by k (s .each k h) (call-otherwise n m st r own o k (s .long) h) })
   where
-    by : (k : ℕ) → SoundBlock (blockAt k (st .blocks)) → (blockAt k (call n m st own o .state .blocks) ≡ blockAt k (st .blocks)) ⊎ (blockAt k (call n m st own o .state .blocks) ≡ noPackets)
-        → SoundBlock (blockAt k (call n m st own o .state .blocks))
+    by : (k : ℕ) → SoundBlock (blockAt k (st .blocks)) → (blockAt k (call n m st r own o .state .blocks) ≡ blockAt k (st .blocks)) ⊎ (blockAt k (call n m st r own o .state .blocks) ≡ noPackets)
+        → SoundBlock (blockAt k (call n m st r own o .state .blocks))
     by k s (inl p) = subst SoundBlock (sym p) s
     by k s (inr p) = subst SoundBlock (sym p) none-sound
 
@@ -286,5 +287,5 @@ reached-kept st =
       gives = λ c ps alone there links. tt;
     }
 
-pub call-reached : (n : ℕ) (m : List ℕ) (st : State) (own o : List ℕ) → Reached st (call n m st own o .state)
-call-reached n m st own o = call-keeps (Reached st) (λ _. Unit {0}) (reached-kept st) n m st own o here
+pub call-reached : (n : ℕ) (m : List ℕ) (st : State) (r : Room) (own o : List ℕ) → Reached st (call n m st r own o .state)
+call-reached n m st r own o = call-keeps (Reached st) (λ _. Unit {0}) (reached-kept st) n m st r own o here

@@ -8,13 +8,15 @@ use lib.Dec.{eqb}
 use borrow.Author.Tests.{eqb-false}
 use native.Mathlib.Omega.{arith}
 use Rattle.protocol.specs.Types.{Context, Null, Numbered, Choose, All, Op, Add, Modify, Subtract, Move, AuditValue, Values}
-use Rattle.megaco.specs.Tree.{Command, Transaction, Message}
+use Rattle.megaco.specs.Tree.{Command, Transaction, Part, Message}
 use Rattle.megaco.specs.Table.{contexts, fitted, rec, cell, get, sound}
 use Rattle.megaco.specs.State.{State}
 use Rattle.megaco.specs.Names.{nameOf}
 use Rattle.megaco.specs.Attempt.{seen, numberOf}
 use Rattle.megaco.specs.Command.{commandError, Targets, noTarget, gateway, targets, isNull, isSubtract, inPlace, runTargets, forbiddenInNull, noContext, runCommand}
-use Rattle.megaco.specs.Transaction.{Step, Course, step, runTransaction, runTransactions, runMessage}
+use Rattle.megaco.specs.Transaction.{Step, Course, step, runTransaction}
+use Rattle.megaco.specs.Room.{Room}
+use Rattle.megaco.specs.Message.{runPart, runMessage}
 use Rattle.megaco.specs.Call.{call}
 use Rattle.base.proofs.TestLaws.{clash}
 use Rattle.laws.specs.Sound.{Whole}
@@ -23,7 +25,7 @@ use Rattle.protocol.specs.Ranges.{InRange}
 use Rattle.laws.proofs.Meant.{name-low, MeansTerminations, some-targets, targets-meant}
 use Rattle.laws.proofs.Attempts.{seen-there, Joins, anew, there, Stands, stands, MayAttempt, Present, attempts-sound}
 use Rattle.laws.proofs.Starts.{start-sound, start-given}
-use Rattle.laws.proofs.Runs.{Keeps, CourseKeeps, command-keeps, step-keeps, transaction-keeps, transactions-keep, message-keeps, call-keeps}
+use Rattle.laws.proofs.Runs.{Keeps, CourseKeeps, command-keeps, step-keeps, transaction-keeps, part-keeps, message-keeps, call-keeps}
 
 -- tests 1 and 2 leave an attempt what it relies on
 ready-there : (c : ℕ) (t : List ℕ) → eqb (seen c t .held) 0 ≡ false → (0 < c) × (c ≤ contexts) × (0 < get t (cell (rec c)))
@@ -82,11 +84,11 @@ command-sound c given at st G = sound-by st (runCommand c given at st .state) (�
 pub transaction-sound : (x : Transaction) (st : State) → sound (st .table) ≡ true → sound (runTransaction x st .state .table) ≡ true
 transaction-sound x st = sound-by st (runTransaction x st .state) (transaction-keeps WholeIn Present whole-kept x st)
 
-pub transactions-sound : (xs : List Transaction) (st : State) → sound (st .table) ≡ true → sound (runTransactions xs st .state .table) ≡ true
-transactions-sound xs st = sound-by st (runTransactions xs st .state) (transactions-keep WholeIn Present whole-kept xs st)
+pub part-sound : (m : List ℕ) (x : Part) (st : State) (r : Room) → sound (st .table) ≡ true → sound (runPart m x st r .state .table) ≡ true
+part-sound m x st r = sound-by st (runPart m x st r .state) (part-keeps WholeIn Present whole-kept m x st r)
 
-pub message-sound : (m : Message) (st : State) → sound (st .table) ≡ true → sound (runMessage m st .state .table) ≡ true
-message-sound m st = sound-by st (runMessage m st .state) (message-keeps WholeIn Present whole-kept m st)
+pub message-sound : (m : List ℕ) (x : Message) (st : State) (r : Room) → sound (st .table) ≡ true → sound (runMessage m x st r .state .table) ≡ true
+message-sound m x st r = sound-by st (runMessage m x st r .state) (message-keeps WholeIn Present whole-kept m x st r)
 
-pub call-sound : (n : ℕ) (m : List ℕ) (st : State) (own o : List ℕ) → sound (st .table) ≡ true → sound (call n m st own o .state .table) ≡ true
-call-sound n m st own o = sound-by st (call n m st own o .state) (call-keeps WholeIn Present whole-kept n m st own o)
+pub call-sound : (n : ℕ) (m : List ℕ) (st : State) (r : Room) (own o : List ℕ) → sound (st .table) ≡ true → sound (call n m st r own o .state .table) ≡ true
+call-sound n m st r own o = sound-by st (call n m st r own o .state) (call-keeps WholeIn Present whole-kept n m st r own o)

@@ -2,7 +2,6 @@ pub mod Passed
 pub mod Properties
 pub mod Slots
 pub mod Counting
-pub mod Bounds
 pub mod Frame
 pub mod Views
 pub mod Written
@@ -12,6 +11,17 @@ pub mod Membership
 pub mod PlainNames
 pub mod Reaching
 pub mod Demand
+pub mod KeptLaws
+pub mod RoomFree
+pub mod RoomParts
+pub mod RoomWhole
+pub mod RoomFacts
+pub mod RoomKeeps
+pub mod RoomDrops
+pub mod RoomEmpty
+pub mod Senders
+pub mod KeptRuns
+pub mod Bounds
 pub mod ApartTest
 pub mod Witness
 pub mod Needed

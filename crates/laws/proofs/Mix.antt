@@ -8,7 +8,7 @@ use Rattle.megaco.specs.Transaction.{Step, Progress, Course, course, step, run}
 use Rattle.megaco.proofs.Sizes.{fitted-is}
 use Rattle.laws.specs.Mix.{Both, with-one, with-two, step-one, step-two, Mixture, over, first, second, mixed}
 use Rattle.laws.proofs.Frame.{Closed, Agree, agree-refl, closed-agree, closed-apply, Disjoint, disjoint-sym, apply-agree, apply-comm}
-use Rattle.laws.proofs.Steps.{enact, Named, Seats, AgreeIn, Acts, acts}
+use Rattle.laws.proofs.Steps.{enact, Named, Seats, Acts, acts}
 
 -- all steps of the first, of the second
 abbrev pub run-one : List Step → Both → Both

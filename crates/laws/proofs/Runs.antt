@@ -7,7 +7,7 @@ use mathlib.Core.Option.{Option, none, some}
 use lib.ListN.{length}
 use Rattle.protocol.specs.Types.{Context, Op, Judged, Wrong, Right, Seen, Values}
 use Rattle.megaco.specs.Topology.{triplesOf, Link, linksOf}
-use Rattle.megaco.specs.Tree.{Items, Command, command, Property, Transaction, transaction, Message, wellFormed, fault400, fault403, fault406}
+use Rattle.megaco.specs.Tree.{Items, Command, command, Property, Transaction, transaction, Message, wellFormed, fault400, fault403, fault406, Part, request, acknowledge}
 use Rattle.megaco.specs.Table.{lineTerminations, fitted}
 use Rattle.megaco.specs.Blocks.{blockAt}
 use Rattle.megaco.specs.State.{State, wrote, renewed}
@@ -17,8 +17,11 @@ use Rattle.megaco.specs.Reply.{Acted}
 use Rattle.megaco.specs.Attempt.{seen, numberOf, look, Effect, effect}
 use Rattle.megaco.specs.Command.{Outcome, attempts, commandError, actionError, Targets, noTarget, gateway, targets, targetsOf, runTargets, opOf, forbiddenInNull, noContext, notForRoot, fromTest4, fromTest2, unlessOptional, fromTest1, runCommand}
 use Rattle.megaco.specs.Action.{started}
-use Rattle.megaco.specs.Transaction.{Step, start, commandStep, steps, Course, course, begin, advance, proceed, step, run, fresh, runTransaction, runTransactions, runMessage}
-use Rattle.megaco.specs.Reading.{messageR}
+use Rattle.megaco.specs.Transaction.{Step, start, commandStep, steps, Course, course, begin, advance, proceed, step, run, fresh, runTransaction}
+use Rattle.megaco.specs.Kept.{find}
+use Rattle.megaco.specs.Room.{Room, keptOf}
+use Rattle.megaco.specs.Message.{identifier, answered, runPart, runParts, runMessage}
+use Rattle.megaco.specs.Reading.{messageR, senderOf}
 use Rattle.megaco.specs.Call.{Called, written, replied, taken, call}
 use Rattle.base.proofs.TestLaws.{pick-of}
 use Rattle.laws.proofs.Slots.{length-apply}
@@ -84,23 +87,33 @@ module _ (P : State → Type 0) (G : ℕ → Type 0) (K : Keeps P G) where
   unfolding runTransaction
   transaction-keeps (transaction id acts) st p = run-keeps (steps acts) (course st fresh) (record { state = p; running = tt }) .state
 
-  pub transactions-keep : (xs : List Transaction) (st : State) → P st → P (runTransactions xs st .state)
-  unfolding runTransactions
-  transactions-keep [] st p = p
-  transactions-keep (x ∷ xs) st p = transactions-keep xs (runTransaction x st .state) (transaction-keeps x st p)
+  answered-keeps : (m : List ℕ) (x : Transaction) (st : State) (r : Room) (y : Option (List ℕ)) → P st → P (answered m x st r y .state)
+  unfolding answered
+  answered-keeps m x st r (some y) p = p
+  answered-keeps m x st r none p = transaction-keeps x st p
 
-  pub message-keeps : (m : Message) (st : State) → P st → P (runMessage m st .state)
+  pub part-keeps : (m : List ℕ) (x : Part) (st : State) (r : Room) → P st → P (runPart m x st r .state)
+  unfolding runPart
+  part-keeps m (request x) st r p = answered-keeps m x st r (find m (identifier x) (keptOf r)) p
+  part-keeps m (acknowledge ks) st r p = p
+
+  parts-keep : (m : List ℕ) (xs : List Part) (st : State) (r : Room) → P st → P (runParts m xs st r .state)
+  unfolding runParts
+  parts-keep m [] st r p = p
+  parts-keep m (x ∷ xs) st r p = parts-keep m xs (runPart m x st r .state) (runPart m x st r .room) (part-keeps m x st r p)
+
+  pub message-keeps : (m : List ℕ) (x : Message) (st : State) (r : Room) → P st → P (runMessage m x st r .state)
   unfolding runMessage
-  message-keeps (wellFormed xs) st p = transactions-keep xs st p
-  message-keeps fault400 st p = p
-  message-keeps (fault403 id) st p = p
-  message-keeps fault406 st p = p
+  message-keeps m (wellFormed xs) st r p = parts-keep m xs st r p
+  message-keeps m fault400 st r p = p
+  message-keeps m (fault403 id) st r p = p
+  message-keeps m fault406 st r p = p
 
-  pub call-keeps : (n : ℕ) (m : List ℕ) (st : State) (own o : List ℕ) → P st → P (call n m st own o .state)
+  pub call-keeps : (n : ℕ) (m : List ℕ) (st : State) (r : Room) (own o : List ℕ) → P st → P (call n m st r own o .state)
   unfolding call taken replied written
-  call-keeps n m st own o p =
+  call-keeps n m st r own o p =
       pick-of (λ (x : Called). P (x .state)) _ (λ _. p) (λ _. pick-of (λ (x : Called). P (x .state)) _ (λ _. p) (λ _. pick-of (λ (x : Called). P (x .state)) _ (λ _. p) (λ _. pick-of (λ (x : Called). P (x .state)) _ (λ _. p)
-      (λ _. pick-of (λ (x : Called). P (x .state)) _ (λ _. p) (λ _. message-keeps (messageR m) st p)))))
+      (λ _. pick-of (λ (x : Called). P (x .state)) _ (λ _. p) (λ _. pick-of (λ (x : Called). P (x .state)) _ (λ _. p) (λ _. message-keeps (senderOf m) (messageR m) st r p))))))
 
 -- ---- the length
 
@@ -133,8 +146,5 @@ run-length ss x = run-keeps (λ st. length (st .table) ≡ length (x .state .tab
     any [] = tt
     any (a ∷ acts) = tt
 
-pub message-length : (m : Message) (st : State) → length (runMessage m st .state .table) ≡ length (st .table)
-message-length m st = message-keeps (λ u. length (u .table) ≡ length (st .table)) (λ _. Unit {0}) (length-kept (length (st .table))) m st refl
-
-pub call-length : (n : ℕ) (m : List ℕ) (st : State) (own o : List ℕ) → length (call n m st own o .state .table) ≡ length (st .table)
-call-length n m st own o = call-keeps (λ u. length (u .table) ≡ length (st .table)) (λ _. Unit {0}) (length-kept (length (st .table))) n m st own o refl
+pub call-length : (n : ℕ) (m : List ℕ) (st : State) (r : Room) (own o : List ℕ) → length (call n m st r own o .state .table) ≡ length (st .table)
+call-length n m st r own o = call-keeps (λ u. length (u .table) ≡ length (st .table)) (λ _. Unit {0}) (length-kept (length (st .table))) n m st r own o refl

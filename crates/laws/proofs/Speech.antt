@@ -6,23 +6,23 @@ use mathlib.Core.Bool.{Bool, true, false, _||_}
 use mathlib.Core.List.{List, [], _∷_}
 use lib.ListN.{length, getD}
 use lib.Seq.{ext-getD}
-use lib.Dec.{leb, eqb}
+use lib.Dec.{eqb}
 use borrow.Author.Tests.{eq-eqb, ne-eqb, le-leb}
 use native.Mathlib.Omega.{arith}
 use Rattle.base.specs.Pick.{pick}
 use Rattle.base.proofs.TestLaws.{clash}
-use Rattle.protocol.specs.Types.{Context, Op, Add, Modify, Subtract, Move, AuditValue, Checked, Passes, Fails, Speech, Kept, Released, Session, Values}
-use Rattle.megaco.specs.Table.{lineTerminations, ephemerals, terminations, words, fitted, speech, speechWord, ctx, cell, get, Write, apply, speechWords, isEphemeral, sound}
-use Rattle.megaco.specs.Attempt.{look, checks, speaks, onLine, changes, Effect, concluded, effect}
+use Rattle.protocol.specs.Types.{Context, Op, Add, Modify, Subtract, Move, AuditValue, Checked, Speech, Kept, Released, Session, Values}
+use Rattle.megaco.specs.Table.{lineTerminations, ephemerals, terminations, fitted, speech, speechWord, ctx, cell, get, Write, apply, speechWords, isEphemeral}
+use Rattle.megaco.specs.Attempt.{look, checks, speaks, changes, Effect, concluded, effect}
 use Rattle.megaco.proofs.Regions.{speech-region}
 use Rattle.laws.specs.Passed.{Passed}
 use Rattle.laws.specs.Sound.{SoundSide, silent, sends, Whole}
-use Rattle.laws.specs.Speech.{Line, Ephemeral, fourWords, replaced, forSide, saidBy, Tried, SpeechLeft, SpeechLaw}
+use Rattle.laws.specs.Speech.{Line, Ephemeral, fourWords, replaced, forSide, saidBy, SpeechLeft, SpeechLaw}
 use Rattle.laws.proofs.Passed.{judged}
 use Rattle.laws.proofs.Slots.{Within, length-apply, fitted-apply, get-apply}
 use Rattle.laws.proofs.Sound.{sound-whole, side-at}
 use Rattle.laws.proofs.Sides.{sideOf, sideWord, Voices, speech-there, OnEphemeral}
-use Rattle.laws.proofs.Attempts.{MayAttempt, added-absent, says-ephemeral, saidOn, Says, attempt-says}
+use Rattle.laws.proofs.Attempts.{MayAttempt, added-absent, says-ephemeral, saidOn, attempt-says}
 use Rattle.laws.proofs.Kept.{ready}
 
 -- word by word and all four together

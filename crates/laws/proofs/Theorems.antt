@@ -13,6 +13,7 @@ use Rattle.laws.specs.Slots.{SlotsApart}
 use Rattle.laws.specs.Sound.{Fit, SoundFlows, Whole, Soundness}
 use Rattle.laws.specs.Bounds.{Bounds}
 use Rattle.laws.specs.Demand.{Independence}
+use Rattle.laws.specs.KeptReplies.{KeptReplies}
 use Rattle.laws.specs.Witness.{Witnessed}
 use Rattle.laws.specs.Needed.{EachNeeded}
 use Rattle.laws.specs.Figures.{FiguresKept}
@@ -22,7 +23,11 @@ use Rattle.laws.specs.Figure7.{Figure-7}
 use Rattle.laws.specs.Folding.{Rules, Merging}
 use Rattle.laws.specs.FoldedSample.{Samples}
 use Rattle.laws.proofs.Slots.{shared, address-below, get-same, get-other, store-comm}
-use Rattle.laws.proofs.Bounds.{few-read, transaction-fits, reply-fits, refusal-keeps, call-bounded, call-taken, fault-keeps}
+use Rattle.laws.proofs.Bounds.{few-read, transaction-fits, reply-fits, refusal-keeps, call-bounded, call-taken, fault-keeps, served-follows, parts-by-the-list, repeated, room-keeps}
+use Rattle.laws.proofs.Senders.{sender-short}
+use Rattle.laws.proofs.KeptRuns.{sixteen, either-order-kept, any-mixture-kept}
+use Rattle.laws.proofs.RoomEmpty.{empty-room}
+use Rattle.laws.proofs.RoomFacts.{sound-room, room-sound}
 use Rattle.laws.proofs.Demand.{either-order, any-mixture}
 use Rattle.laws.proofs.ApartTest.{apart-is}
 use Rattle.laws.proofs.Witness.{reads-one, reads-two, start-sound, both-change, share-the-map, replies, apart, turn-by-turn}
@@ -75,6 +80,21 @@ bounds =
 
 pub independence : Independence
 independence = record { either-order = either-order; any-mixture = any-mixture; tested = apart-is }
+
+pub kept-replies : KeptReplies
+kept-replies =
+    record {
+      tested = λ r. (sound-room r, room-sound r);
+      empty = empty-room;
+      sender-fits = sender-short;
+      call-keeps = room-keeps;
+      sixteen = sixteen;
+      by-the-list = λ m st r s. served-follows m st r s .noted-is;
+      parts-by-the-list = parts-by-the-list;
+      repeated = repeated;
+      either-order = either-order-kept;
+      any-mixture = any-mixture-kept;
+    }
 
 pub witnessed : Witnessed
 witnessed =

@@ -4,7 +4,7 @@ use mathlib.Core.Bool.{true, false}
 use mathlib.Core.List.{[], _∷_}
 use Rattle.base.specs.Lists.{same}
 use Rattle.base.specs.Bytes.{text}
-use Rattle.megaco.specs.Tree.{wellFormed}
+use Rattle.megaco.specs.Tree.{request, wellFormed}
 use Rattle.megaco.specs.Reading.{messageR}
 use Rattle.megaco.specs.Table.{sound}
 use Rattle.megaco.specs.Transaction.{runTransaction}
@@ -25,11 +25,11 @@ tests = tt
 
 -- ---- the pair meets the conditions
 
-pub reads-one : messageR (message one) ≡ wellFormed (read one ∷ [])
+pub reads-one : messageR (message one) ≡ wellFormed (request (read one) ∷ [])
 unfolding tests
 reads-one = refl
 
-pub reads-two : messageR (message two) ≡ wellFormed (read two ∷ [])
+pub reads-two : messageR (message two) ≡ wellFormed (request (read two) ∷ [])
 unfolding tests
 reads-two = refl
 

@@ -7,7 +7,7 @@ use lib.Dec.{eqb, leb}
 use borrow.Author.Tests.{eqb-true, eqb-false, leb-true, not-false}
 use native.Mathlib.Omega.{arith}
 use Rattle.base.specs.Pick.{pick}
-use Rattle.megaco.specs.Table.{lineTerminations, terminations, prop, rec, flow, speech, lowFlow, highFlow, speechWord, ctx, cell, Write, isEphemeral, exists}
+use Rattle.megaco.specs.Table.{lineTerminations, prop, rec, flow, speech, lowFlow, highFlow, speechWord, ctx, cell, Write, isEphemeral, exists}
 use Rattle.megaco.specs.declared.Block.{Block}
 use Rattle.megaco.specs.Tree.{Property}
 use Rattle.megaco.specs.Square.{Square}

@@ -11,6 +11,7 @@ use Rattle.megaco.specs.Table.{Write, ephemerals, lineTerminations, fitted, ctx
 use Rattle.megaco.specs.Blocks.{blockWords, blockAt, noPackets, mostJitter, blocksAreSound}
 use Rattle.megaco.specs.State.{State, wrote}
 use Rattle.megaco.specs.Command.{Outcome, attempts}
+use Rattle.megaco.specs.Room.{Room}
 use Rattle.megaco.specs.Call.{call}
 use Rattle.megaco.specs.declared.Block.{Block}
 
@@ -68,7 +69,7 @@ pub record FiguresKept : Type 0 where
   pub fresh : blocksAreSound (replicate blockWords 0) ≡ true
   -- what an attempt does to each of the 64 blocks, and that a call does nothing else to them
   pub one-attempt : (a : Attempt) (st : State) (k : ℕ) → length (st .blocks) ≡ blockWords → k < ephemerals → OneAttempt a st k
-  pub reached : (n : ℕ) (m : List ℕ) (st : State) (own o : List ℕ) → Reached st (call n m st own o .state)
+  pub reached : (n : ℕ) (m : List ℕ) (st : State) (r : Room) (own o : List ℕ) → Reached st (call n m st r own o .state)
   -- a call keeps sound blocks sound, and as many words, sound or not
-  pub call-keeps : (n : ℕ) (m : List ℕ) (st : State) (own o : List ℕ) → blocksAreSound (st .blocks) ≡ true → blocksAreSound (call n m st own o .state .blocks) ≡ true
-  pub call-length : (n : ℕ) (m : List ℕ) (st : State) (own o : List ℕ) → length (call n m st own o .state .blocks) ≡ length (st .blocks)
+  pub call-keeps : (n : ℕ) (m : List ℕ) (st : State) (r : Room) (own o : List ℕ) → blocksAreSound (st .blocks) ≡ true → blocksAreSound (call n m st r own o .state .blocks) ≡ true
+  pub call-length : (n : ℕ) (m : List ℕ) (st : State) (r : Room) (own o : List ℕ) → length (call n m st r own o .state .blocks) ≡ length (st .blocks)

@@ -9,6 +9,8 @@ pub mod SpeechSample
 pub mod Bounds
 pub mod Mix
 pub mod Demand
+pub mod SoundRoom
+pub mod KeptReplies
 pub mod Witness
 pub mod Needed
 pub mod Hears

@@ -12,7 +12,9 @@ use Rattle.megaco.specs.Square.{Square, squareOf, flowAt}
 use Rattle.megaco.specs.Table.{lineTerminations, terminations, contexts, words, mostLines, fitted, most, mapStart, prop, rec, used, flow, speech, lowFlow, highFlow, speechWord, ctx, cell, get, freeEphemeral, usedEphemerals, ephemeralContexts, members, modeOf, stateOf, sound}
 use Rattle.megaco.specs.Map.{digits, inUse}
 use Rattle.megaco.specs.State.{State}
-use Rattle.megaco.specs.Transaction.{runTransaction, runMessage}
+use Rattle.megaco.specs.Transaction.{runTransaction}
+use Rattle.megaco.specs.Room.{Room}
+use Rattle.megaco.specs.Message.{runMessage}
 use Rattle.megaco.specs.Call.{call}
 
 -- "the diagonal and unused places 0", of m members
@@ -70,10 +72,10 @@ pub record Soundness : Type 0 where
   pub fresh : (n : ℕ) → 0 < n → n ≤ mostLines → sound (replicate (words n) 0) ≡ true
   -- from a sound table every transaction, message and call ends in a sound one, wildcards and `$` included
   pub transaction-keeps : (x : Transaction) (st : State) → sound (st .table) ≡ true → sound (runTransaction x st .state .table) ≡ true
-  pub message-keeps : (m : Message) (st : State) → sound (st .table) ≡ true → sound (runMessage m st .state .table) ≡ true
-  pub call-keeps : (n : ℕ) (m : List ℕ) (st : State) (own o : List ℕ) → sound (st .table) ≡ true → sound (call n m st own o .state .table) ≡ true
+  pub message-keeps : (m : List ℕ) (x : Message) (st : State) (r : Room) → sound (st .table) ≡ true → sound (runMessage m x st r .state .table) ≡ true
+  pub call-keeps : (n : ℕ) (m : List ℕ) (st : State) (r : Room) (own o : List ℕ) → sound (st .table) ≡ true → sound (call n m st r own o .state .table) ≡ true
   -- a call leaves as many words as it was given, sound or not
-  pub call-length : (n : ℕ) (m : List ℕ) (st : State) (own o : List ℕ) → length (call n m st own o .state .table) ≡ length (st .table)
+  pub call-length : (n : ℕ) (m : List ℕ) (st : State) (r : Room) (own o : List ℕ) → length (call n m st r own o .state .table) ≡ length (st .table)
   -- what the map tells, the lowest free ephemeral and how many exist, is "on any sound table proved equal to the full walk"
   pub free-walk : (t : List ℕ) → sound t ≡ true → freeEphemeral t ≡ lowestAbsent 1 (ephemeralContexts t)
   pub used-walk : (t : List ℕ) → sound t ≡ true → usedEphemerals t ≡ inUse (ephemeralContexts t)

@@ -4,7 +4,7 @@ use Prim.Native.Nat.{ℕ}
 use mathlib.Core.Path.{_≡_}
 use mathlib.Core.Bool.{false}
 use mathlib.Core.List.{List, [], _∷_, _++_}
-use Rattle.protocol.specs.Types.{Given, Keep, Speech, Kept, Released, Session, Context, Numbered, Op, Add, Modify, Subtract, Move, Values}
+use Rattle.protocol.specs.Types.{Keep, Speech, Kept, Released, Session, Numbered, Op, Add, Modify, Subtract, Move, Values}
 use Rattle.megaco.specs.State.{state}
 use Rattle.megaco.specs.Table.{speechWords}
 use Rattle.megaco.specs.Reply.{Report, refused}

@@ -7,7 +7,7 @@ use mathlib.Core.List.{List, [], _∷_, _++_}
 use lib.ListN.{getD, replicate, set}
 use Rattle.base.specs.Lists.{same}
 use Rattle.base.specs.Bytes.{text}
-use Rattle.megaco.specs.Tree.{Transaction, transaction, Message, wellFormed, fault400, fault403, fault406}
+use Rattle.megaco.specs.Tree.{Transaction, transaction, request, acknowledge, Message, wellFormed, fault400, fault403, fault406}
 use Rattle.megaco.specs.Reading.{messageR}
 use Rattle.megaco.specs.Table.{words, sound}
 use Rattle.megaco.specs.Blocks.{blockWords}
@@ -23,7 +23,8 @@ message s = text "!/1 [10.0.0.1] " ++ text s
 
 unfoldable pub firstOf : Message → Transaction
 firstOf (wellFormed []) = transaction 0 []
-firstOf (wellFormed (x ∷ xs)) = x
+firstOf (wellFormed (request x ∷ ps)) = x
+firstOf (wellFormed (acknowledge ks ∷ ps)) = transaction 0 []
 firstOf fault400 = transaction 0 []
 firstOf (fault403 id) = transaction 0 []
 firstOf fault406 = transaction 0 []
@@ -66,8 +67,8 @@ alternate (s ∷ ss) (r ∷ rs) = first s (second r (alternate ss rs))
 -- ---- all of it
 
 pub record Witnessed : Type 0 where
-  pub reads-one : messageR (message one) ≡ wellFormed (read one ∷ [])
-  pub reads-two : messageR (message two) ≡ wellFormed (read two ∷ [])
+  pub reads-one : messageR (message one) ≡ wellFormed (request (read one) ∷ [])
+  pub reads-two : messageR (message two) ≡ wellFormed (request (read two) ∷ [])
   pub start-sound : sound start ≡ true
   pub apart : Apart start (read one) (read two)
   -- each of the two changes the table

@@ -1,10 +1,12 @@
 -- Document 01's fourteen examples ('Proof owed'): the six lines of the session and the eight short cases that begin with `T`, one table of
--- rows, proved by one computed test over the whole call, bytes to bytes and table to table, for any reply buffer that is long enough. Four rows more
+-- rows, proved by one computed test over the whole call, bytes to bytes and table to table, for any reply buffer that is long enough and any
+-- sound room in which the pair is not kept. Four rows more
 -- stand on one, eight and sixteen lines (document 02, CR 10), eight are audits (CR 1), and four have figures in the blocks (CR 12).
 use Prim.Native.Nat.{ℕ, _≤_}
 use mathlib.Core.Path.{_≡_, refl, sym, ap, _∙_}
 use mathlib.Core.Bool.{Bool, true, false, not, _&&_, _||_}
 use mathlib.Core.List.{List, [], _∷_}
+use mathlib.Core.Option.{none}
 use lib.ListN.{length, replicate, set}
 use lib.Dec.{ltb, eqb}
 use borrow.Author.Tests.{le-ltb}
@@ -12,15 +14,19 @@ use Rattle.base.specs.Pick.{pick}
 use Rattle.base.specs.Lists.{same}
 use Rattle.base.specs.Bytes.{text, _then_}
 use Rattle.megaco.specs.Tokens.{isMid}
-use Rattle.megaco.specs.Reading.{messageR}
+use Rattle.megaco.specs.Reading.{messageR, senderOf}
 use Rattle.megaco.specs.Table.{mostLines, words}
 use Rattle.megaco.specs.Blocks.{blockWords}
 use Rattle.megaco.specs.Names.{within}
-use Rattle.megaco.specs.Reply.{headerText}
+use Rattle.megaco.specs.Reply.{headerText, errorText, replyText}
 use Rattle.megaco.specs.State.{State, state}
-use Rattle.megaco.specs.Transaction.{Ran, ran, runMessage}
+use Rattle.megaco.specs.Tree.{request, acknowledge, Message, wellFormed, fault400, fault403, fault406}
+use Rattle.megaco.specs.Kept.{find}
+use Rattle.megaco.specs.Room.{Room, keptOf, roomSound}
+use Rattle.megaco.specs.Transaction.{Ran, ran, runTransaction}
+use Rattle.megaco.specs.Message.{Served, served, identifier, answered, runPart, runParts, runMessage}
 use Rattle.megaco.specs.Call.{stateFits, written, replied, taken, call}
-use Rattle.base.proofs.TestLaws.{and-both, same-is}
+use Rattle.base.proofs.TestLaws.{and-both, same-is, clash}
 use Rattle.megaco.proofs.Opened.{opened}
 
 -- the count of lines, a table and the blocks, a message, the reply to it, the table and the blocks after it
@@ -137,9 +143,37 @@ figuresTold =
 
 -- ---- the test of a row, and what it tells
 
--- the state and the reply of a message that is taken
+-- what a message of one request that runs, or one with a fault in its braces, leaves of the state, and its text
+alone-in : Message → State → Ran
+alone-in (wellFormed (request x ∷ [])) st = let y = runTransaction x st in ran (y .state) (y .text then [])
+alone-in (wellFormed (request x ∷ y ∷ ps)) st = ran (state [] []) []
+alone-in (wellFormed (acknowledge ks ∷ ps)) st = ran (state [] []) []
+alone-in (wellFormed []) st = ran (state [] []) []
+alone-in (fault403 id) st = ran st (replyText id (errorText 403))
+alone-in fault400 st = ran (state [] []) []
+alone-in fault406 st = ran (state [] []) []
+
+is-alone : Message → Bool
+is-alone (wellFormed (request x ∷ [])) = true
+is-alone (wellFormed (request x ∷ y ∷ ps)) = false
+is-alone (wellFormed (acknowledge ks ∷ ps)) = false
+is-alone (wellFormed []) = false
+is-alone (fault403 id) = true
+is-alone fault400 = false
+is-alone fault406 = false
+
+-- the pair of the message's request is not kept
+abbrev pub Unkept : List ℕ → Message → Room → Type 0
+Unkept m (wellFormed (request x ∷ [])) r = find m (identifier x) (keptOf r) ≡ none
+Unkept m (wellFormed (request x ∷ y ∷ ps)) r = Unit {0}
+Unkept m (wellFormed (acknowledge ks ∷ ps)) r = Unit {0}
+Unkept m (wellFormed []) r = Unit {0}
+Unkept m (fault403 id) r = Unit {0}
+Unkept m fault400 r = Unit {0}
+Unkept m fault406 r = Unit {0}
+
 computed : List ℕ → State → List ℕ → Ran
-computed m st own = let x = runMessage (messageR m) st in ran (x .state) (headerText own then x .text)
+computed m st own = let x = alone-in (messageR m) st in ran (x .state) (headerText own then x .text)
 
 fits : Ran → List ℕ → List ℕ → List ℕ → Bool
 fits x a u c = same (x .state .table) u && same (x .state .blocks) c && same (x .text) a
@@ -148,7 +182,7 @@ fitting : ℕ → State → Bool
 fitting n st = within n mostLines && stateFits n st
 
 admitted : ℕ → State → List ℕ → Bool
-admitted n st m = fitting n st && not (eqb (length m) 0 || ltb 4096 (length m))
+admitted n st m = fitting n st && (not (eqb (length m) 0 || ltb 4096 (length m)) && is-alone (messageR m))
 
 holds : Row → Bool
 holds (rowWith n t b m a u c) = admitted n (state t b) m && fits (computed m (state t b) own) a u c
@@ -157,9 +191,11 @@ all-hold : List Row → Bool
 all-hold [] = true
 all-hold (r ∷ rs) = holds r && all-hold rs
 
--- a call with a long enough buffer answers, writes and leaves exactly what the row says
+-- a call with a long enough buffer answers, writes and leaves exactly what the row says, whatever sound room is lent in which the pair is not kept
 abbrev pub Answers : Row → Type 0
-Answers (rowWith n t b m a u c) = (o : List ℕ) → 16640 ≤ length o → call n m (state t b) own o ≡ written (state u c) a o
+Answers (rowWith n t b m a u c) =
+    (r : Room) → roomSound r ≡ true → Unkept (senderOf m) (messageR m) r → (o : List ℕ) → 16640 ≤ length o
+    → call n m (state t b) r own o ≡ written (state u c) (runMessage (senderOf m) (messageR m) (state t b) r .room) a o
 
 abbrev pub Hold : List Row → Type 0
 Hold [] = Unit {0}
@@ -174,29 +210,40 @@ not-true true e = sym e
 not-true false e = refl
 
 -- a call that nothing turns down
-taken-is : (n : ℕ) (m : List ℕ) (st : State) (o : List ℕ) → 16640 ≤ length o → fitting n st ≡ true → (eqb (length m) 0 || ltb 4096 (length m)) ≡ false → call n m st own o ≡ taken m st own o
+taken-is : (n : ℕ) (m : List ℕ) (st : State) (r : Room) (o : List ℕ) → 16640 ≤ length o → fitting n st ≡ true → roomSound r ≡ true → (eqb (length m) 0 || ltb 4096 (length m)) ≡ false
+    → call n m st r own o ≡ taken m st r own o
 unfolding call fitting pick
-taken-is n m st o h s e = let p = and-both (within n mostLines) (stateFits n st) s in rw (p .0, le-ltb (length o) 16640 h, p .1, own-is, e)
+taken-is n m st r o h s k e =
+    let p = and-both (within n mostLines) (stateFits n st) s in rw (p .0, le-ltb (length o) 16640 h, p .1, k, own-is, e)
 
-computed-is : (m : List ℕ) (st : State) → computed m st own ≡ record { state = runMessage (messageR m) st .state; text = headerText own then runMessage (messageR m) st .text }
-unfolding computed
-computed-is m st = refl
+alone-is : (m : List ℕ) (x : Message) (st : State) (r : Room) → is-alone x ≡ true → Unkept m x r
+    → runMessage m x st r ≡ served (alone-in x st .state) (runMessage m x st r .room) (alone-in x st .text) true
+unfolding is-alone alone-in runMessage runParts runPart answered
+alone-is m (wellFormed []) st r e u = absurd (clash (sym e))
+alone-is m (wellFormed (request x ∷ [])) st r e u = rw u
+alone-is m (wellFormed (request x ∷ y ∷ ys)) st r e u = absurd (clash (sym e))
+alone-is m (wellFormed (acknowledge ks ∷ ys)) st r e u = absurd (clash (sym e))
+alone-is m fault400 st r e u = absurd (clash (sym e))
+alone-is m (fault403 id) st r e u = refl
+alone-is m fault406 st r e u = absurd (clash (sym e))
 
-row-answers : (r : Row) → holds r ≡ true → Answers r
-unfolding holds admitted fits taken replied
+row-answers : (x : Row) → holds x ≡ true → Answers x
+unfolding holds admitted fits taken replied pick computed
 row-answers (rowWith n t b m a u c) e =
-    λ o h.
+    λ r k v o h.
     let st = state t b in
     let p = and-both (admitted n st m) (fits (computed m st own) a u c) e in
-    let q = and-both (fitting n st) (not (eqb (length m) 0 || ltb 4096 (length m))) (p .0) in
-    let r = and-both (same (computed m st own .state .table) u && same (computed m st own .state .blocks) c) (same (computed m st own .text) a) (p .1) in
-    let s = and-both (same (computed m st own .state .table) u) (same (computed m st own .state .blocks) c) (r .0) in
-    let x : computed m st own .state .table ≡ u = same-is (computed m st own .state .table) u (s .0) in
-    let z : computed m st own .state .blocks ≡ c = same-is (computed m st own .state .blocks) c (s .1) in
-    let y : computed m st own .text ≡ a = same-is (computed m st own .text) a (r .1) in
-    taken-is n m st o h (q .0) (not-true _ (q .1))
-    ∙ ap (λ (z : Ran). written (z .state) (z .text) o) (sym (computed-is m st))
-    ∙ (λ i. written (state (x i) (z i)) (y i) o)
+    let q = and-both (fitting n st) _ (p .0) in
+    let z = and-both (not (eqb (length m) 0 || ltb 4096 (length m))) (is-alone (messageR m)) (q .1) in
+    let w = and-both (same (computed m st own .state .table) u && same (computed m st own .state .blocks) c) (same (computed m st own .text) a) (p .1) in
+    let s = and-both (same (computed m st own .state .table) u) (same (computed m st own .state .blocks) c) (w .0) in
+    let x : alone-in (messageR m) st .state .table ≡ u = same-is (computed m st own .state .table) u (s .0) in
+    let d : alone-in (messageR m) st .state .blocks ≡ c = same-is (computed m st own .state .blocks) c (s .1) in
+    let y : headerText own then alone-in (messageR m) st .text ≡ a = same-is (computed m st own .text) a (w .1) in
+    let g : Room = runMessage (senderOf m) (messageR m) st r .room in
+    taken-is n m st r o h (q .0) k (not-true _ (z .0))
+    ∙ ap (λ (d : Served). replied own d o) (alone-is (senderOf m) (messageR m) st r (z .1) v)
+    ∙ (λ i. written (state (x i) (d i)) g (y i) o)
 
 rows-answer : (rs : List Row) → all-hold rs ≡ true → Hold rs
 unfolding all-hold
@@ -206,7 +253,7 @@ rows-answer (r ∷ rs) e =
     (row-answers r (p .0), rows-answer rs (p .1))
 
 examples-compute : all-hold examples ≡ true
-unfolding examples all-hold holds admitted fitting fits computed opened
+unfolding examples all-hold holds admitted fitting fits computed alone-in is-alone opened
 examples-compute = refl
 
 -- the fourteen examples
@@ -216,7 +263,7 @@ examples-hold = rows-answer examples examples-compute
 
 -- on one, eight and sixteen lines
 shelves-compute : all-hold shelves ≡ true
-unfolding shelves all-hold holds admitted fitting fits computed opened
+unfolding shelves all-hold holds admitted fitting fits computed alone-in is-alone opened
 shelves-compute = refl
 
 pub shelves-hold : Hold shelves
@@ -229,7 +276,7 @@ session-ends = refl
 
 -- audits
 audited-compute : all-hold audited ≡ true
-unfolding audited all-hold holds admitted fitting fits computed opened
+unfolding audited all-hold holds admitted fitting fits computed alone-in is-alone opened
 audited-compute = refl
 
 pub audited-hold : Hold audited
@@ -238,7 +285,7 @@ audited-hold = rows-answer audited audited-compute
 
 -- figures
 figures-compute : all-hold figuresTold ≡ true
-unfolding figuresTold all-hold holds admitted fitting fits computed opened
+unfolding figuresTold all-hold holds admitted fitting fits computed alone-in is-alone opened
 figures-compute = refl
 
 pub figures-hold : Hold figuresTold

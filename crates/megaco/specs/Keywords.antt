@@ -9,7 +9,7 @@ use Rattle.base.specs.Lists.{same}
 use Rattle.base.specs.Bytes.{text}
 use Rattle.megaco.specs.Bytes.{capitals}
 use Rattle.megaco.specs.declared.Token.{Token}
-use Rattle.megaco.specs.declared.Token.the-variants.{AddToken, AuditToken, AuditValueToken, BothwayToken, CtxToken, EmergencyToken, ErrorToken, InactiveToken, IsolateToken, InSvcToken, LocalToken, LocalControlToken, LoopbackToken, MediaToken, MegacopToken, ModeToken, ModifyToken, MoveToken, OnewayToken, OutOfSvcToken, PriorityToken, RecvonlyToken, RemoteToken, ReplyToken, SendonlyToken, SendrecvToken, ServiceStatesToken, StatsToken, SubtractToken, TerminationStateToken, TestToken, TopologyToken, TransToken}
+use Rattle.megaco.specs.declared.Token.the-variants.{AddToken, AuditToken, AuditValueToken, BothwayToken, CtxToken, EmergencyToken, ErrorToken, InactiveToken, IsolateToken, InSvcToken, LocalToken, LocalControlToken, LoopbackToken, MediaToken, MegacopToken, ModeToken, ModifyToken, MoveToken, OnewayToken, OutOfSvcToken, PriorityToken, RecvonlyToken, RemoteToken, ReplyToken, SendonlyToken, SendrecvToken, ServiceStatesToken, StatsToken, SubtractToken, TerminationStateToken, TestToken, TopologyToken, TransToken, ResponseAckToken}
 
 pub data Row : Type 0 where
   row : (meaning : Token) (long short : List ℕ) → Row
@@ -50,6 +50,7 @@ page =
     ∷ row TestToken (text "TEST") (text "TE")
     ∷ row TopologyToken (text "TOPOLOGY") (text "TP")
     ∷ row TransToken (text "TRANSACTION") (text "T")
+    ∷ row ResponseAckToken (text "TRANSACTIONRESPONSEACK") (text "K")
     ∷ []
 
 -- ---- which token
@@ -89,6 +90,7 @@ numberOf TopologyToken = 29
 numberOf LocalToken = 30
 numberOf RemoteToken = 31
 numberOf StatsToken = 32
+numberOf ResponseAckToken = 33
 
 unfoldable pub isToken : Token → Token → Bool
 isToken j k = eqb (numberOf j) (numberOf k)

@@ -12,9 +12,10 @@ use Rattle.megaco.specs.White.{after, whiteAt, sepAt}
 use Rattle.megaco.specs.Keywords.{spells}
 use Rattle.megaco.specs.Items.{called}
 use Rattle.megaco.specs.declared.Token.{Token}
-use Rattle.megaco.specs.declared.Token.the-variants.{AuditToken, MediaToken, LocalToken, RemoteToken, MegacopToken, TransToken, CtxToken, PriorityToken, EmergencyToken, TopologyToken, IsolateToken, OnewayToken, BothwayToken}
-use Rattle.megaco.specs.Tokens.{markAt, signAt, rowAt, wordAt, keywordAt, terminationAt, numberAt, valueAt, octetsAt, mIdAt}
-use Rattle.megaco.specs.Tree.{Value, plain, quoted, octets, ItemOf, item, Item, Command, command, Triple, triple, Property, priority, emergency, topology, Action, action, Transaction, transaction, Message, wellFormed, fault400, fault403, fault406}
+use Rattle.megaco.specs.declared.Token.the-variants.{AuditToken, MediaToken, LocalToken, RemoteToken, MegacopToken, TransToken, CtxToken, PriorityToken, EmergencyToken, TopologyToken, IsolateToken, OnewayToken, BothwayToken, ResponseAckToken}
+use Rattle.megaco.specs.Tokens.{markAt, signAt, rowAt, wordAt, keywordAt, terminationAt, numberAt, valueAt, octetsAt, mIdAt, atLeast}
+use Rattle.megaco.specs.Tree.{Value, plain, quoted, octets, ItemOf, item, Item, Command, command, Triple, triple, Property, priority, emergency, topology, Action, action, Transaction, transaction, Message, wellFormed, fault400, fault403, fault406, Part, request, acknowledge}
+use Rattle.megaco.specs.declared.Ack.{Ack}
 use Rattle.megaco.specs.declared.Parsed.{Parsed}
 use Rattle.megaco.specs.declared.Parsed.the-variants.{Next, Fault}
 use Rattle.megaco.specs.declared.Number.{Number}
@@ -250,6 +251,31 @@ actionR s at =
     bind (bodyR (unlimited s) s r) (λ b e.
     skip (signAt rightBrace s e) (got (actionOf c b))))))
 
+-- ---- acknowledgements
+abbrev pub ack : ℕ → ℕ → Ack
+ack first last = record { first = first; last = last }
+
+-- an identifier from a lowest one on: "a backward range or an identifier 0 too" is a fault
+unfoldable pub identifierFrom : ℕ → List ℕ → ℕ → Number
+identifierFrom low s at = atLeast low (numberAt s at 10 4294967295)
+
+-- Annex B.2's transactionAck: an identifier, or a first and a last with `-` between
+unfoldable pub rangeR : List ℕ → ℕ → Read Ack
+rangeR s at =
+    bind (readNumber (identifierFrom 1 s at) (λ v. v)) (λ v p.
+    pick (isAt s p dash) (readNumber (identifierFrom v s (p + 1)) (ack v)) (got (ack v v) p))
+
+unfoldable pub ackR : List ℕ → ℕ → Read Ack
+ackR s at = spaced s (rangeR s at)
+
+-- "TransactionResponseAck/K with identifiers and ranges": K `{` those, joined by commas `}`
+unfoldable pub acksR : List ℕ → ℕ → Read (List Ack)
+acksR s at =
+    skip (after (wordAt s at) (whiteAt s)) (λ p.
+    skip (signAt leftBrace s p) (λ q.
+    bind (listR (ackR s) s (unlimited s) q) (λ ks e.
+    skip (signAt rightBrace s e) (got ks))))
+
 -- ---- transactions and the message: where a fault is told
 -- "1 to 16 actions, comma between", from behind the opening brace through the closing one
 unfoldable pub actionsR : List ℕ → ℕ → Read (List Action)
@@ -269,10 +295,15 @@ unfoldable pub inside : ℕ → Read (List Action) → (List Action → ℕ → 
 inside id (got acts p) f = f acts p
 inside id fault f = fault403 id
 
-unfoldable pub followed : Transaction → Message → Message
+-- "any fault in K .. is 400"
+unfoldable pub acknowledged : Read (List Ack) → (List Ack → ℕ → Message) → Message
+acknowledged (got ks p) f = f ks p
+acknowledged fault f = fault400
+
+unfoldable pub followed : Part → Message → Message
 followed x = elim [ wellFormed xs ↦ wellFormed (x ∷ xs) | fault400 ↦ fault400 | fault403 id ↦ fault403 id | fault406 ↦ fault406 ]
 
-unfoldable pub endOr : (ℕ → Message) → Transaction → List ℕ → ℕ → Message
+unfoldable pub endOr : (ℕ → Message) → Part → List ℕ → ℕ → Message
 endOr rest x s at = let more = followed x (rest at) in pick (ltb at (length s)) more (wellFormed (x ∷ []))
 
 -- a transaction from behind its identifier, and what may follow it
@@ -280,15 +311,25 @@ unfoldable pub bracesThen : (ℕ → Message) → ℕ → List ℕ → ℕ → M
 bracesThen rest id s at =
     elsewhere (after (whiteAt s at) (markAt leftBrace s)) (λ p.
     inside id (actionsR s p) (λ acts q.
-    elsewhere (whiteAt s q) (λ e. endOr rest (transaction id acts) s e)))
+    elsewhere (whiteAt s q) (λ e. endOr rest (request (transaction id acts)) s e)))
 
--- at most k transactions, to the end of the message. "or identifier 0": 403 as soon as its digits end
+-- a transaction, and what may follow it. "or identifier 0": 403 as soon as its digits end
+unfoldable pub requestThen : (ℕ → Message) → List ℕ → ℕ → Message
+requestThen rest s at =
+    elsewhere (keyAt TransToken s at) (λ p.
+    numbered (numberAt s p 10 4294967295) (λ id q.
+    let more = bracesThen rest id s q in pick (eqb id 0) (fault403 0) more))
+
+-- an acknowledgement, and what may follow it
+unfoldable pub acksThen : (ℕ → Message) → List ℕ → ℕ → Message
+acksThen rest s at = acknowledged (acksR s at) (λ ks e. endOr rest (acknowledge ks) s e)
+
+-- at most k of them, to the end of the message
 unfoldable pub transactionsR : ℕ → List ℕ → ℕ → Message
 transactionsR zero s at = fault400
 transactionsR (suc k) s at =
-    elsewhere (keyAt TransToken s at) (λ p.
-    numbered (numberAt s p 10 4294967295) (λ id q.
-    let rest = bracesThen (transactionsR k s) id s q in pick (eqb id 0) (fault403 0) rest))
+    let requests = requestThen (transactionsR k s) s at in
+    let acks = acksThen (transactionsR k s) s at in pick (spells ResponseAckToken (wordHere s at)) acks requests
 
 -- "MEGACO `/`", before the version
 unfoldable pub startAt : List ℕ → Parsed
@@ -297,6 +338,21 @@ startAt s = after (whiteAt s 0) (λ p. after (pick (isAt s p 0x21) (Next (p + 1)
 -- the mId, with white space on both sides
 unfoldable pub senderAt : List ℕ → ℕ → Parsed
 senderAt s at = after (sepAt s at) (λ p. after (mIdAt s p) (sepAt s))
+
+-- "the sender's mId bytes", as received
+unfoldable pub senderR : List ℕ → Read (List ℕ)
+senderR s =
+    skip (startAt s) (λ p.
+    bind (readNumber (numberAt s p 2 99) (λ v. v)) (λ v q.
+    skip (sepAt s q) (λ a. reading (mIdAt s a) (part s a))))
+
+-- none where no header reads: such a message runs nothing
+unfoldable pub orNoBytes : Read (List ℕ) → List ℕ
+orNoBytes (got m p) = m
+orNoBytes fault = []
+
+unfoldable pub senderOf : List ℕ → List ℕ
+senderOf s = orNoBytes (senderR s)
 
 -- "MEGACO `/` version (1 or 2 digits), mId, then 1 to 8 transactions". "A header .. that reads well with a version other than 1: ER=406{}"
 unfoldable pub messageR : List ℕ → Message

@@ -74,6 +74,11 @@ numberFrom at most limit (b ∷ t) n v =
 unfoldable pub numberAt : List ℕ → ℕ → ℕ → ℕ → Number
 numberAt s at most limit = numberFrom at most limit (drop at s) at 0
 
+-- a number that is not below another
+unfoldable pub atLeast : ℕ → Number → Number
+atLeast low (Got v p) = pick (leb low v) (Got v p) Bad
+atLeast low Bad = Bad
+
 unfoldable pub afterNumber : Number → (ℕ → Parsed) → Parsed
 afterNumber (Got v p) f = f p
 afterNumber Bad f = Fault

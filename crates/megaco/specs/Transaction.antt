@@ -1,13 +1,12 @@
--- Running a transaction, and the transactions of a message (document 01, 'Running'): a list of steps, action starts and commands.
+-- Running a transaction (document 01, 'Running'): a list of steps, action starts and commands.
 use Prim.Native.Nat.{ℕ}
 use mathlib.Core.Bool.{Bool, true, false}
 use mathlib.Core.List.{List, [], _∷_, _++_}
 use Rattle.base.specs.Pick.{pick}
-use Rattle.base.specs.Bytes.{text, _then_}
-use Rattle.megaco.specs.Tree.{Command, Property, Action, action, Transaction, transaction, Message, wellFormed, fault400, fault403, fault406}
+use Rattle.megaco.specs.Tree.{Command, Property, Action, action, Transaction, transaction}
 use Rattle.megaco.specs.State.{State, wrote}
 use Rattle.megaco.specs.Topology.{triplesOf, linksOf}
-use Rattle.megaco.specs.Reply.{Acted, errorText, replyText, transactionText}
+use Rattle.megaco.specs.Reply.{Acted, transactionText}
 use Rattle.megaco.specs.Attempt.{seen, numberOf}
 use Rattle.megaco.specs.Command.{Outcome, runCommand}
 use Rattle.megaco.specs.Action.{Start, started}
@@ -73,8 +72,8 @@ run (s ∷ ss) x = run ss (step s x)
 abbrev pub fresh : Progress
 fresh = progress true []
 
--- ---- transactions and messages
--- the state and the text that a part of a message leaves
+-- ---- a transaction
+-- the state and the text that it leaves
 pub record Ran : Type 0 where
   pub state : State
   pub text : List ℕ
@@ -85,16 +84,3 @@ ran st x = record { state = st; text = x }
 -- a transaction's state and its `P=id{..}`
 unfoldable pub runTransaction : Transaction → State → Ran
 runTransaction (transaction id acts) st = let x = run (steps acts) (course st fresh) in ran (x .state) (transactionText id (x .progress .acts))
-
-unfoldable pub runTransactions : List Transaction → State → Ran
-runTransactions [] st = ran st []
-runTransactions (x ∷ xs) st =
-    let y = runTransaction x st in
-    let z = runTransactions xs (y .state) in ran (z .state) (y .text then z .text)
-
--- "The whole message is read before anything runs. On a fault nothing runs"
-unfoldable pub runMessage : Message → State → Ran
-runMessage (wellFormed xs) st = runTransactions xs st
-runMessage fault400 st = ran st (errorText 400)
-runMessage (fault403 id) st = ran st (replyText id (errorText 403))
-runMessage fault406 st = ran st (errorText 406)

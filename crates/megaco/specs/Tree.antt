@@ -3,6 +3,7 @@ use Prim.Native.Nat.{ℕ, zero, suc}
 use mathlib.Core.Bool.{Bool}
 use mathlib.Core.List.{List}
 use mathlib.Core.Option.{Option}
+use Rattle.megaco.specs.declared.Ack.{Ack}
 use Rattle.megaco.specs.declared.Context.{Context}
 use Rattle.megaco.specs.declared.Direction.{Direction}
 
@@ -43,7 +44,12 @@ pub data Action : Type 0 where
 pub data Transaction : Type 0 where
   transaction : (id : ℕ) (actions : List Action) → Transaction
 
+-- TransactionResponseAck/K stands "in its turn among the transactions and as one of the eight" (document 02, CR 3)
+pub data Part : Type 0 where
+  request : Transaction → Part
+  acknowledge : List Ack → Part
+
 pub data Message : Type 0 where
-  wellFormed : List Transaction → Message
+  wellFormed : List Part → Message
   fault400 fault406 : Message
   fault403 : (id : ℕ) → Message

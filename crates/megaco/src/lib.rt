@@ -59,6 +59,7 @@ pub enum Token {
     TestToken,
     TopologyToken,
     TransToken,
+    ResponseAckToken,
 }
 
 // An action's context: `-`, a number, `$`, `*`.
@@ -104,6 +105,12 @@ pub enum Property {
     Priority(u32),
     Emergency,
     Topology,
+}
+
+// What an acknowledgement names: the identifiers from a first to a last.
+pub struct Ack {
+    pub first: u32,
+    pub last: u32,
 }
 
 // How media flows between the two terminations of a triple: neither way, from the first to the second, both ways.

@@ -7,7 +7,7 @@ pub use Rattle.megaco.specs.declared.Number.the-variants.{Got, Bad}
 pub use Rattle.megaco.specs.declared.Class.{Class}
 pub use Rattle.megaco.specs.declared.Class.the-variants.{WordByte, NameByte, SafeByte, QuotedByte, DomainByte}
 pub use Rattle.megaco.specs.declared.Token.{Token}
-pub use Rattle.megaco.specs.declared.Token.the-variants.{AddToken, AuditToken, AuditValueToken, BothwayToken, CtxToken, EmergencyToken, ErrorToken, InactiveToken, IsolateToken, InSvcToken, LocalToken, LocalControlToken, LoopbackToken, MediaToken, MegacopToken, ModeToken, ModifyToken, MoveToken, OnewayToken, OutOfSvcToken, PriorityToken, RecvonlyToken, RemoteToken, ReplyToken, SendonlyToken, SendrecvToken, ServiceStatesToken, SubtractToken, TerminationStateToken, TestToken, TopologyToken, TransToken}
+pub use Rattle.megaco.specs.declared.Token.the-variants.{AddToken, AuditToken, AuditValueToken, BothwayToken, CtxToken, EmergencyToken, ErrorToken, InactiveToken, IsolateToken, InSvcToken, LocalToken, LocalControlToken, LoopbackToken, MediaToken, MegacopToken, ModeToken, ModifyToken, MoveToken, OnewayToken, OutOfSvcToken, PriorityToken, RecvonlyToken, RemoteToken, ReplyToken, SendonlyToken, SendrecvToken, ServiceStatesToken, SubtractToken, TerminationStateToken, TestToken, TopologyToken, TransToken, ResponseAckToken}
 pub use Rattle.megaco.specs.declared.Context.{Context}
 pub use Rattle.megaco.specs.declared.Context.the-variants.{Null, Numbered, Choose, All}
 pub use Rattle.megaco.specs.declared.Property.{Property}
@@ -33,6 +33,7 @@ pub use Rattle.megaco.specs.declared.Checked.{Checked}
 pub use Rattle.megaco.specs.declared.Checked.the-variants.{Passes, Fails}
 pub use Rattle.megaco.specs.declared.Kind.{Kind}
 pub use Rattle.megaco.specs.declared.Kind.the-variants.{InControl, InState}
+pub use Rattle.megaco.specs.declared.Ack.{Ack}
 pub use Rattle.megaco.specs.declared.Descriptors.{Descriptors}
 pub use Rattle.megaco.specs.declared.Side.{Side}
 pub use Rattle.megaco.specs.declared.Side.the-variants.{OfLocal, OfRemote}

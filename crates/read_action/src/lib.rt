@@ -28,7 +28,7 @@ pub fn key(s: &[u8], at: usize, k: Token) -> Parsed
 }
 
 // The place after a number.
-fn number_place(n: Number) -> Parsed
+pub fn number_place(n: Number) -> Parsed
     ensures { λ r. ⌜ r ≡ afterNumber n Next ⌝ }
 {
     match n {

@@ -9,15 +9,15 @@ use lib.ListN.{drop}
 use lib.Dec.{ltb, leb, eqb}
 use Rattle.base.specs.Pick.{pick}
 use Rattle.base.specs.Lists.{isAt, part}
-use Rattle.megaco.specs.Bytes.{equal, comma, leftBrace, rightBrace, slash, quote, dollar, star, isDigit}
+use Rattle.megaco.specs.Bytes.{equal, dash, comma, leftBrace, rightBrace, slash, quote, dollar, star, isDigit}
 use Rattle.megaco.specs.White.{after, goesOn, insideAfter, stopAt, whiteFrom, whiteAt}
 use Rattle.megaco.specs.Keywords.{spells}
-use Rattle.megaco.specs.Tokens.{markAt, signAt, rowAt, upTo64, letterAt, wordAt, keywordAt, pathStart, pathNameAt, terminationAt, numberEnd, numberFrom, numberAt, afterNumber, quotedAt, plainAt, valueAt, octetsFrom, octetsAt}
-use Rattle.megaco.specs.Reading.{Read, unlimited, keyAt, wordHere, mediaHere, speechHere}
+use Rattle.megaco.specs.Tokens.{markAt, signAt, rowAt, upTo64, letterAt, wordAt, keywordAt, pathStart, pathNameAt, terminationAt, numberEnd, numberFrom, numberAt, afterNumber, quotedAt, plainAt, valueAt, octetsFrom, octetsAt, atLeast}
+use Rattle.megaco.specs.Reading.{Read, unlimited, keyAt, wordHere, mediaHere, speechHere, identifierFrom}
 use Rattle.protocol.specs.Types.{Parsed, Next, Fault, Number, Got, Bad, Class, WordByte, NameByte, SafeByte, QuotedByte, Token, PriorityToken, EmergencyToken, TopologyToken}
 use Rattle.tokens.proofs.TokenLaws.{pick-ind, row-ahead}
-use Rattle.read_command.specs.Production.{Production, numberAfter, spacedAt, joinedAt, listAt}
-use Rattle.read_command.specs.Places.{secondAt, valueItemAt, bracesAt, headAt, emptyAt, orNoneAt, itemAt, itemsAt, speechAt, mediaItemAt, mediaAt, topItemAt, priorityAt, propertyAt, isDirection, directionAt, partyAt, tripleAt, triplesAt, topologyAt}
+use Rattle.read_command.specs.Production.{Production, numberAfter, spacedAt, joinedAt, listAt, valueIn}
+use Rattle.read_command.specs.Places.{secondAt, valueItemAt, bracesAt, headAt, emptyAt, orNoneAt, itemAt, itemsAt, speechAt, mediaItemAt, mediaAt, topItemAt, priorityAt, propertyAt, isDirection, directionAt, partyAt, tripleAt, triplesAt, topologyAt, rangeAt, ackAt}
 
 abbrev pub Onward : ℕ → Parsed → Type 0
 Onward at x = (p : ℕ) → x ≡ Next p → at ≤ p
@@ -276,3 +276,26 @@ property-on s at =
     (spaced-on s at (wordAt s at) (word-on s at))
     (pick-on at (spells TopologyToken (wordHere s at)) _ _ (topology-on s at)
     (spaced-on s at _ (after-number-on at _ (number-after-on at (keyAt PriorityToken s at) _ (key-on PriorityToken s at) (λ p. number-on s p 5 99999)))))
+
+-- ---- acknowledgements
+
+at-least-on : (at low : ℕ) (n : Number) → NumberOn at n → NumberOn at (atLeast low n)
+unfolding atLeast
+at-least-on at low (Got v q) h = pick-ind (NumberOn at) (leb low v) _ _ h (bad-on at)
+at-least-on at low Bad h = bad-on at
+
+identifier-from-on : (s : List ℕ) (at low : ℕ) → NumberOn at (identifierFrom low s at)
+unfolding identifierFrom
+identifier-from-on s at low = at-least-on at low _ (number-on s at 10 4294967295)
+
+range-on : (s : List ℕ) (at : ℕ) → Onward at (rangeAt s at .place)
+unfolding rangeAt
+range-on s at =
+    after-on at (afterNumber (identifierFrom 1 s at) Next) _ (after-number-on at _ (identifier-from-on s at 1))
+    (λ p. pick-on p (isAt s p dash) _ _
+    (earlier p (p + 1) _ (le-add-right p 1) (after-number-on (p + 1) _ (identifier-from-on s (p + 1) (valueIn (identifierFrom 1 s at)))))
+    (next-on p p (le-refl p)))
+
+pub ack-on : (s : List ℕ) (at : ℕ) → Onward at (ackAt s at .place)
+unfolding ackAt
+ack-on s at = spaced-on s at _ (range-on s at)

@@ -12,11 +12,12 @@ use Rattle.base.specs.Lists.{isAt}
 use Rattle.megaco.specs.Bytes.{leftBrace, rightBrace}
 use Rattle.megaco.specs.White.{after, whiteAt}
 use Rattle.megaco.specs.Tokens.{markAt, keywordAt, numberAt}
-use Rattle.megaco.specs.Tree.{Action, Transaction, transaction, Message, wellFormed, fault400, fault403, fault406}
-use Rattle.megaco.specs.Reading.{Read, reading, keyAt, actionsR, elsewhere, numbered, inside, followed, endOr, bracesThen, transactionsR, startAt, senderAt, messageR}
-use Rattle.protocol.specs.Types.{Parsed, Next, Fault, Number, Got, Bad, MegacopToken, TransToken}
+use Rattle.megaco.specs.Keywords.{spells}
+use Rattle.megaco.specs.Tree.{Action, Transaction, transaction, Part, request, acknowledge, Message, wellFormed, fault400, fault403, fault406}
+use Rattle.megaco.specs.Reading.{Read, reading, keyAt, wordHere, actionsR, acksR, elsewhere, numbered, inside, acknowledged, followed, endOr, bracesThen, requestThen, acksThen, transactionsR, startAt, senderAt, messageR}
+use Rattle.protocol.specs.Types.{Parsed, Next, Fault, Number, Got, Bad, MegacopToken, TransToken, ResponseAckToken, Ack}
 use Rattle.read_command.specs.Production.{endOf, valueIn, nextIn, numberAfter, pastWhite, found, Production}
-use Rattle.read_command.specs.Places.{actionsAt, bracedAt}
+use Rattle.read_command.specs.Places.{actionsAt, bracedAt, acksAt, acksStart, acknowledgementAt}
 use Rattle.read_command.specs.declared.Braces.{Braces}
 use Rattle.read_command.specs.declared.Braces.the-variants.{Past, Outside, Within}
 use Rattle.read_command.specs.declared.Verdict.{Verdict}
@@ -77,6 +78,23 @@ closingEnd s at = pastWhite s (endOf (markAt rightBrace s at))
 unfoldable pub transactionEnd : List ℕ → ℕ → ℕ
 transactionEnd s at = closingEnd s (actionsAt s (actionsStart s at) .end)
 
+-- whether an acknowledgement stands here, and no transaction; what it names, and its end
+unfoldable pub isAcknowledgement : List ℕ → ℕ → Bool
+isAcknowledgement s at = spells ResponseAckToken (wordHere s at)
+
+unfoldable pub acksOf : List ℕ → ℕ → List Ack
+acksOf s at = acknowledgementAt s at .tree
+
+unfoldable pub acknowledgementEnd : List ℕ → ℕ → ℕ
+acknowledgementEnd s at = acknowledgementAt s at .end
+
+-- one of the eight, and its end
+unfoldable pub partOf : List ℕ → ℕ → Part
+partOf s at = pick (isAcknowledgement s at) (acknowledge (acksOf s at)) (request (transactionOf s at))
+
+unfoldable pub partEnd : List ℕ → ℕ → ℕ
+partEnd s at = pick (isAcknowledgement s at) (acknowledgementEnd s at) (transactionEnd s at)
+
 -- behind the header
 unfoldable pub headerEnd : List ℕ → ℕ
 headerEnd s = endOf (senderAt s (nextIn (versionAt s)))
@@ -91,7 +109,7 @@ codeOf (Fault403 id) = 403
 codeOf WrongVersion406 = 406
 
 -- what the verdict and the tree told by position say together
-unfoldable pub messageBy : Verdict → List Transaction → Message
+unfoldable pub messageBy : Verdict → List Part → Message
 messageBy WellFormed xs = wellFormed xs
 messageBy Fault400 xs = fault400
 messageBy (Fault403 id) xs = fault403 id
@@ -99,10 +117,10 @@ messageBy WrongVersion406 xs = fault406
 
 pub record MessageProduction (m : Message) : Type 0 where
   pub verdict : Verdict
-  pub tree : List Transaction
+  pub tree : List Part
   pub law : m ≡ messageBy verdict tree
 
-module _ (xs : List Transaction) where
+module _ (xs : List Part) where
   pub elsewhere-law : (x : Parsed) (f : ℕ → Message) (g : ℕ → Verdict) → f (endOf x) ≡ messageBy (g (endOf x)) xs → elsewhere x f ≡ messageBy (orFault400 x g) xs
   unfolding elsewhere orFault400 endOf messageBy
   elsewhere-law (Next p) f g h = h
@@ -136,19 +154,29 @@ module _ (xs : List Transaction) where
         by (Next p) n = rw (n p refl) at l
         by Fault n = unfold afterBraces messageBy in refl
 
+  -- an acknowledgement
+  acknowledged-law : {r : Read (List Ack)} (x : Production r) (f : List Ack → ℕ → Message) (g : ℕ → Verdict)
+      → f (x .tree) (x .end) ≡ messageBy (g (x .end)) xs → acknowledged r f ≡ messageBy (orFault400 (x .place) g) xs
+  unfolding acknowledged orFault400 reading
+  acknowledged-law {r} x f g l = rw (x .law .tree) (by (x .place) (x .law .ends))
+    where
+      by : (y : Parsed) → ((p : ℕ) → y ≡ Next p → x .end ≡ p) → acknowledged (found y (x .tree)) f ≡ messageBy (orFault400 y g) xs
+      by (Next p) n = rw (n p refl) at l
+      by Fault n = unfold messageBy in refl
+
   pick-law : (t : Bool) {m n : Message} (v w : Verdict) → m ≡ messageBy v xs → n ≡ messageBy w xs → pick t m n ≡ messageBy (pick t v w) xs
   unfolding pick
   pick-law true v w h k = h
   pick-law false v w h k = k
 
-  followed-law : (x : Transaction) (v : Verdict) → followed x (messageBy v xs) ≡ messageBy v (x ∷ xs)
+  followed-law : (x : Part) (v : Verdict) → followed x (messageBy v xs) ≡ messageBy v (x ∷ xs)
   unfolding followed messageBy
   followed-law x WellFormed = refl
   followed-law x Fault400 = refl
   followed-law x (Fault403 id) = refl
   followed-law x WrongVersion406 = refl
 
-  last-law : (t : Bool) (x : Transaction) {m : Message} (v : Verdict) → m ≡ messageBy v xs → pick t (followed x m) (wellFormed (x ∷ [])) ≡ messageBy (pick t v WellFormed) (x ∷ pick t xs [])
+  last-law : (t : Bool) (x : Part) {m : Message} (v : Verdict) → m ≡ messageBy v xs → pick t (followed x m) (wellFormed (x ∷ [])) ≡ messageBy (pick t v WellFormed) (x ∷ pick t xs [])
   unfolding pick messageBy
   last-law true x {m} v h = rw h (followed-law x v)
   last-law false x v h = refl
@@ -204,13 +232,21 @@ module _ (id : ℕ) (s : List ℕ) (at : ℕ) {f : List Action → ℕ → Messa
   abbrev pub bracesT : MessageProduction (elsewhere (after (whiteAt s at) (markAt leftBrace s)) (λ p. inside id (actionsR s p) (λ l q. elsewhere (whiteAt s q) (f l))))
   bracesT = record { verdict = afterBraces id (transactionAt s at) (λ e. k acts e .verdict); tree = k acts end .tree; law = braces-law }
 
-pub end-law : {r : ℕ → Message} (rest : (e : ℕ) → MessageProduction (r e)) (x : Transaction) (s : List ℕ) (at : ℕ)
+pub end-law : {r : ℕ → Message} (rest : (e : ℕ) → MessageProduction (r e)) (x : Part) (s : List ℕ) (at : ℕ)
     → endOr r x s at ≡ messageBy (pick (ltb at (length s)) (rest at .verdict) WellFormed) (x ∷ pick (ltb at (length s)) (rest at .tree) [])
 unfolding endOr
 end-law rest x s at = last-law (rest at .tree) (ltb at (length s)) x (rest at .verdict) (rest at .law)
 
+-- an acknowledgement
+pub acks-law : {r : Read (List Ack)} (x : Production r) {f : List Ack → ℕ → Message} (k : (ks : List Ack) (e : ℕ) → MessageProduction (f ks e))
+    → acknowledged r f ≡ messageBy (orFault400 (x .place) (λ e. k (x .tree) e .verdict)) (k (x .tree) (x .end) .tree)
+acks-law x {f} k = acknowledged-law (k (x .tree) (x .end) .tree) x f (λ e. k (x .tree) e .verdict) (k (x .tree) (x .end) .law)
+
+abbrev pub acknowledgedT : {r : Read (List Ack)} (x : Production r) {f : List Ack → ℕ → Message} → ((ks : List Ack) (e : ℕ) → MessageProduction (f ks e)) → MessageProduction (acknowledged r f)
+acknowledgedT x k = record { verdict = orFault400 (x .place) (λ e. k (x .tree) e .verdict); tree = k (x .tree) (x .end) .tree; law = acks-law x k }
+
 -- the end of the message, or what follows a transaction
-abbrev pub endT : {r : ℕ → Message} (rest : (e : ℕ) → MessageProduction (r e)) (x : Transaction) (s : List ℕ) (at : ℕ) → MessageProduction (endOr r x s at)
+abbrev pub endT : {r : ℕ → Message} (rest : (e : ℕ) → MessageProduction (r e)) (x : Part) (s : List ℕ) (at : ℕ) → MessageProduction (endOr r x s at)
 endT rest x s at =
     record { verdict = pick (ltb at (length s)) (rest at .verdict) WellFormed; tree = x ∷ pick (ltb at (length s)) (rest at .tree) []; law = end-law rest x s at }
 
@@ -228,13 +264,47 @@ pub version-is : (s : List ℕ) → versionAt s ≡ numberAfter (startAt s) (λ 
 unfolding versionAt
 version-is s = refl
 
--- at most k transactions, to the end of the message
-unfoldable pub transactionsAt : (k : ℕ) (s : List ℕ) (at : ℕ) → MessageProduction (transactionsR k s at)
-unfolding transactionsR bracesThen actionsStart transactionOf transactionEnd
-transactionsAt zero s at = record { verdict = Fault400; tree = []; law = none-law }
-transactionsAt (suc k) s at =
+-- a transaction, and what may follow it
+unfoldable pub requestT : {r : ℕ → Message} (rest : (e : ℕ) → MessageProduction (r e)) (s : List ℕ) (at : ℕ) → MessageProduction (requestThen r s at)
+unfolding requestThen bracesThen
+requestT rest s at =
     numberT (identifierAt s at) (keyAt TransToken s at) (λ p. numberAt s p 10 4294967295) (identifier-is s at) (λ id q.
-    unlessT (eqb id 0) (bracesT id s q (λ acts e. endT (transactionsAt k s) (transaction id acts) s e)))
+    unlessT (eqb id 0) (bracesT id s q (λ acts e. endT rest (request (transaction id acts)) s e)))
+
+-- an acknowledgement, and what may follow it
+unfoldable pub acksT : {r : ℕ → Message} (rest : (e : ℕ) → MessageProduction (r e)) (s : List ℕ) (at : ℕ) → MessageProduction (acksThen r s at)
+unfolding acksThen
+acksT rest s at = acknowledgedT (acknowledgementAt s at) (λ ks e. endT rest (acknowledge ks) s e)
+
+pub part-law : (t : Bool) {m n : Message} (v w : Verdict) (x y : Part) (d e : ℕ) (l : ℕ → List Part) → m ≡ messageBy v (x ∷ l d) → n ≡ messageBy w (y ∷ l e)
+    → pick t m n ≡ messageBy (pick t v w) (pick t x y ∷ l (pick t d e))
+unfolding pick
+part-law true v w x y d e l h k = h
+part-law false v w x y d e l h k = k
+
+pub parts-law : {r : ℕ → Message} (rest : (e : ℕ) → MessageProduction (r e)) (s : List ℕ) (at : ℕ)
+    → pick (isAcknowledgement s at) (acksThen r s at) (requestThen r s at)
+    ≡ messageBy (pick (isAcknowledgement s at) (acksT rest s at .verdict) (requestT rest s at .verdict)) (partOf s at ∷ pick (ltb (partEnd s at) (length s)) (rest (partEnd s at) .tree) [])
+unfolding acksT requestT partOf partEnd acksOf acknowledgementEnd transactionOf transactionEnd actionsStart
+parts-law rest s at =
+    part-law (isAcknowledgement s at) (acksT rest s at .verdict) (requestT rest s at .verdict) (acknowledge (acksOf s at)) (request (transactionOf s at))
+    (acknowledgementEnd s at) (transactionEnd s at) (λ e. pick (ltb e (length s)) (rest e .tree) []) (acksT rest s at .law) (requestT rest s at .law)
+
+-- one of the eight, and what may follow it
+abbrev pub partT : {r : ℕ → Message} (rest : (e : ℕ) → MessageProduction (r e)) (s : List ℕ) (at : ℕ)
+    → MessageProduction (pick (isAcknowledgement s at) (acksThen r s at) (requestThen r s at))
+partT rest s at =
+    record {
+      verdict = pick (isAcknowledgement s at) (acksT rest s at .verdict) (requestT rest s at .verdict);
+      tree = partOf s at ∷ pick (ltb (partEnd s at) (length s)) (rest (partEnd s at) .tree) [];
+      law = parts-law rest s at;
+    }
+
+-- at most k of them, to the end of the message
+unfoldable pub transactionsAt : (k : ℕ) (s : List ℕ) (at : ℕ) → MessageProduction (transactionsR k s at)
+unfolding transactionsR isAcknowledgement
+transactionsAt zero s at = record { verdict = Fault400; tree = []; law = none-law }
+transactionsAt (suc k) s at = partT (transactionsAt k s) s at
 
 unfoldable pub messageAt : (s : List ℕ) → MessageProduction (messageR s)
 unfolding messageR headerEnd
@@ -246,14 +316,14 @@ messageAt s =
 abbrev pub verdict : List ℕ → Verdict
 verdict s = messageAt s .verdict
 
-abbrev pub messageOf : List ℕ → List Transaction
+abbrev pub messageOf : List ℕ → List Part
 messageOf s = messageAt s .tree
 
 -- "The whole message is read before anything runs": a message means what its verdict tells and, where it is well-formed, its tree told by position
 pub message-law : (s : List ℕ) → messageR s ≡ messageBy (verdict s) (messageOf s)
 message-law s = messageAt s .law
 
-coded : (v : Verdict) (xs : List Transaction) → codeOf v ≡ 0 → messageBy v xs ≡ wellFormed xs
+coded : (v : Verdict) (xs : List Part) → codeOf v ≡ 0 → messageBy v xs ≡ wellFormed xs
 unfolding codeOf messageBy
 coded WellFormed xs e = refl
 coded Fault400 xs e = absurd (omega (arith, e))
@@ -267,7 +337,7 @@ verdictOf fault400 = Fault400
 verdictOf (fault403 id) = Fault403 id
 verdictOf fault406 = WrongVersion406
 
-verdict-back : (v : Verdict) (xs : List Transaction) → v ≡ verdictOf (messageBy v xs)
+verdict-back : (v : Verdict) (xs : List Part) → v ≡ verdictOf (messageBy v xs)
 unfolding verdictOf messageBy
 verdict-back WellFormed xs = refl
 verdict-back Fault400 xs = refl

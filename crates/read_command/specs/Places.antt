@@ -15,7 +15,7 @@ use Rattle.megaco.specs.Keywords.{spells}
 use Rattle.megaco.specs.Items.{called}
 use Rattle.megaco.specs.Tokens.{markAt, signAt, wordAt, terminationAt, numberAt, valueAt, octetsAt}
 use Rattle.megaco.specs.Tree.{octets, item, Command, command, triple, Property, priority, emergency, topology}
-use Rattle.megaco.specs.Reading.{Read, got, listR, unlimited, keyAt, secondR, valueOf, valueR, bracesR, mayBeEmpty, orNoneR, itemR, itemsR, mediaHere, speechHere, speechR, mediaItemR, mediaR, topItemR, topR, prefixAt, prefixEnd, isProperty, orderR, commandR, contextR, wordHere, propertyR, Body, body, withProperty, propertyThen, bodyR, actionOf, actionR, actionsR, fault, directionR, partyR, tripleR, topologyR}
+use Rattle.megaco.specs.Reading.{Read, got, listR, unlimited, keyAt, secondR, valueOf, valueR, bracesR, mayBeEmpty, orNoneR, itemR, itemsR, mediaHere, speechHere, speechR, mediaItemR, mediaR, topItemR, topR, prefixAt, prefixEnd, isProperty, orderR, commandR, contextR, wordHere, propertyR, Body, body, withProperty, propertyThen, bodyR, actionOf, actionR, actionsR, fault, directionR, partyR, tripleR, topologyR, ack, identifierFrom, rangeR, ackR, acksR}
 use Rattle.protocol.specs.Types.{Parsed, Next, Fault, Number, Null, Numbered, Choose, All, AuditToken, CtxToken, PriorityToken, EmergencyToken, TopologyToken, IsolateToken, OnewayToken, BothwayToken, Direction, Isolate, Oneway, Bothway}
 use Rattle.read_command.specs.Production.{endOf, numberAfter, pastWhite, pastSign, wordEnd, spacedAt, joinedAt, Reads, Production, fault-reads, got-reads, bind-reads, map-reads, skip-reads, word-reads, after-assoc, faultP, gotP, tokenP, numberP, pickP, unlessP, bindP, mapP, skipP, signP, lastP, closeP, spacedP, behindP, placedP, keywordP, wordP, wordThenP, listP, pastWordP}
 use Rattle.read_command.specs.declared.Rest.{Rest}
@@ -346,3 +346,26 @@ actionsAt s at = listP (actionAt s) s 16 at
 unfoldable pub bracedAt : (s : List ℕ) (at : ℕ) → Production (actionsR s at)
 unfolding actionsR
 bracedAt s at = skipP (whiteAt s at) (λ p. bindP (actionsAt s p) (λ acts q. lastP (markAt rightBrace s q) acts))
+
+-- ---- acknowledgements
+
+unfoldable pub rangeAt : (s : List ℕ) (at : ℕ) → Production (rangeR s at)
+unfolding rangeR
+rangeAt s at =
+    bindP (numberP (identifierFrom 1 s at) (λ v. v)) (λ v p.
+    pickP (isAt s p dash) (numberP (identifierFrom v s (p + 1)) (ack v)) (gotP (ack v v) p))
+
+unfoldable pub ackAt : (s : List ℕ) (at : ℕ) → Production (ackR s at)
+unfolding ackR
+ackAt s at = spacedP s (rangeAt s at)
+
+unfoldable pub acksAt : (s : List ℕ) (at : ℕ) → Production (listR (ackR s) s (unlimited s) at)
+acksAt s at = listP (ackAt s) s (unlimited s) at
+
+-- where what an acknowledgement names begins
+unfoldable pub acksStart : List ℕ → ℕ → ℕ
+acksStart s at = pastSign leftBrace s (pastWhite s (wordEnd s at))
+
+unfoldable pub acknowledgementAt : (s : List ℕ) (at : ℕ) → Production (acksR s at)
+unfolding acksR spacedAt
+acknowledgementAt s at = pastWordP s at (λ p. signP leftBrace s p (λ q. bindP (acksAt s q) (λ ks e. closeP rightBrace s e ks)))

@@ -1,13 +1,95 @@
 // Reading a whole message: the verdict. Nothing but the message is touched.
 ghost use mathlib.Core.Path.{_≡_};
-ghost use Rattle.megaco.specs.Reading.{startAt, senderAt, messageR};
-ghost use Rattle.read_command.specs.Places.{bracedAt};
+ghost use Rattle.megaco.specs.Reading.{identifierFrom, startAt, senderAt, messageR};
+ghost use Rattle.megaco.specs.Tokens.{atLeast};
+ghost use Rattle.read_command.specs.Places.{bracedAt, rangeAt, ackAt, acksAt, acknowledgementAt};
 ghost use Rattle.read_command.specs.Messages.{braceAt, transactionAt, identifierAt, transactionsAt, protocolAt, versionAt, verdictOf};
 use megaco::Number;
 use megaco::Parsed;
 use megaco::Token;
 use read_command::Braces;
+use read_command::Following;
 use read_command::Verdict;
+
+// ---- acknowledgements
+
+// A number that is not below another.
+fn at_least(low: u32, n: Number) -> Number
+    ensures { λ r. ⌜ r ≡ atLeast low n ⌝ }
+{
+    match n {
+        Number::Got { value, next } => {
+            if low <= value {
+                return Number::Got {
+                    value: value,
+                    next: next,
+                };
+            }
+            Number::Bad
+        }
+        Number::Bad => Number::Bad,
+    }
+}
+
+// An identifier from a lowest one on.
+pub fn identifier_from(s: &[u8], at: usize, low: u32) -> Number
+    ensures { λ r. ⌜ r ≡ identifierFrom low (now (s .entry)) at ⌝ }
+{
+    at_least(low, tokens::number(s, at, 10, 4294967295))
+}
+
+// An identifier, or a first and a last with `-` between.
+fn range(s: &[u8], at: usize) -> Parsed
+    ensures { λ r. ⌜ r ≡ rangeAt (now (s .entry)) at .place ⌝ }
+{
+    let n = identifier_from(s, at, 1);
+    let Number::Got { value, next } = n else {
+        return Parsed::Fault;
+    };
+    if text::is_at(s, next, b'-') {
+        return read_action::number_place(identifier_from(s, next + 1, value));
+    }
+    Parsed::Next(next)
+}
+
+fn ack(s: &[u8], at: usize) -> Parsed
+    ensures { λ r. ⌜ r ≡ ackAt (now (s .entry)) at .place ⌝ }
+{
+    read_command::spaced(s, range(s, at))
+}
+
+// Identifiers and ranges joined by commas.
+fn acks(s: &[u8], at: usize) -> Parsed
+    ensures { λ r. ⌜ r ≡ acksAt (now (s .entry)) at .place ⌝ }
+{
+    let mut i = at;
+    loop {
+        let f = read_command::after_part(s, ack(s, i));
+        match f {
+            Following::Another(q) => i = q,
+            Following::Ends(r) => return r,
+        }
+    }
+}
+
+// A word, and identifiers and ranges in braces.
+fn acknowledgement(s: &[u8], at: usize) -> Parsed
+    ensures { λ r. ⌜ r ≡ acknowledgementAt (now (s .entry)) at .place ⌝ }
+{
+    let w = read_command::spaced(s, tokens::word(s, at));
+    let Parsed::Next(p) = w else {
+        return Parsed::Fault;
+    };
+    let o = text::sign(s, p, b'{');
+    let Parsed::Next(q) = o else {
+        return Parsed::Fault;
+    };
+    let t = acks(s, q);
+    let Parsed::Next(e) = t else {
+        return Parsed::Fault;
+    };
+    text::sign(s, e, b'}')
+}
 
 // ---- transactions
 
@@ -67,34 +149,47 @@ pub fn identifier(s: &[u8], at: usize) -> Number
     tokens::number(s, p, 10, 4294967295)
 }
 
-// One to 8 transactions, to the end of the message.
+// One to 8 transactions and acknowledgements, to the end of the message.
 fn transactions(s: &[u8], at: usize) -> Verdict
     ensures { λ r. ⌜ r ≡ transactionsAt 8 (now (s .entry)) at .verdict ⌝ }
 {
     let mut i = at;
     let mut left: usize = 8;
     while 0 < left {
-        let n = identifier(s, i);
-        let Number::Got { value, next } = n else {
-            return Verdict::Fault400;
-        };
-        if value == 0 {
-            return Verdict::Fault403(0);
-        }
-        let b = transaction(s, next);
-        match b {
-            Braces::Outside => {
+        if read_action::here_spells(s, i, Token::ResponseAckToken) {
+            let a = acknowledgement(s, i);
+            let Parsed::Next(e) = a else {
                 return Verdict::Fault400;
+            };
+            if e < s.len() {
+                i = e;
+                left -= 1;
+            } else {
+                return Verdict::WellFormed;
             }
-            Braces::Within => {
-                return Verdict::Fault403(value);
+        } else {
+            let n = identifier(s, i);
+            let Number::Got { value, next } = n else {
+                return Verdict::Fault400;
+            };
+            if value == 0 {
+                return Verdict::Fault403(0);
             }
-            Braces::Past(e) => {
-                if e < s.len() {
-                    i = e;
-                    left -= 1;
-                } else {
-                    return Verdict::WellFormed;
+            let b = transaction(s, next);
+            match b {
+                Braces::Outside => {
+                    return Verdict::Fault400;
+                }
+                Braces::Within => {
+                    return Verdict::Fault403(value);
+                }
+                Braces::Past(e) => {
+                    if e < s.len() {
+                        i = e;
+                        left -= 1;
+                    } else {
+                        return Verdict::WellFormed;
+                    }
                 }
             }
         }

@@ -65,7 +65,7 @@ module _ (id : ℕ) (scratch : List ℕ) (n : ℕ) (o : List ℕ) (at : ℕ) (o�
   limited-long h f = rw (le-ltb n 2049 h) f
 
 -- who put a text into a scratch buffer of 2,049 bytes has it limited
-limited-from : (id : ℕ) (scratch : List ℕ) (n : ℕ) (bs : List ℕ) → Appended (replicate 2049 0) 0 bs scratch n → limitedFrom id scratch n ≡ limited id bs
+pub limited-from : (id : ℕ) (scratch : List ℕ) (n : ℕ) (bs : List ℕ) → Appended (replicate 2049 0) 0 bs scratch n → limitedFrom id scratch n ≡ limited id bs
 unfolding limitedFrom limited pick
 limited-from id scratch n bs w = by (ltb n 2049) refl
   where
@@ -74,7 +74,3 @@ limited-from id scratch n bs w = by (ltb n 2049) refl
         let k = held-short (replicate 2049 0) bs scratch n (length-replicate {A = ℕ} 2049 0) w (ltb-true n 2049 e) in
         rw (le-ltb 2048 (length bs) (k .0)) (sym (take-low n scratch) ∙ k .1)
     by false e = rw (lt-ltb 2048 (length bs) (held-long (replicate 2049 0) bs scratch n (length-replicate {A = ℕ} 2049 0) w (ltb-false n 2049 e)))
-
-pub limited-is : (id : ℕ) (scratch : List ℕ) (n : ℕ) (o : List ℕ) (at : ℕ) (o′ : List ℕ) (r : ℕ) (bs : List ℕ) → Appended (replicate 2049 0) 0 bs scratch n
-    → Appended o at (limitedFrom id scratch n) o′ r → Appended o at (limited id bs) o′ r
-limited-is id scratch n o at o′ r bs w l = subst (λ (x : List ℕ). Appended o at x o′ r) (limited-from id scratch n bs w) l

@@ -1,11 +1,9 @@
--- The loops over a transaction's actions and a message's transactions.
-use Prim.Native.Nat.{ℕ, zero, suc, _+_, _-_, _<_, _≤_, min, max}
+-- The loop over a transaction's actions.
+use Prim.Native.Nat.{ℕ, _+_, _-_, _<_, _≤_, min, max}
 use mathlib.Core.Path.{_≡_, refl, sym, ap, _∙_, subst}
 use mathlib.Core.List.{List, [], _∷_}
 use mathlib.Core.Bool.{Bool, true, false}
 use lib.ListN.{length, replicate, take, drop, length-replicate}
-use lib.Dec.{ltb}
-use borrow.Author.Tests.{lt-ltb, le-ltb}
 use native.Mathlib.Omega.{arith}
 use Rattle.base.specs.Pick.{pick}
 use Rattle.base.specs.Lists.{isAt}
@@ -19,11 +17,10 @@ use Rattle.megaco.specs.Tree.{Action, action, Transaction, transaction}
 use Rattle.megaco.specs.Reply.{reportsText, separator, actionText, replyText}
 use Rattle.megaco.specs.State.{State, state}
 use Rattle.megaco.specs.Command.{Outcome}
-use Rattle.megaco.specs.Transaction.{Ran, ran, runTransaction, runTransactions}
+use Rattle.megaco.specs.Transaction.{Ran, ran, runTransaction}
 use Rattle.protocol.specs.Types.{Context, Parsed, Next, Fault}
 use Rattle.read_command.specs.Production.{pastSign, listOf, listP}
 use Rattle.read_command.specs.Places.{commandsIn, restOf, restIn, actionAt}
-use Rattle.read_command.specs.Messages.{transactionOf, transactionEnd, transactionsAt}
 use Rattle.read_command.specs.declared.Rest.{Rest}
 use Rattle.command_places.specs.Found.{nextAt}
 use Rattle.command_places.proofs.NextLaws.{part-last, part-more}
@@ -31,7 +28,7 @@ use Rattle.action_places.specs.ActionPlaces.{actionPlaces}
 use Rattle.action_places.specs.declared.ActionPlaces.{ActionPlaces}
 use Rattle.start_action.specs.Starting.{propertiesIn}
 use Rattle.reply.specs.Texts.{replyOpen, actionOpen, limitedFrom}
-use Rattle.reply.proofs.ReplyLaws.{action-is, reply-is, limited-is}
+use Rattle.reply.proofs.ReplyLaws.{action-is, reply-is, limited-from}
 use Rattle.laws.proofs.Kept.{transaction-sound}
 use Rattle.run_attempts.specs.Contract.{RunsTo}
 use Rattle.run_attempts.specs.declared.CommandOutcome.{CommandOutcome}
@@ -39,7 +36,7 @@ use Rattle.run_attempts.proofs.RunsToLaws.{lent-first}
 use Rattle.run_action.specs.Fold.{runAction, runActions, outcomeText}
 use Rattle.run_action.specs.Promises.{around, ActionRunsTo, Wrote}
 use Rattle.run_action.specs.declared.RanAction.{RanAction}
-use Rattle.run_action.proofs.Lists.{list-open, picked, left-out}
+use Rattle.run_action.proofs.Lists.{list-open}
 use Rattle.run_action.proofs.FoldLaws.{transaction-is}
 
 -- ---- an action's text
@@ -202,67 +199,11 @@ module _ (x : Ran) (o : List ℕ) (p₀ : ℕ) (s : List ℕ) (k i : ℕ) (f : B
 
 -- ---- a transaction
 
-pub transaction-wrote : (id : ℕ) (acts : List Action) (t : State) (z z₁ z₂ z₃ : List ℕ) (n m e : ℕ) (t′ : State) (o : List ℕ) (p : ℕ) (o′ : List ℕ) (r : ℕ) → z ≡ replicate 2049 0
-    → Appended z 0 (replyOpen id) z₁ n → Wrote (runActions acts true t) z₁ n t′ z₂ m → Appended z₂ m (text "}") z₃ e → Appended o p (limitedFrom id z₃ e) o′ r
-    → Wrote (runTransaction (transaction id acts) t) o p t′ o′ r
-transaction-wrote id acts t z z₁ z₂ z₃ n m e t′ o p o′ r q f w g l =
+-- its text in a scratch buffer of 2,049 bytes
+pub transaction-text : (id : ℕ) (acts : List Action) (t : State) (z z₁ z₂ z₃ : List ℕ) (n m e : ℕ) (t′ : State) → z ≡ replicate 2049 0
+    → Appended z 0 (replyOpen id) z₁ n → Wrote (runActions acts true t) z₁ n t′ z₂ m → Appended z₂ m (text "}") z₃ e
+    → (t′ ≡ runTransaction (transaction id acts) t .state) × (limitedFrom id z₃ e ≡ runTransaction (transaction id acts) t .text)
+transaction-text id acts t z z₁ z₂ z₃ n m e t′ q f w g =
     let y : Ran = runActions acts true t in
     let a : Appended (replicate 2049 0) 0 (replyText id (y .text)) z₃ e = rw (reply-is id (y .text), ← q) (f ▸ w .text ▸ g) in
-    rw (transaction-is id acts t) (record { state = w .state; text = limited-is id z₃ e o p o′ r (replyText id (y .text)) a l })
-
--- ---- transactions in order
-
-module _ (x : Transaction) (xs : List Transaction) (t : State) where
-  message-on : runTransactions (x ∷ xs) t ≡ (let y = runTransaction x t in let z = runTransactions xs (y .state) in ran (z .state) (y .text then z .text))
-  unfolding runTransactions
-  message-on = refl
-
-no-transactions : (t : State) → runTransactions [] t ≡ ran t []
-unfolding runTransactions
-no-transactions t = refl
-
-transactions-open : (s : List ℕ) (k i : ℕ) → 0 < k
-    → transactionsAt k s i .tree ≡ transactionOf s i ∷ pick (ltb (transactionEnd s i) (length s)) (transactionsAt (k - 1) s (transactionEnd s i) .tree) []
-unfolding transactionsAt
-transactions-open s zero i h = absurd (omega arith)
-transactions-open s (suc m) i h =
-    let e : suc m - 1 ≡ m = omega arith in
-    ap (λ (j : ℕ). transactionOf s i ∷ pick (ltb (transactionEnd s i) (length s)) (transactionsAt j s (transactionEnd s i) .tree) []) (sym e)
-
-none-of : (s : List ℕ) (i : ℕ) (t : State) → runTransactions (transactionsAt 0 s i .tree) t ≡ ran t []
-unfolding transactionsAt runTransactions
-none-of s i t = refl
-
-module _ (x : Ran) (o : List ℕ) (p₀ : ℕ) (s : List ℕ) (k i : ℕ) (t : State) (o₁ : List ℕ) (p : ℕ) (l : Leads x o p₀ (runTransactions (transactionsAt k s i .tree) t) o₁ p) where
-  pub message-none : k ≤ 0 → Wrote x o p₀ t o₁ p
-  message-none h =
-      let e : k ≡ 0 = omega arith in
-      let m : Leads x o p₀ (ran t []) o₁ p = subst (λ (z : Ran). Leads x o p₀ z o₁ p) (ap (λ (j : ℕ). runTransactions (transactionsAt j s i .tree) t) e ∙ none-of s i t) l in
-      m .to t o₁ p (record { state = refl; text = none o₁ p })
-
-  module _ (t₂ : State) (o₂ : List ℕ) (q : ℕ) (h : 0 < k) (d : Wrote (runTransaction (transactionOf s i) t) o₁ p t₂ o₂ q) where
-    abbrev others : List Transaction
-    others = pick (ltb (transactionEnd s i) (length s)) (transactionsAt (k - 1) s (transactionEnd s i) .tree) []
-
-    going-past : Leads x o p₀ (runTransactions others t₂) o₂ q
-    going-past =
-        let y : Ran = runTransaction (transactionOf s i) t in
-        let z : Leads x o p₀ (let r = runTransactions others (y .state) in ran (r .state) (y .text then r .text)) o₁ p =
-        subst (λ (z : Ran). Leads x o p₀ z o₁ p) (ap (λ (a : List Transaction). runTransactions a t) (transactions-open s k i h) ∙ message-on (transactionOf s i) others t) l in
-        let v : Leads x o p₀ (let r = runTransactions others t₂ in ran (r .state) (y .text then r .text)) o₁ p =
-        subst (λ (u : State). Leads x o p₀ (let r = runTransactions others u in ran (r .state) (y .text then r .text)) o₁ p) (sym (d .state)) z in
-        record { to = λ t′ o′ r w. v .to t′ o′ r (record { state = w .state; text = d .text ▸ w .text }) }
-
-    pub message-last : (e : ℕ) → e ≡ transactionEnd s i → length s ≤ e → Wrote x o p₀ t₂ o₂ q
-    message-last e f g =
-        let z : ltb (transactionEnd s i) (length s) ≡ false = le-ltb (transactionEnd s i) (length s) (rw (← f) g) in
-        let w : Leads x o p₀ (ran t₂ []) o₂ q =
-        subst (λ (y : Ran). Leads x o p₀ y o₂ q)
-        (ap (λ (y : List Transaction). runTransactions y t₂) (left-out (ltb (transactionEnd s i) (length s)) (transactionsAt (k - 1) s (transactionEnd s i) .tree) [] z) ∙ no-transactions t₂) going-past in
-        w .to t₂ o₂ q (record { state = refl; text = none o₂ q })
-
-    pub message-more : (e : ℕ) → e ≡ transactionEnd s i → e < length s → Leads x o p₀ (runTransactions (transactionsAt (k - 1) s e .tree) t₂) o₂ q
-    message-more e f g =
-        let z : ltb (transactionEnd s i) (length s) ≡ true = lt-ltb (transactionEnd s i) (length s) (rw (← f) g) in
-        let y : others ≡ transactionsAt (k - 1) s e .tree = picked (ltb (transactionEnd s i) (length s)) _ _ z ∙ ap (λ (j : ℕ). transactionsAt (k - 1) s j .tree) (sym f) in
-        subst (λ (a : List Transaction). Leads x o p₀ (runTransactions a t₂) o₂ q) y going-past
+    rw (transaction-is id acts t) (w .state, limited-from id z₃ e (replyText id (y .text)) a)

@@ -18,10 +18,10 @@ use Rattle.megaco.specs.Table.{channels, terminations, contexts, startOf, words
 use Rattle.megaco.specs.Names.{nameText}
 use Rattle.megaco.proofs.Sizes.{fitted-is}
 use Rattle.megaco.proofs.Regions.{Region, region, context-region, record-region}
+use Rattle.megaco.specs.Room.{roomSound}
 use Rattle.megaco.specs.Blocks.{blocksAreSound}
-use Rattle.megaco.specs.State.{State}
 use Rattle.megaco.specs.Call.{stateFits}
-use Rattle.sessions.specs.Session.{ready}
+use Rattle.sessions.specs.Session.{ready, Lent}
 use Rattle.sessions.specs.Lines.{lineEnd}
 use Rattle.sessions.specs.Listing.{lines, each, memberText, membersText, propertiesText, contextLine, present, countLine, partsText, contextsText, reportText}
 
@@ -143,9 +143,10 @@ contexts-fit n t m e s =
     simp length-then
     (omega (arith, length-below 2 (present rs) (omega (arith, present-fits rs)), spread-fits ws 1 rs, lines-fit n ws 1 rs m l (omega arith) (records-of n t e s)))
 
-pub report-fits : (st : State) → ready st ≡ true → length (reportText (st .table)) ≤ 5645
+pub report-fits : (t : Lent) → ready t ≡ true → length (reportText (t .state .table)) ≤ 5645
 unfolding ready stateFits
-report-fits st e =
-    let a = and-both (eqb (length (st .table)) (words lines) && sound (st .table)) (blocksAreSound (st .blocks)) e in
-    let b = and-both (eqb (length (st .table)) (words lines)) (sound (st .table)) (a .0) in
-    contexts-fit lines (st .table) (omega arith) (eqb-true (length (st .table)) (words lines) (b .0)) (b .1)
+report-fits t e =
+    let a = and-both (stateFits lines (t .state)) (roomSound (t .room)) e in
+    let c = and-both (eqb (length (t .state .table)) (words lines) && sound (t .state .table)) (blocksAreSound (t .state .blocks)) (a .0) in
+    let b = and-both (eqb (length (t .state .table)) (words lines)) (sound (t .state .table)) (c .0) in
+    contexts-fit lines (t .state .table) (omega arith) (eqb-true (length (t .state .table)) (words lines) (b .0)) (b .1)

@@ -21,8 +21,8 @@ use Rattle.read_command.specs.declared.Verdict.the-variants.{WellFormed, Fault4
 use Rattle.read_command.specs.declared.Piece.{Piece}
 use Rattle.read_command.specs.Pieces.{pieceOf, Holds}
 use Rattle.read_command.specs.Production.{pastSign, listEnd}
-use Rattle.read_command.specs.Places.{itemAt, mediaItemAt, mediaAt, topItemAt, topAt, commandAt, commandsAt, restOf, restIn, bodyEnd, actionAt, actionsAt}
-use Rattle.read_command.specs.Messages.{actionsStart, closingEnd, transactionEnd, headerEnd, verdictOf}
+use Rattle.read_command.specs.Places.{itemAt, mediaItemAt, mediaAt, topItemAt, topAt, commandAt, commandsAt, restOf, restIn, bodyEnd, actionAt, actionsAt, ackAt, acksAt, acksStart, acknowledgementAt}
+use Rattle.read_command.specs.Messages.{actionsStart, closingEnd, transactionEnd, isAcknowledgement, acknowledgementEnd, partEnd, headerEnd, verdictOf}
 use Rattle.command_places.specs.declared.ItemPlaces.{ItemPlaces}
 use Rattle.command_places.specs.declared.SpeechPlaces.{SpeechPlaces}
 use Rattle.command_places.specs.declared.CommandPlaces.{CommandPlaces}
@@ -31,14 +31,15 @@ use Rattle.command_places.proofs.NextLaws.{part-last, part-more}
 use Rattle.command_places.proofs.PlaceLaws.{media-braced, command-ends}
 use Rattle.action_places.specs.declared.ActionPlaces.{ActionPlaces}
 use Rattle.action_places.specs.declared.TransactionPlaces.{TransactionPlaces}
-use Rattle.action_places.specs.ActionPlaces.{actionPlaces, transactionPlaces}
+use Rattle.action_places.specs.declared.AckPlaces.{AckPlaces}
+use Rattle.action_places.specs.ActionPlaces.{actionPlaces, transactionPlaces, ackPlaces}
 use Rattle.action_places.proofs.ActionPlaceLaws.{action-ends, transaction-ends}
 use Rattle.texts.specs.declared.Holder.{Holder}
 use Rattle.texts.specs.declared.Sought.{Sought}
 use Rattle.texts.specs.declared.Sought.the-variants.{Here, Behind}
 use Rattle.texts.specs.declared.Wanted.{Wanted}
 use Rattle.texts.specs.declared.Wanted.the-variants.{Held, NoText}
-use Rattle.texts.specs.Texts.{holdersIn, mediaItemHolders, mediaHolders, topItemHolders, topHolders, commandHolders, commandsHolders, restHolders, actionHolders, actionsHolders, transactionsHolders, sought, closedSought, foundIn, messageSought, whereText, holderNumber, localAt, sideThere, textStart, textEnd, ownerStart, ownerEnd, textNumber, sideNumber, sideCalled, sideOf, nameOf, bytesOf, textPlace, namePlace, ifTaken, partNumber, textPart, namePart, sideGiven}
+use Rattle.texts.specs.Texts.{holdersIn, mediaItemHolders, mediaHolders, topItemHolders, topHolders, commandHolders, commandsHolders, restHolders, actionHolders, actionsHolders, servedHolders, transactionsHolders, sought, closedSought, foundIn, messageSought, whereText, holderNumber, localAt, sideThere, textStart, textEnd, ownerStart, ownerEnd, textNumber, sideNumber, sideCalled, sideOf, nameOf, bytesOf, textPlace, namePlace, ifTaken, partNumber, textPart, namePart, sideGiven}
 use Rattle.texts.proofs.TreeLaws.{media-not-empty, there-side, there-name, there-text}
 
 -- ---- the search in two parts
@@ -53,12 +54,33 @@ sought-both [] ys e d k = refl
 sought-both (x ∷ xs) ys e d zero = refl
 sought-both (x ∷ xs) ys e d (suc k) = sought-both xs ys e d k
 
+isHere : Sought → ℕ
+isHere (Here x) = 1
+isHere (Behind k e) = 0
+
+not-here : (k e : ℕ) (z : Holder) → _≡_ {A = Sought} (Behind k e) (Here z) → ⊥
+unfolding isHere
+not-here k e z h = let w : _≡_ {A = ℕ} 0 1 = ap isHere h in omega arith
+
 -- what is behind has the end that was told
 behind-end : (xs : List Holder) (e k l d : ℕ) → sought xs e k ≡ Behind l d → d ≡ e
 unfolding sought
 behind-end [] e k l d h = cc
 behind-end (x ∷ xs) e zero l d h = let z : _≡_ {A = ℕ} 0 1 = cc in absurd (omega arith)
 behind-end (x ∷ xs) e (suc k) l d h = behind-end xs e k l d h
+
+-- what is found does not depend on the end
+found-here : (xs : List Holder) (e d k : ℕ) (z : Holder) (y : Sought) → y ≡ sought xs e k → y ≡ Here z → y ≡ sought xs d k
+unfolding sought
+found-here [] e d k z y f h = let w : _≡_ {A = Sought} (Behind k e) (Here z) = sym f ∙ h in absurd (not-here k e z w)
+found-here (x ∷ xs) e d zero z y f h = f
+found-here (x ∷ xs) e d (suc k) z y f h = found-here xs e d k z y f h
+
+found-behind : (xs : List Holder) (e d k l w : ℕ) → sought xs e k ≡ Behind l w → Behind l d ≡ sought xs d k
+unfolding sought
+found-behind [] e d k l w h = let z : k ≡ l = cc in rw z
+found-behind (x ∷ xs) e d zero l w h = absurd (not-here l w x (sym h))
+found-behind (x ∷ xs) e d (suc k) l w h = found-behind xs e d k l w h
 
 -- ---- a part in braces
 
@@ -255,39 +277,67 @@ pub find-begin : (s : List ℕ) (k i : ℕ) → i ≡ headerEnd s → messageSou
 unfolding messageSought
 find-begin s k i e = rw e
 
+-- a transaction or an acknowledgement
+pub acks-begin : (s : List ℕ) (at : ℕ) → acksAt s at .end ≡ listEnd (λ j. ackAt s j .end) s (length s + 1 - 0) at
+unfolding acksAt unlimited
+acks-begin s at = let z : length s + 1 - 0 ≡ length s + 1 = omega arith in rw z
+
+pub ack-end : (s : List ℕ) (at e : ℕ) (a : AckPlaces) → a ≡ ackPlaces s at → e ≡ a .end → e ≡ ackAt s at .end
+unfolding ackPlaces
+ack-end s at e a f h = h ∙ ap (λ (z : AckPlaces). z .end) f
+
+module _ (s : List ℕ) (at : ℕ) (x : Bool) (g : x ≡ isAcknowledgement s at) (left : ℕ) where
+  pub served-past : x ≡ true → (b e u : ℕ) → b ≡ acksStart s at → e ≡ acksAt s b .end → u ≡ pastSign rightBrace s e → Behind left u ≡ sought (servedHolders s at) (partEnd s at) left
+  unfolding servedHolders partEnd acknowledgementEnd acknowledgementAt acksStart sought pick
+  served-past t b e u eb ee eu = rw (← g, t) (ap (λ (z : ℕ). Behind left z) (eu ∙ rw (ee, eb)))
+
+  module _ (f : x ≡ false) (p : TransactionPlaces) (ep : p ≡ transactionPlaces s at) (y : Sought) (e : y ≡ sought (actionsHolders s (p .body)) (actionsAt s (p .body) .end) left) where
+    served-body : p .body ≡ actionsStart s at
+    unfolding transactionPlaces
+    served-body = ap (λ (z : TransactionPlaces). z .body) ep
+
+    served-is : sought (servedHolders s at) (partEnd s at) left ≡ sought (actionsHolders s (p .body)) (transactionEnd s at) left
+    unfolding servedHolders partEnd pick
+    served-is = rw (← g, f, served-body)
+
+    pub served-here : (z : Holder) → y ≡ Here z → y ≡ sought (servedHolders s at) (partEnd s at) left
+    served-here z n = found-here (actionsHolders s (p .body)) _ (transactionEnd s at) left z y e n ∙ sym served-is
+
+    pub served-behind : (l d u : ℕ) → y ≡ Behind l d → u ≡ closingEnd s d → Behind l u ≡ sought (servedHolders s at) (partEnd s at) left
+    served-behind l d u n c =
+        let w : d ≡ actionsAt s (p .body) .end = behind-end (actionsHolders s (p .body)) _ left l d (sym e ∙ n) in
+        let t : u ≡ transactionEnd s at = transaction-ends s at (actionsAt s (p .body) .end) u p ep refl (c ∙ ap (closingEnd s) w) in
+        rw t (found-behind (actionsHolders s (p .body)) _ (transactionEnd s at) left l d (sym e ∙ n)) ∙ sym served-is
+
 module _ (s : List ℕ) (k i left : ℕ) (q : Wanted) (inv : q ≡ foundIn (sought (transactionsHolders k s i) 0 left)) where
   pub find-none : k ≤ 0 → NoText ≡ q
   unfolding transactionsHolders foundIn sought
   find-none h = let z : k ≡ 0 = omega arith in sym (inv ∙ rw z)
 
-  module _ (h : 0 < k) (p : TransactionPlaces) (ep : p ≡ transactionPlaces s i) (y : Sought) (e : y ≡ sought (actionsHolders s (p .body)) (actionsAt s (p .body) .end) left) where
-    body-is : p .body ≡ actionsStart s i
-    unfolding transactionPlaces
-    body-is = ap (λ (z : TransactionPlaces). z .body) ep
-
-    find-turn : q ≡ foundIn (bySought y (sought (pick (ltb (transactionEnd s i) (length s)) (transactionsHolders (k - 1) s (transactionEnd s i)) []) 0))
+  module _ (h : 0 < k) (y : Sought) (e : y ≡ sought (servedHolders s i) (partEnd s i) left) where
+    find-turn : q ≡ foundIn (bySought y (sought (pick (ltb (partEnd s i) (length s)) (transactionsHolders (k - 1) s (partEnd s i)) []) 0))
     unfolding transactionsHolders
     find-turn = let z : k ≡ suc (k - 1) = omega arith in by k (k - 1) z inv
       where
         by : (a b : ℕ) → a ≡ suc b → q ≡ foundIn (sought (transactionsHolders a s i) 0 left)
-            → q ≡ foundIn (bySought y (sought (pick (ltb (transactionEnd s i) (length s)) (transactionsHolders b s (transactionEnd s i)) []) 0))
-        by a b z f = rw z at f ∙ found-both (actionsHolders s (actionsStart s i)) _ 0 (actionsAt s (p .body) .end) left ∙ rw (e, body-is)
+            → q ≡ foundIn (bySought y (sought (pick (ltb (partEnd s i) (length s)) (transactionsHolders b s (partEnd s i)) []) 0))
+        by a b z f = rw z at f ∙ found-both (servedHolders s i) _ 0 (partEnd s i) left ∙ rw e
 
     pub find-here : (x : Holder) → y ≡ Here x → Held x ≡ q
     unfolding bySought foundIn
     find-here x n = sym (find-turn ∙ rw n)
 
-    module _ (l d u : ℕ) (n : y ≡ Behind l d) (c : u ≡ closingEnd s d) where
-      next-is : u ≡ transactionEnd s i
-      next-is = transaction-ends s i (actionsAt s (p .body) .end) u p ep refl (c ∙ ap (closingEnd s) (behind-end (actionsHolders s (p .body)) _ left l d (sym e ∙ n)))
+    module _ (l d : ℕ) (n : y ≡ Behind l d) where
+      next-is : d ≡ partEnd s i
+      next-is = behind-end (servedHolders s i) _ left l d (sym e ∙ n)
 
-      pub find-end : length s ≤ u → NoText ≡ q
+      pub find-end : length s ≤ d → NoText ≡ q
       unfolding bySought foundIn sought pick
-      find-end m = let t : length s ≤ transactionEnd s i = rw next-is at m in sym (find-turn ∙ rw (n, le-ltb (transactionEnd s i) (length s) t))
+      find-end m = let t : length s ≤ partEnd s i = rw next-is at m in sym (find-turn ∙ rw (n, le-ltb (partEnd s i) (length s) t))
 
-      pub find-more : u < length s → q ≡ foundIn (sought (transactionsHolders (k - 1) s u) 0 l)
+      pub find-more : d < length s → q ≡ foundIn (sought (transactionsHolders (k - 1) s d) 0 l)
       unfolding bySought pick
-      find-more m = let t : transactionEnd s i < length s = rw next-is at m in find-turn ∙ rw (n, lt-ltb (transactionEnd s i) (length s) t, next-is)
+      find-more m = let t : partEnd s i < length s = rw next-is at m in find-turn ∙ rw (n, lt-ltb (partEnd s i) (length s) t, next-is)
 
 -- ---- what stands there
 

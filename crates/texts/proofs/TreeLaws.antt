@@ -13,7 +13,7 @@ use Rattle.megaco.specs.Bytes.{comma, leftBrace, slash}
 use Rattle.megaco.specs.Keywords.{isToken, spells, meaningOf}
 use Rattle.megaco.proofs.Meanings.{spelt-means, spells-means}
 use Rattle.megaco.specs.Tokens.{rowAt}
-use Rattle.megaco.specs.Tree.{plain, quoted, item, Item, Transaction}
+use Rattle.megaco.specs.Tree.{plain, quoted, item, Item, Part, request, acknowledge}
 use Rattle.megaco.specs.Reading.{Read, unlimited, valueOf, mayBeEmpty, wordHere, mediaHere, speechHere, actionOf}
 use Rattle.megaco.specs.Items.{called, itemsIn}
 use Rattle.protocol.specs.Types.{Side, AuditToken, MediaToken}
@@ -22,11 +22,11 @@ use Rattle.read_command.specs.declared.Verdict.{Verdict}
 use Rattle.read_command.specs.declared.Verdict.the-variants.{WellFormed, Fault400, Fault403, WrongVersion406}
 use Rattle.read_command.specs.Production.{Production, pastSign, wordEnd, listOf}
 use Rattle.read_command.specs.Places.{secondAt, valueItemAt, bracesAt, auditAt, emptyAt, orNoneAt, equalPlace, headEnd, itemAt, itemsAt, octetsStart, octetsEnd, speechAt, mediaItemAt, mediaAt, topItemAt, topAt, orderAt, orderStart, orderEnd, nameStart, nameEnd, commandHeadEnd, commandAt, commandsAt, contextStart, bodyStart, restIn, commandsIn, actionAt, actionsAt}
-use Rattle.read_command.specs.Messages.{actionsStart, transactionEnd, transactionsAt, headerEnd, messageAt, verdict, messageOf, messageBy, message-law, verdict-is}
+use Rattle.read_command.specs.Messages.{actionsStart, transactionOf, isAcknowledgement, acksOf, partOf, partEnd, transactionsAt, headerEnd, messageAt, verdict, messageOf, messageBy, message-law, verdict-is}
 use Rattle.texts.specs.declared.Holder.{Holder}
 use Rattle.texts.specs.declared.Wanted.{Wanted}
 use Rattle.texts.specs.declared.Wanted.the-variants.{Held, NoText}
-use Rattle.texts.specs.Texts.{Text, heldText, gather, sideCalled, partTexts, itemTexts, commandTexts, actionTexts, transactionTexts, messageTexts, textIn, textNumber, sideOf, nameOf, bytesOf, holdersIn, mediaItemHolders, mediaHolders, topItemHolders, topHolders, commandHolders, commandsHolders, restHolders, actionHolders, actionsHolders, transactionsHolders, sought, foundIn, messageSought, whereText, holderNumber, localAt, sideThere, textStart, textEnd, ownerStart, ownerEnd}
+use Rattle.texts.specs.Texts.{Text, heldText, gather, sideCalled, partTexts, itemTexts, commandTexts, actionTexts, transactionTexts, servedTexts, messageTexts, textIn, textNumber, sideOf, nameOf, bytesOf, holdersIn, mediaItemHolders, mediaHolders, topItemHolders, topHolders, commandHolders, commandsHolders, restHolders, actionHolders, actionsHolders, servedHolders, transactionsHolders, sought, foundIn, messageSought, whereText, holderNumber, localAt, sideThere, textStart, textEnd, ownerStart, ownerEnd}
 
 module _ (s : List ℕ) where
   -- what a holder has
@@ -176,21 +176,29 @@ module _ (s : List ℕ) where
 
   -- ---- the message
 
-  transactions-texts : (k at : ℕ) → textsAt (transactionsHolders k s at) ≡ gather transactionTexts (transactionsAt k s at .tree)
-  unfolding transactionsHolders transactionsAt transactionTexts gather textsAt actionsStart transactionEnd
+  served-texts : (at : ℕ) → textsAt (servedHolders s at) ≡ servedTexts (partOf s at)
+  unfolding servedHolders partOf
+  served-texts at = by (isAcknowledgement s at)
+    where
+      by : (t : Bool) → textsAt (pick t [] (actionsHolders s (actionsStart s at))) ≡ servedTexts (pick t (acknowledge (acksOf s at)) (request (transactionOf s at)))
+      by true = unfold pick servedTexts textsAt in refl
+      by false = unfold pick servedTexts transactionOf transactionTexts in actions-texts (actionsStart s at)
+
+  transactions-texts : (k at : ℕ) → textsAt (transactionsHolders k s at) ≡ gather servedTexts (transactionsAt k s at .tree)
+  unfolding transactionsHolders transactionsAt gather textsAt
   transactions-texts zero at = refl
   transactions-texts (suc k) at =
-      let t = ltb (transactionEnd s at) (length s) in
-      let p = transactionsHolders k s (transactionEnd s at) in
-      texts-both (actionsHolders s (actionsStart s at)) (pick t p [])
-      ∙ ap (λ (l : List Text). l ++ textsAt (pick t p [])) (actions-texts (actionsStart s at))
-      ∙ ap (λ (l : List Text). gather actionTexts (actionsAt s (actionsStart s at) .tree) ++ l) (texts-pick t p _ (transactions-texts k (transactionEnd s at)) ∙ more t (transactionsAt k s (transactionEnd s at) .tree))
+      let t = ltb (partEnd s at) (length s) in
+      let p = transactionsHolders k s (partEnd s at) in
+      texts-both (servedHolders s at) (pick t p [])
+      ∙ ap (λ (l : List Text). l ++ textsAt (pick t p [])) (served-texts at)
+      ∙ ap (λ (l : List Text). servedTexts (partOf s at) ++ l) (texts-pick t p _ (transactions-texts k (partEnd s at)) ∙ more t (transactionsAt k s (partEnd s at) .tree))
     where
-      more : (t : Bool) (l : List Transaction) → pick t (gather transactionTexts l) [] ≡ gather transactionTexts (pick t l [])
+      more : (t : Bool) (l : List Part) → pick t (gather servedTexts l) [] ≡ gather servedTexts (pick t l [])
       more true l = unfold pick in refl
       more false l = unfold pick in refl
 
-  message-texts : textsAt (transactionsHolders 8 s (headerEnd s)) ≡ gather transactionTexts (messageOf s)
+  message-texts : textsAt (transactionsHolders 8 s (headerEnd s)) ≡ gather servedTexts (messageOf s)
   unfolding messageAt headerEnd
   message-texts = transactions-texts 8 (headerEnd s)
 

@@ -11,7 +11,7 @@ use Rattle.base.specs.Pick.{pick}
 use Rattle.base.specs.Lists.{isAt, part}
 use Rattle.megaco.specs.Bytes.{comma, leftBrace, rightBrace}
 use Rattle.megaco.specs.Keywords.{spells}
-use Rattle.megaco.specs.Tree.{Value, plain, quoted, octets, ItemOf, item, Command, command, Action, action, Transaction, transaction, Message, wellFormed, fault400, fault403, fault406}
+use Rattle.megaco.specs.Tree.{Value, plain, quoted, octets, ItemOf, item, Command, command, Action, action, Transaction, transaction, Part, request, acknowledge, Message, wellFormed, fault400, fault403, fault406}
 use Rattle.megaco.specs.Reading.{unlimited, mediaHere, speechHere, messageR}
 use Rattle.megaco.specs.Items.{called, itemsIn}
 use Rattle.protocol.specs.Types.{Side, OfLocal, OfRemote, LocalToken, MediaToken}
@@ -21,7 +21,7 @@ use Rattle.read_command.specs.declared.Verdict.the-variants.{WellFormed, Fault4
 use Rattle.read_command.specs.Pieces.{pieceOf}
 use Rattle.read_command.specs.Production.{pastSign, wordEnd}
 use Rattle.read_command.specs.Places.{headEnd, octetsStart, octetsEnd, mediaItemAt, topItemAt, nameStart, nameEnd, commandHeadEnd, commandAt, restIn, actionAt}
-use Rattle.read_command.specs.Messages.{actionsStart, transactionEnd, headerEnd, verdictOf}
+use Rattle.read_command.specs.Messages.{actionsStart, isAcknowledgement, partEnd, headerEnd, verdictOf}
 use Rattle.texts.specs.declared.Holder.{Holder}
 use Rattle.texts.specs.declared.Sought.{Sought}
 use Rattle.texts.specs.declared.Sought.the-variants.{Here, Behind}
@@ -66,8 +66,13 @@ actionTexts (action c ps cs) = gather commandTexts cs
 unfoldable pub transactionTexts : Transaction → List Text
 transactionTexts (transaction id acts) = gather actionTexts acts
 
+-- an acknowledgement has none
+unfoldable pub servedTexts : Part → List Text
+servedTexts (request x) = transactionTexts x
+servedTexts (acknowledge ks) = []
+
 unfoldable pub messageTexts : Message → List Text
-messageTexts (wellFormed xs) = gather transactionTexts xs
+messageTexts (wellFormed xs) = gather servedTexts xs
 messageTexts fault400 = []
 messageTexts (fault403 id) = []
 messageTexts fault406 = []
@@ -135,12 +140,16 @@ actionHolders s at = restHolders s (restIn s at)
 unfoldable pub actionsHolders : List ℕ → ℕ → List Holder
 actionsHolders s at = holdersIn (actionHolders s) (λ j. actionAt s j .end) s 16 at
 
--- at most k transactions
+-- a transaction or an acknowledgement
+unfoldable pub servedHolders : List ℕ → ℕ → List Holder
+servedHolders s at = pick (isAcknowledgement s at) [] (actionsHolders s (actionsStart s at))
+
+-- at most k of them
 unfoldable pub transactionsHolders : ℕ → List ℕ → ℕ → List Holder
 transactionsHolders zero s at = []
 transactionsHolders (suc k) s at =
-    let more = transactionsHolders k s (transactionEnd s at) in
-    actionsHolders s (actionsStart s at) ++ pick (ltb (transactionEnd s at) (length s)) more []
+    let more = transactionsHolders k s (partEnd s at) in
+    servedHolders s at ++ pick (ltb (partEnd s at) (length s)) more []
 
 -- ---- the search
 

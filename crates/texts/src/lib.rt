@@ -3,8 +3,9 @@
 ghost use mathlib.Core.Path.{_≡_};
 ghost use Prim.Native.Nat.{_+_, _-_, _*_, _≤_};
 ghost use Rattle.read_command.specs.Pieces.{Holds};
-ghost use Rattle.read_command.specs.Places.{mediaItemAt, mediaAt, topItemAt, topAt, commandAt, commandsAt, actionAt, actionsAt};
-ghost use Rattle.texts.specs.Texts.{sought, closedSought, mediaItemHolders, mediaHolders, topItemHolders, topHolders, commandHolders, commandsHolders, actionHolders, actionsHolders, messageSought, holderNumber, localAt, sideThere, textStart, textEnd, ownerStart, ownerEnd, textNumber, sideOf, nameOf, bytesOf, textPlace, namePlace, textPart, namePart, sideGiven};
+ghost use Rattle.read_command.specs.Places.{mediaItemAt, mediaAt, topItemAt, topAt, commandAt, commandsAt, actionAt, actionsAt, acksAt};
+ghost use Rattle.read_command.specs.Messages.{partEnd};
+ghost use Rattle.texts.specs.Texts.{sought, closedSought, mediaItemHolders, mediaHolders, topItemHolders, topHolders, commandHolders, commandsHolders, actionHolders, actionsHolders, servedHolders, messageSought, holderNumber, localAt, sideThere, textStart, textEnd, ownerStart, ownerEnd, textNumber, sideOf, nameOf, bytesOf, textPlace, namePlace, textPart, namePart, sideGiven};
 use megaco::Parsed;
 use megaco::Token;
 use read_command::Piece;
@@ -203,6 +204,48 @@ fn actions(s: &[u8], at: usize, k: usize) -> Sought
 
 // ---- the message
 
+// The end of what an acknowledgement names.
+fn acks_end(s: &[u8], at: usize) -> usize
+    ensures { λ r. ⌜ r ≡ acksAt (now (s .entry)) at .end ⌝ }
+{
+    let mut i = at;
+    let mut n = 0;
+    while n <= s.len() {
+        let a = action_places::ack_places(s, i);
+        let e = a.end;
+        let x = command_places::next_part(s, e);
+        let Parsed::Next(u) = x else {
+            return e;
+        };
+        i = u;
+        n += 1;
+    }
+    i
+}
+
+// A transaction or an acknowledgement.
+fn served(s: &[u8], at: usize, left: usize) -> Sought
+    ensures { λ r. ⌜ r ≡ sought (servedHolders (now (s .entry)) at) (partEnd (now (s .entry)) at) left ⌝ }
+{
+    if action_places::is_acknowledgement(s, at) {
+        let b = action_places::acks_start(s, at);
+        let e = acks_end(s, b);
+        return Sought::Behind {
+            left: left,
+            end: command_places::past_closing(s, e),
+        };
+    }
+    let p = action_places::transaction_places(s, at);
+    let y = actions(s, p.body, left);
+    match y {
+        Sought::Here(_) => y,
+        Sought::Behind { left: l, end: e } => Sought::Behind {
+            left: l,
+            end: action_places::closing_end(s, e),
+        },
+    }
+}
+
 // Who holds the text in a well-formed message, if there are more than k.
 fn find(s: &[u8], k: usize) -> Wanted
     ensures { λ r. ⌜ r ≡ messageSought (now (s .entry)) k ⌝ }
@@ -211,12 +254,11 @@ fn find(s: &[u8], k: usize) -> Wanted
     let mut most: usize = 8;
     let mut left = k;
     while 0 < most {
-        let p = action_places::transaction_places(s, i);
-        let y = actions(s, p.body, left);
+        let y = served(s, i, left);
         match y {
             Sought::Here(x) => return Wanted::Held(x),
             Sought::Behind { left: l, end: e } => {
-                i = action_places::closing_end(s, e);
+                i = e;
                 left = l;
             }
         }

@@ -10,15 +10,15 @@ use std::hint::black_box;
 use std::process::Command;
 use std::time::Duration;
 
-use cordafina::answer_word;
-use differential::calls::{reference_word, Call};
+use differential::calls::{archive_word, reference_word, Call};
 use differential::packets::Counted;
+use differential::rooms::Room;
 use reference::blocks::BLOCK_WORDS;
 use reference::table::Lines;
 use reference::{map, REPLY_BYTES};
-use workloads::{counts, fixed, requests, Workload, OWN};
+use workloads::{counts, fixed, requests, rooms, Workload, OWN};
 
-const SIDES: [(&str, Call); 2] = [("archive", answer_word), ("reference", reference_word)];
+const SIDES: [(&str, Call); 2] = [("archive", archive_word), ("reference", reference_word)];
 /// Measured rounds; a median is taken of them.
 const ROUNDS: usize = 15;
 /// How long one side is timed in one round.
@@ -55,7 +55,8 @@ const PACKETS: [(&str, &str, usize); 2] = [
 const HOW: &str = "\
 Times: CPU time of one thread, median of 15 rounds of about 10 ms, the sides by turns in each round, both in
 one release build. One reply buffer of 16,640 bytes, not cleared between calls. After each pass over a
-workload's messages the words of the table that they change are put back, on both sides, within the time.
+workload's messages the words of the table that they change are put back, and after each message the words of
+the room, so that none is a repeat of one before; on both sides, within the time.
 Instructions: callgrind's count of the same loop, as the difference of a longer and a shorter run, so that
 start and set-up are not in it; the C library is set to clear memory by plain stores, which it counts as they are.
 Ratios are archive to reference, within this run.
@@ -93,6 +94,7 @@ fn all() -> Vec<Workload> {
     let mut all = requests();
     all.extend(fixed());
     all.extend(counts());
+    all.extend(rooms());
     all
 }
 
@@ -116,7 +118,8 @@ fn report() {
         "", "ns a message", "ns a byte", "instructions a byte"
     );
     let workloads = all();
-    let (requests, counts) = (requests().len(), workloads.len() - counts().len());
+    let rooms = workloads.len() - rooms().len();
+    let (requests, counts) = (requests().len(), rooms - counts().len());
     for (place, workload) in workloads[..requests].iter().enumerate() {
         let times = times(workload);
         let instructions = instructions(place, workload);
@@ -171,12 +174,33 @@ fn report() {
         "{:<27}{:>7}{:>11}{:>14}{:>7} |{:>22}{:>11}",
         "", "lines", "archive ns", "reference ns", "ratio", "archive instructions", "reference"
     );
-    for (place, workload) in workloads.iter().enumerate().skip(counts) {
+    for (place, workload) in workloads[..rooms].iter().enumerate().skip(counts) {
         let times = times(workload);
         println!(
             "{:<27}{:>7}{:>11.0}{:>14.0}{:>7.2} |{}",
             workload.name,
             workload.lines.count(),
+            times[0],
+            times[1],
+            times[0] / times[1],
+            match instructions(place, workload) {
+                Some([one, other]) => format!("{one:>22.0}{other:>11.0}"),
+                None => "  valgrind is not there".to_string(),
+            }
+        );
+    }
+    println!(
+        "\nKept replies, on a fresh table of eight lines; a repeat stands under what it repeats.\n"
+    );
+    println!(
+        "{:<34}{:>11}{:>14}{:>7} |{:>22}{:>11}",
+        "", "archive ns", "reference ns", "ratio", "archive instructions", "reference"
+    );
+    for (place, workload) in workloads.iter().enumerate().skip(rooms) {
+        let times = times(workload);
+        println!(
+            "{:<34}{:>11.0}{:>14.0}{:>7.2} |{}",
+            workload.name,
             times[0],
             times[1],
             times[0] / times[1],
@@ -233,7 +257,17 @@ fn count(counter: Counted, place: usize, rounds: usize) {
     let (lines, mut blocks) = (Lines::EIGHT, [0; BLOCK_WORDS]);
     let (mut table, mut reply) = (vec![0; lines.words()], [0; REPLY_BYTES]);
     let (message, lines) = (message.as_bytes(), lines.count());
-    reference_word(lines, message, &mut table, &mut blocks, OWN, &mut reply);
+    let mut empty = Room::empty();
+    let room = &mut empty.lent();
+    reference_word(
+        lines,
+        message,
+        &mut table,
+        room,
+        &mut blocks,
+        OWN,
+        &mut reply,
+    );
     if times > 1 {
         let each = |block: &mut [u32]| block.copy_from_slice(&[9, 800, 20, 0]);
         blocks.chunks_exact_mut(4).for_each(each);

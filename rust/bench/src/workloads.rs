@@ -3,19 +3,23 @@
 
 use differential::calls::{reference_word, Call};
 use differential::numbers::Numbers;
+use differential::rooms::Room;
 use differential::tables;
 use reference::blocks::BLOCK_WORDS;
+use reference::room::{ROOM_WORDS, SLOTS};
 use reference::table::Lines;
 use reference::REPLY_BYTES;
 
 pub const OWN: &[u8] = b"[10.0.0.9]";
 
-/// Messages that are answered one after the other, from a table.
+/// Messages that are answered one after the other, from a table, each in the same
+/// room: no message is a repeat of one before it.
 pub struct Workload {
     pub name: &'static str,
     pub lines: Lines,
     pub messages: Vec<Vec<u8>>,
     pub table: Vec<u32>,
+    pub room: Room,
     /// The words that all messages together change; they are put back.
     changed: Vec<usize>,
 }
@@ -28,7 +32,17 @@ impl Workload {
         let mut reply = [0; REPLY_BYTES];
         for message in &messages {
             let count = lines.count();
-            reference_word(count, message, &mut after, &mut blocks, OWN, &mut reply);
+            let mut empty = Room::empty();
+            let room = &mut empty.lent();
+            reference_word(
+                count,
+                message,
+                &mut after,
+                room,
+                &mut blocks,
+                OWN,
+                &mut reply,
+            );
             for place in 0..table.len() {
                 touched[place] |= after[place] != table[place];
             }
@@ -39,8 +53,15 @@ impl Workload {
             lines,
             messages,
             table,
+            room: Room::empty(),
             changed,
         }
+    }
+
+    /// The same in another room.
+    fn within(mut self, room: Room) -> Self {
+        self.room = room;
+        self
     }
 
     /// One message on eight lines.
@@ -58,16 +79,25 @@ impl Workload {
         let mut table = self.table.clone();
         let mut blocks = [0; BLOCK_WORDS];
         let mut reply = [0; REPLY_BYTES];
+        let mut room = self.room.clone();
+        // Of a room that keeps nothing the row is enough; else what the slots hold is
+        // put back too, but for bytes.
+        let kept = match self.room.held().is_empty() {
+            true => SLOTS,
+            false => ROOM_WORDS,
+        };
         for _ in 0..rounds {
             for message in &self.messages {
                 std::hint::black_box(call(
                     lines,
                     message,
                     &mut table,
+                    &mut room.lent(),
                     &mut blocks,
                     OWN,
                     &mut reply,
                 ));
+                room.words[..kept].copy_from_slice(&self.room.words[..kept]);
             }
             for &place in &self.changed {
                 table[place] = self.table[place];
@@ -197,4 +227,75 @@ fn context_of(members: usize) -> Vec<u32> {
     table[start] = flows as u32;
     table[start + 1] = (flows >> 32) as u32;
     table
+}
+
+/// Rooms and repeats, on a fresh table of eight lines: a call turned down with an
+/// empty and with a full room; a request that runs, in an empty and in a full room,
+/// and beside each the same as a repeat, its reply the oldest of those kept.
+pub fn rooms() -> Vec<Workload> {
+    let small = "!/1 [10.0.0.1] T=7{C=${A=L/1/5,A=$}}".to_string();
+    let long = "!/1 [10.0.0.1] T=7{C=-{MF=L/1/*,MF=L/2/*,MF=L/3/*}}".to_string();
+    let full = |message: &str| {
+        let mut room = Room::empty();
+        if !message.is_empty() {
+            answered(message, &mut room);
+        }
+        // The others are of the same sender, with the same reply.
+        for id in (100..).take(SLOTS - room.held().len()) {
+            answered(&small.replace("T=7", &format!("T={id}")), &mut room);
+        }
+        room
+    };
+    let alone = |message: &str| {
+        let mut room = Room::empty();
+        answered(message, &mut room);
+        room
+    };
+    let request = |name, message, room| Workload::request(name, message, fresh()).within(room);
+    vec![
+        request("turned down, empty room", "", Room::empty()),
+        request("turned down, 16 kept", "", full("")),
+        request("a new context, empty room", &small, Room::empty()),
+        request("a new context, 16 kept", &small, full("")),
+        request("its repeat, 1 kept", &small, alone(&small)),
+        request("its repeat, 16 kept", &small, full(&small)),
+        request("93 lines, empty room", &long, Room::empty()),
+        request("93 lines, 16 kept", &long, full("")),
+        request("its repeat, 1 kept", &long, alone(&long)),
+        request("its repeat, 16 kept", &long, full(&long)),
+        request(
+            "K of all, 16 kept",
+            "!/1 [10.0.0.1] K{1-4294967295}",
+            full(""),
+        ),
+        request("turned down, 16 of one id", "", one_id()),
+    ]
+}
+
+/// A room whose pairs are the dearest to tell apart: one identifier, and mIds of 72
+/// bytes that differ in the last ones.
+fn one_id() -> Room {
+    let mut room = Room::empty();
+    for port in (65_501..).take(SLOTS) {
+        let sender = format!("<{}>:{port}", "g".repeat(64));
+        answered(&format!("!/1 {sender} T=7{{C=-{{MF=ROOT}}}}"), &mut room);
+    }
+    room
+}
+
+/// Keeps the reply of a request on a fresh table.
+fn answered(message: &str, room: &mut Room) {
+    let (mut table, mut reply) = (fresh(), [0; REPLY_BYTES]);
+    let (message, blocks) = (message.as_bytes(), &mut [0; BLOCK_WORDS]);
+    let lines = Lines::EIGHT.count();
+    let word = reference_word(
+        lines,
+        message,
+        &mut table,
+        &mut room.lent(),
+        blocks,
+        OWN,
+        &mut reply,
+    );
+    assert_eq!(word >> 32, 0);
 }

@@ -1,13 +1,14 @@
-//! A table with its own mId and reply buffer.
+//! A table with its room, own mId and reply buffer.
 
 use crate::layout::{MID_BYTES, REPLY_BYTES};
-use crate::{answer, packet, Blocks, Refusal, Table};
+use crate::{answer, packet, Blocks, Refusal, Room, Table};
 
-/// A table with the blocks, the own mId and the reply buffer that its calls need:
-/// some 24,000 bytes, in place.
+/// A table with the room of kept replies, the blocks, the own mId and the reply
+/// buffer that its calls need: some 58,000 bytes, in place.
 #[derive(Clone)]
 pub struct Gateway {
     table: Table,
+    room: Room,
     blocks: Blocks,
     own: [u8; MID_BYTES],
     own_length: usize,
@@ -38,6 +39,7 @@ impl Gateway {
     pub fn with_state(own: &[u8], table: Table, blocks: Blocks) -> Result<Self, Refusal> {
         let mut gateway = Gateway {
             table,
+            room: Room::empty(),
             blocks,
             own: [0; MID_BYTES],
             own_length: own.len(),
@@ -52,16 +54,28 @@ impl Gateway {
         }
     }
 
+    /// The same with a room that was kept.
+    #[must_use]
+    pub fn with_room(self, room: Room) -> Self {
+        Gateway { room, ..self }
+    }
+
     /// Answers one message: its reply, until the next call.
     ///
     /// # Errors
     /// `MessageUnfit` if the message has 0 or over 4,096 bytes. Any other message
-    /// has a reply, line noise too.
+    /// has a reply, line noise too; that of acknowledgements alone is empty.
     pub fn answer(&mut self, message: &[u8]) -> Result<&[u8], Refusal> {
         let own = &self.own[..self.own_length];
-        let (table, blocks) = (&mut self.table, &mut self.blocks);
-        let length = answer(message, table, blocks, own, &mut self.reply)?;
+        let (table, room, blocks) = (&mut self.table, &mut self.room, &mut self.blocks);
+        let length = answer(message, table, room, blocks, own, &mut self.reply)?;
         Ok(&self.reply[..length])
+    }
+
+    /// The replies that it keeps.
+    #[must_use]
+    pub const fn room(&self) -> &Room {
+        &self.room
     }
 
     /// Counts one packet of `R/n`: when it came, and its RTP time.

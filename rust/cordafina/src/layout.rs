@@ -22,6 +22,11 @@ pub const MESSAGE_BYTES: usize = 4_096;
 /// The greatest length of the gateway's own mId.
 pub const MID_BYTES: usize = 64;
 
+/// Words and bytes of the room of kept replies.
+pub const ROOM_WORDS: usize = 64;
+/// See [`ROOM_WORDS`].
+pub const ROOM_BYTES: usize = 33_920;
+
 /// Terminations of a table of so many lines, and the place where their
 /// properties start: `L/l/s` has number 31 (l - 1) + (s - 1), and after the last
 /// line, from [`line_terminations`] on, come the ephemerals `R/1` to `R/64`. A

@@ -14,17 +14,18 @@
 //! name from its [`Table`], and digit maps are in [`digit_map`]. The library has
 //! no state and no heap, and neither has this crate.
 //!
-//! [`answer`] is the call itself, on a lent [`Table`], lent [`Blocks`] and a lent
-//! reply buffer:
+//! [`answer`] is the call itself, on a lent [`Table`], a lent [`Room`] of kept
+//! replies, lent [`Blocks`] and a lent reply buffer:
 //!
 //! ```
-//! use cordafina::{answer, Blocks, Table, REPLY_BYTES};
+//! use cordafina::{answer, Blocks, Room, Table, REPLY_BYTES};
 //!
 //! let mut table = Table::fresh();
+//! let mut room = Room::empty();
 //! let mut blocks = Blocks::fresh();
 //! let mut reply = [0; REPLY_BYTES];
 //! let message = b"!/1 [10.0.0.1] T=7{C=${A=L/1/5,A=$}}";
-//! let length = answer(message, &mut table, &mut blocks, b"[10.0.0.9]", &mut reply)?;
+//! let length = answer(message, &mut table, &mut room, &mut blocks, b"[10.0.0.9]", &mut reply)?;
 //! assert_eq!(&reply[..length], b"!/1 [10.0.0.9] P=7{C=1{A=L/1/5,A=R/1}}");
 //! # Ok::<(), cordafina::Refusal>(())
 //! ```
@@ -114,6 +115,22 @@
 //! # Ok::<(), cordafina::Refusal>(())
 //! ```
 //!
+//! A request that is sent again gets the same bytes and does not run twice. The
+//! sender acknowledges replies with K, which has no reply; it then drops them from
+//! the [`Room`]:
+//!
+//! ```
+//! # let mut gateway = cordafina::Gateway::new(b"[10.0.0.9]")?;
+//! let message = b"!/1 [10.0.0.1] T=7{C=${A=$}}";
+//! let reply = gateway.answer(message)?.to_vec();
+//! assert_eq!(gateway.answer(message)?, reply);
+//! assert_eq!((gateway.table().in_use(), gateway.room().kept()), (1, 1));
+//! assert_eq!(gateway.answer(b"!/1 [10.0.0.1] K{7}")?, b"");
+//! assert_eq!(gateway.room().kept(), 0);
+//! assert_eq!(gateway.answer(message)?, b"!/1 [10.0.0.9] P=7{C=2{A=R/2}}");
+//! # Ok::<(), cordafina::Refusal>(())
+//! ```
+//!
 //! The archive that is linked is the one that `rt staticlib cordafina` writes,
 //! or the one that the variable `CORDAFINA_LIB` names when this crate is built
 //! (from the top folder of the repository on, if the path is not absolute).
@@ -128,6 +145,7 @@ pub mod digit_map;
 mod gateway;
 mod layout;
 mod refusal;
+mod room;
 mod table;
 mod termination;
 mod texts;
@@ -139,15 +157,17 @@ pub use layout::{
     terminations,
 };
 pub use layout::{BLOCK_WORDS, CHANNELS, CONTEXTS, EPHEMERALS, MEMBERS, MESSAGE_BYTES, MID_BYTES};
-pub use layout::{MOST_LINES, OUTPUT_BYTES, REPLY_BYTES};
+pub use layout::{MOST_LINES, OUTPUT_BYTES, REPLY_BYTES, ROOM_BYTES, ROOM_WORDS};
 pub use refusal::Refusal;
+pub use room::Room;
 pub use table::{Context, Session, Table};
 pub use termination::{Mode, ServiceState, Termination, UnknownName};
 pub use texts::{text, texts, Side, Text};
 
-/// Answers one message on a table and blocks, for a gateway of this own mId: the reply's
-/// length, from the buffer's start on; the bytes past it stay. With a refusal
-/// table, blocks and buffer are as they were.
+/// Answers one message on a table, a room of kept replies and blocks, for a gateway
+/// of this own mId: the reply's length, from the buffer's start on, 0 for a message
+/// of acknowledgements alone; the bytes past it stay. With a refusal table, room,
+/// blocks and buffer are as they were.
 ///
 /// # Errors
 /// In this order: `ReplyTooShort` for a buffer under [`REPLY_BYTES`]; `MidUnfit`;
@@ -160,13 +180,17 @@ pub use texts::{text, texts, Side, Text};
 pub fn answer(
     message: &[u8],
     table: &mut Table,
+    room: &mut Room,
     blocks: &mut Blocks,
     own: &[u8],
     reply: &mut [u8],
 ) -> Result<usize, Refusal> {
     let lines = table.lines();
+    let (words, bytes) = room.lent();
     let (table, blocks) = (table.lent(), blocks.lent());
-    Refusal::or_length(answer_word(lines, message, table, blocks, own, reply))
+    Refusal::or_length(answer_word(
+        lines, message, table, words, bytes, blocks, own, reply,
+    ))
 }
 
 /// Counts one packet of `R/n` in its block: when it came, and its RTP time, in
@@ -229,13 +253,15 @@ pub fn answer_word(
     lines: u32,
     message: &[u8],
     table: &mut [u32],
+    room_words: &mut [u32],
+    room_bytes: &mut [u8],
     blocks: &mut [u32],
     own: &[u8],
     reply: &mut [u8],
 ) -> u64 {
     // SAFETY: each pointer is a slice's own, with its length, and so aligned
-    // and not null; the three `&mut` slices overlap nothing. The callee stays
-    // within the five slices and keeps none of them.
+    // and not null; the five `&mut` slices overlap nothing. The callee stays
+    // within the seven slices and keeps none of them.
     unsafe {
         archive::cordafina_answer(
             lines,
@@ -243,6 +269,10 @@ pub fn answer_word(
             message.len(),
             table.as_mut_ptr(),
             table.len(),
+            room_words.as_mut_ptr(),
+            room_words.len(),
+            room_bytes.as_mut_ptr(),
+            room_bytes.len(),
             blocks.as_mut_ptr(),
             blocks.len(),
             own.as_ptr(),

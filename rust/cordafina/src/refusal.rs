@@ -18,6 +18,8 @@ pub enum Refusal {
     ReplyTooShort = 3,
     /// A gateway's own mId that is not an mId, or over 64 bytes.
     MidUnfit = 4,
+    /// A room that is not of its size, or not sound.
+    RoomUnsound = 5,
     /// A digit map that is malformed or too large.
     BadMap = 6,
     /// A dialled string of over 32 symbols, or with a foreign one.
@@ -47,6 +49,7 @@ impl Refusal {
             2 => Refusal::TableUnsound,
             3 => Refusal::ReplyTooShort,
             4 => Refusal::MidUnfit,
+            5 => Refusal::RoomUnsound,
             6 => Refusal::BadMap,
             7 => Refusal::BadString,
             8 => Refusal::LinesUnfit,
@@ -75,6 +78,7 @@ impl fmt::Display for Refusal {
             }
             Refusal::ReplyTooShort => "reply buffer under 16,640 bytes",
             Refusal::MidUnfit => "own mId not an mId, or over 64 bytes",
+            Refusal::RoomUnsound => "room not of 64 words and 33,920 bytes, or not sound",
             Refusal::BadMap => "digit map malformed or too large",
             Refusal::BadString => "dialled string over 32 symbols, or with a foreign one",
             Refusal::LinesUnfit => "count of lines outside 1 to 16",

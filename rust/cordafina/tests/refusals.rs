@@ -11,11 +11,12 @@ const GATEWAY: &str = include_str!("../../../crates/gateway/src/lib.rt");
 const DIGITS: &str = include_str!("../../../crates/digits/src/lib.rt");
 const REFERENCE: &str = include_str!("../../../docs/REFERENCE.md");
 
-const ALL: [Refusal; 9] = [
+const ALL: [Refusal; 10] = [
     Refusal::MessageUnfit,
     Refusal::TableUnsound,
     Refusal::ReplyTooShort,
     Refusal::MidUnfit,
+    Refusal::RoomUnsound,
     Refusal::BadMap,
     Refusal::BadString,
     Refusal::LinesUnfit,

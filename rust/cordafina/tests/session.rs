@@ -3,8 +3,8 @@
 
 use cordafina::{answer, answer_word, flows_start, in_use, lowest_absent, packet_word};
 use cordafina::{map_start, records_start, table_words, terminations};
-use cordafina::{Blocks, Gateway, Refusal, Table, BLOCK_WORDS};
-use cordafina::{MESSAGE_BYTES, MOST_LINES, REPLY_BYTES};
+use cordafina::{Blocks, Gateway, Refusal, Room, Table, BLOCK_WORDS};
+use cordafina::{MESSAGE_BYTES, MOST_LINES, REPLY_BYTES, ROOM_BYTES, ROOM_WORDS};
 
 /// Words of a table of eight lines.
 const TABLE_WORDS: usize = table_words(8);
@@ -62,10 +62,19 @@ fn text(inside: &str) -> Vec<u8> {
 #[test]
 fn session() {
     let mut blocks = Blocks::fresh();
+    let mut room = Room::empty();
     let mut table = Table::fresh();
     for (message, expected) in messages(SESSION) {
         let mut reply = [FILL; REPLY_BYTES];
-        let length = answer(&message, &mut table, &mut blocks, OWN, &mut reply).unwrap();
+        let length = answer(
+            &message,
+            &mut table,
+            &mut room,
+            &mut blocks,
+            OWN,
+            &mut reply,
+        )
+        .unwrap();
         assert_eq!(&reply[..length], expected);
         assert!(reply[length..].iter().all(|&byte| byte == FILL));
     }
@@ -96,55 +105,152 @@ fn short_cases() {
 
 #[test]
 fn refusals_in_their_order() {
-    // All five hold; then one after the other is mended.
+    // All six hold; then one after the other is mended.
     let mut table = [0; TABLE_WORDS];
     let mut blocks = [0; BLOCK_WORDS];
+    let (mut words, mut bytes) = ([0; ROOM_WORDS], [0; ROOM_BYTES]);
+    words[0] = 17;
     table[623] = 7;
     let damaged = table;
     let mut reply = [FILL; REPLY_BYTES];
     for lines in [0, 17, 264, u32::MAX] {
         let short = &mut reply[1..];
         assert_eq!(
-            answer_word(lines, b"", &mut table, &mut blocks, b"", short),
+            answer_word(
+                lines,
+                b"",
+                &mut table,
+                &mut words,
+                &mut bytes,
+                &mut blocks,
+                b"",
+                short
+            ),
             8 << 32
         );
     }
     let short = &mut reply[1..];
     assert_eq!(
-        answer_word(8, b"", &mut table, &mut blocks, b"", short),
+        answer_word(
+            8,
+            b"",
+            &mut table,
+            &mut words,
+            &mut bytes,
+            &mut blocks,
+            b"",
+            short
+        ),
         3 << 32
     );
     assert_eq!(
-        answer_word(8, b"", &mut table, &mut blocks, b"", &mut reply),
+        answer_word(
+            8,
+            b"",
+            &mut table,
+            &mut words,
+            &mut bytes,
+            &mut blocks,
+            b"",
+            &mut reply
+        ),
         2 << 32
     );
     assert_eq!(table, damaged);
     table[623] = 0;
     let cut = &mut table[1..];
     assert_eq!(
-        answer_word(8, b"", cut, &mut blocks, b"", &mut reply),
+        answer_word(
+            8,
+            b"",
+            cut,
+            &mut words,
+            &mut bytes,
+            &mut blocks,
+            b"",
+            &mut reply
+        ),
         2 << 32
     );
     assert_eq!(
-        answer_word(9, b"", &mut table, &mut blocks, b"", &mut reply),
+        answer_word(
+            9,
+            b"",
+            &mut table,
+            &mut words,
+            &mut bytes,
+            &mut blocks,
+            b"",
+            &mut reply
+        ),
         2 << 32
     );
     assert_eq!(
-        answer_word(8, b"", &mut table, &mut blocks, b"", &mut reply),
+        answer_word(
+            8,
+            b"",
+            &mut table,
+            &mut words,
+            &mut bytes,
+            &mut blocks,
+            b"",
+            &mut reply
+        ),
+        5 << 32
+    );
+    words[0] = 0;
+    assert_eq!(
+        answer_word(
+            8,
+            b"",
+            &mut table,
+            &mut words,
+            &mut bytes,
+            &mut blocks,
+            b"",
+            &mut reply
+        ),
         4 << 32
     );
     assert_eq!(
-        answer_word(8, b"", &mut table, &mut blocks, OWN, &mut reply),
+        answer_word(
+            8,
+            b"",
+            &mut table,
+            &mut words,
+            &mut bytes,
+            &mut blocks,
+            OWN,
+            &mut reply
+        ),
         1 << 32
     );
     let long = [b' '; MESSAGE_BYTES + 1];
     assert_eq!(
-        answer_word(8, &long, &mut table, &mut blocks, OWN, &mut reply),
+        answer_word(
+            8,
+            &long,
+            &mut table,
+            &mut words,
+            &mut bytes,
+            &mut blocks,
+            OWN,
+            &mut reply
+        ),
         1 << 32
     );
     assert_eq!(reply, [FILL; REPLY_BYTES]);
     assert_eq!(table, [0; TABLE_WORDS]);
-    let taken = answer_word(8, &long[1..], &mut table, &mut blocks, OWN, &mut reply);
+    let taken = answer_word(
+        8,
+        &long[1..],
+        &mut table,
+        &mut words,
+        &mut bytes,
+        &mut blocks,
+        OWN,
+        &mut reply,
+    );
     assert_eq!(taken, text("ER=400{}").len() as u64);
 }
 
@@ -155,6 +261,7 @@ fn refusals_by_name() {
     let refused = answer(
         b"x",
         &mut table,
+        &mut Room::empty(),
         &mut Blocks::fresh(),
         b"[10.0.0.256]",
         &mut reply,
@@ -163,6 +270,7 @@ fn refusals_by_name() {
     let refused = answer(
         b"x",
         &mut table,
+        &mut Room::empty(),
         &mut Blocks::fresh(),
         OWN,
         &mut reply[..16],
@@ -247,15 +355,17 @@ fn map_of_the_ephemerals() {
             assert_eq!(gateway.table().in_use(), number - 1);
             assert_eq!(gateway.table().lowest_absent(), number);
             let request = match number % 8 {
-                1 => "T=1{C=${A=$}}".to_string(),
-                _ => format!("T=1{{C={}{{A=R/$}}}}", (number + 7) / 8),
+                1 => format!("T={number}{{C=${{A=$}}}}"),
+                _ => format!("T={number}{{C={}{{A=R/$}}}}", (number + 7) / 8),
             };
             gateway.answer(&message(&request)).unwrap();
             assert_eq!(gateway.table().map(), u64::MAX >> (64 - number));
         }
         assert_eq!(gateway.table().in_use(), 64);
         assert_eq!(gateway.table().lowest_absent(), 0);
-        gateway.answer(&message("T=1{C=5{S=R/33,S=R/40}}")).unwrap();
+        gateway
+            .answer(&message("T=65{C=5{S=R/33,S=R/40}}"))
+            .unwrap();
         assert_eq!(gateway.table().map(), !(1 << 32 | 1 << 39));
         assert_eq!(gateway.table().in_use(), 62);
         assert_eq!(gateway.table().lowest_absent(), 33);

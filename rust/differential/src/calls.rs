@@ -1,29 +1,47 @@
 //! Whole calls, and how two sides answer them.
 
-use std::collections::BTreeMap;
+use std::collections::{BTreeMap, VecDeque};
 use std::fmt;
 
+use reference::room::{Lent, SLOTS};
 use reference::table::{Lines, CONTEXTS, EPHEMERALS};
+use reference::text::read;
 use reference::{Answer, MESSAGE_BYTES, REPLY_BYTES};
 
 use crate::messages::{Scope, Writer};
 use crate::numbers::Numbers;
+use crate::rooms::{self, Room};
 use crate::{damage, limits, speech, tables};
 
-/// A side: count of lines, message, table, blocks, own mId, reply buffer; the result
-/// as C has it.
-pub type Call = fn(u32, &[u8], &mut [u32], &mut [u32], &[u8], &mut [u8]) -> u64;
+/// A side: count of lines, message, table, room, blocks, own mId, reply buffer; the
+/// result as C has it.
+pub type Call = fn(u32, &[u8], &mut [u32], &mut Lent, &mut [u32], &[u8], &mut [u8]) -> u64;
+
+/// The side of the archive.
+pub fn archive_word(
+    lines: u32,
+    message: &[u8],
+    table: &mut [u32],
+    room: &mut Lent,
+    blocks: &mut [u32],
+    own: &[u8],
+    reply: &mut [u8],
+) -> u64 {
+    let (words, bytes) = (&mut *room.words, &mut *room.bytes);
+    cordafina::answer_word(lines, message, table, words, bytes, blocks, own, reply)
+}
 
 /// The side of the reference.
 pub fn reference_word(
     lines: u32,
     message: &[u8],
     table: &mut [u32],
+    room: &mut Lent,
     blocks: &mut [u32],
     own: &[u8],
     reply: &mut [u8],
 ) -> u64 {
-    let answer = reference::answer(lines, message, table, blocks, own, reply);
+    let answer = reference::answer(lines, message, table, room, blocks, own, reply);
     let length = match answer {
         Answer::Taken(length) => length as u64,
         _ => 0,
@@ -38,30 +56,43 @@ pub struct Case {
     pub lines: u32,
     pub message: Box<[u8]>,
     pub table: Vec<u32>,
+    pub room: Room,
     pub blocks: Vec<u32>,
     pub own: Box<[u8]>,
     /// The reply buffer's length.
     pub reply: usize,
 }
 
-/// Calls from a seed. Many start from the table that the call before left.
+/// Calls from a seed. Many start from the table and the room that the call before
+/// left, and some send again what was sent before.
 pub struct Cases {
     numbers: Numbers,
     left: Vec<u32>,
+    room: Room,
+    sent: VecDeque<Box<[u8]>>,
 }
+
+/// So many messages are remembered, to be sent again: more than replies are kept.
+const REMEMBERED: usize = 24;
 
 impl Cases {
     pub fn new(seed: u64) -> Self {
         Cases {
             numbers: Numbers::new(seed),
             left: tables::fresh(Lines::EIGHT),
+            room: Room::empty(),
+            sent: VecDeque::new(),
         }
     }
 
-    /// Takes the table that the last case left.
-    pub fn left(&mut self, table: &[u32]) {
-        if tables::lines_of(table.len()).is_some() {
-            self.left = table.to_vec();
+    /// Takes the table and the room that the last case left.
+    pub fn left(&mut self, outcome: &Outcome) {
+        if tables::lines_of(outcome.table().len()).is_some() {
+            self.left = outcome.table().to_vec();
+        }
+        // One that was turned down would be so again.
+        if outcome.refusal() == 0 {
+            self.room = outcome.room();
         }
     }
 
@@ -79,7 +110,28 @@ impl Cases {
             29 => tables::lowest(numbers, lines),
             _ => tables::damaged(numbers, lines),
         };
-        let message = message(numbers, lines, &table);
+        let room = match numbers.under(20) {
+            0..=11 => self.room.clone(),
+            12 | 13 => Room::empty(),
+            14..=18 => rooms::sound(numbers),
+            _ => rooms::trampled(numbers),
+        };
+        let again = !self.sent.is_empty() && numbers.one_in(16);
+        let message = match again {
+            true => {
+                let place = numbers.under(self.sent.len());
+                let mut message = self.sent[place].to_vec();
+                if numbers.one_in(8) && !message.is_empty() {
+                    damage::damage(numbers, &mut message);
+                }
+                message
+            }
+            false => message(numbers, lines, &table, &room),
+        };
+        if self.sent.len() == REMEMBERED {
+            self.sent.pop_front();
+        }
+        self.sent.push_back(message.clone().into_boxed_slice());
         let own = own(numbers, lines, &table);
         let reply = match numbers.under(40) {
             0 => numbers.pick(&[0, 1, 64, REPLY_BYTES - 1, REPLY_BYTES - 1]),
@@ -90,6 +142,7 @@ impl Cases {
             lines: lines_given(numbers, lines),
             message: message.into_boxed_slice(),
             table,
+            room,
             blocks: tables::blocks(numbers),
             own: own.into_boxed_slice(),
             reply,
@@ -112,8 +165,10 @@ fn lines_given(numbers: &mut Numbers, lines: Lines) -> u32 {
     }
 }
 
-fn message(numbers: &mut Numbers, lines: Lines, table: &[u32]) -> Vec<u8> {
-    let scope = Scope::whole(numbers, lines, table);
+fn message(numbers: &mut Numbers, lines: Lines, table: &[u32], room: &Room) -> Vec<u8> {
+    let mut scope = Scope::whole(numbers, lines, table);
+    let kept = room.kept().into_iter();
+    scope.kept = kept.map(|(sender, id, _)| (sender, id)).collect();
     match numbers.under(32) {
         0..=15 => Writer::new(numbers, table, &scope).message(),
         16..=22 => {
@@ -165,6 +220,7 @@ pub struct Outcome {
     message: Box<[u8]>,
     own: Box<[u8]>,
     table: Vec<u32>,
+    room: Room,
     blocks: Vec<u32>,
     reply: Vec<u8>,
     guard: usize,
@@ -187,12 +243,22 @@ impl Outcome {
         &self.blocks[self.guard..self.blocks.len() - self.guard]
     }
 
+    /// The lent room.
+    pub fn room(&self) -> Room {
+        let Room { words, bytes } = &self.room;
+        Room {
+            words: words[self.guard..words.len() - self.guard].to_vec(),
+            bytes: bytes[self.guard..bytes.len() - self.guard].to_vec(),
+        }
+    }
+
     fn buffer(&self) -> &[u8] {
         &self.reply[self.guard..self.reply.len() - self.guard]
     }
 
-    /// Whether nothing but the table and the reply is written: the rest of the
-    /// buffer, what stands around both, the message and the own mId stay.
+    /// Whether nothing but the table, the room, the blocks and the reply is
+    /// written: the rest of the buffer, what stands around these, the message and
+    /// the own mId stay.
     pub fn stays_elsewhere(&self, case: &Case) -> bool {
         let (before, table) = self.table.split_at(self.guard);
         let after = &table[case.table.len()..];
@@ -200,7 +266,14 @@ impl Outcome {
         let pattern = &PATTERN[..self.reply.len()];
         let (left, blocks) = self.blocks.split_at(self.guard);
         let right = &blocks[case.blocks.len()..];
-        before.iter().chain(after).all(|&word| word == AROUND)
+        let (words, bytes) = (&self.room.words, &self.room.bytes);
+        let (first, kept) = words.split_at(self.guard);
+        let last = &kept[case.room.words.len()..];
+        let (front, replies) = bytes.split_at(self.guard);
+        let back = &replies[case.room.bytes.len()..];
+        first.iter().chain(last).all(|&word| word == AROUND)
+            && front.iter().chain(back).all(|&byte| byte == BESIDE)
+            && before.iter().chain(after).all(|&word| word == AROUND)
             && left.iter().chain(right).all(|&word| word == AROUND)
             && self.reply[..self.guard] == pattern[..self.guard]
             && self.reply[end..] == pattern[end..]
@@ -222,6 +295,9 @@ pub const GUARD: usize = 21;
 /// What stands around a lent table.
 const AROUND: u32 = 0xDEAD_BEEF;
 
+/// What stands around a room's bytes.
+const BESIDE: u8 = 0xBE;
+
 /// What a reply buffer holds before a call.
 static PATTERN: [u8; 20_000 + 2 * GUARD] = {
     let mut pattern = [0; 20_000 + 2 * GUARD];
@@ -233,7 +309,7 @@ static PATTERN: [u8; 20_000 + 2 * GUARD] = {
     pattern
 };
 
-/// Lets a side answer. The two buffers have `guard` places around them.
+/// Lets a side answer. What is lent has `guard` places around it.
 pub fn outcome(case: &Case, call: Call, guard: usize) -> Outcome {
     let message = case.message.clone();
     let own = case.own.clone();
@@ -245,12 +321,35 @@ pub fn outcome(case: &Case, call: Call, guard: usize) -> Outcome {
     let mut blocks = vec![AROUND; case.blocks.len() + 2 * guard];
     let figures = &mut blocks[guard..guard + case.blocks.len()];
     figures.copy_from_slice(&case.blocks);
-    let word = call(case.lines, &message, lent, figures, &own, buffer);
+    let kept = &case.room;
+    let mut room = Room {
+        words: vec![AROUND; kept.words.len() + 2 * guard],
+        bytes: Vec::with_capacity(kept.bytes.len() + 2 * guard),
+    };
+    let held = &mut room.words[guard..guard + kept.words.len()];
+    held.copy_from_slice(&kept.words);
+    room.bytes.resize(guard, BESIDE);
+    room.bytes.extend_from_slice(&kept.bytes);
+    room.bytes.resize(kept.bytes.len() + 2 * guard, BESIDE);
+    let mut replies = Lent {
+        words: held,
+        bytes: &mut room.bytes[guard..guard + kept.bytes.len()],
+    };
+    let word = call(
+        case.lines,
+        &message,
+        lent,
+        &mut replies,
+        figures,
+        &own,
+        buffer,
+    );
     Outcome {
         word,
         message,
         own,
         table,
+        room,
         blocks,
         reply,
         guard,
@@ -271,6 +370,7 @@ impl fmt::Display for Difference {
         writeln!(f, "lines     {}", self.case.lines)?;
         writeln!(f, "message   {}", self.case.message.escape_ascii())?;
         writeln!(f, "table     {}", tables::shown(&self.case.table))?;
+        writeln!(f, "room      {}", rooms::shown(&self.case.room))?;
         writeln!(f, "blocks    {}", tables::figures_shown(&self.case.blocks))?;
         writeln!(f, "own mId   {}", self.case.own.escape_ascii())?;
         writeln!(f, "buffer    {} bytes", self.case.reply)?;
@@ -279,6 +379,11 @@ impl fmt::Display for Difference {
             writeln!(f, "{side} refusal {refusal}, length {length}")?;
             writeln!(f, "  reply   {}", outcome.text().escape_ascii())?;
             writeln!(f, "  table   {}", tables::shown(outcome.table()))?;
+            let room = match outcome.room() == self.case.room {
+                true => "as before".to_string(),
+                false => rooms::shown(&outcome.room()),
+            };
+            writeln!(f, "  room    {room}")?;
             writeln!(f, "  blocks  {}", tables::figures_shown(outcome.blocks()))?;
         }
         Ok(())
@@ -306,7 +411,10 @@ fn unlike(expected: &Outcome, got: &Outcome) -> Option<String> {
         format!("word {at} is {new}, not {old}")
     } else if expected.blocks() != got.blocks() {
         "the blocks are others".to_string()
+    } else if let Some(what) = rooms_unlike(&expected.room(), &got.room()) {
+        what
     } else if expected.table != got.table
+        || expected.room != got.room
         || expected.blocks != got.blocks
         || expected.reply != got.reply
     {
@@ -316,8 +424,18 @@ fn unlike(expected: &Outcome, got: &Outcome) -> Option<String> {
     })
 }
 
-/// Lets both sides answer and compares refusal, length, the whole buffer and
-/// the whole table. Gives what the reference made of the call.
+/// The first word or byte in which two rooms are not alike.
+fn rooms_unlike(expected: &Room, got: &Room) -> Option<String> {
+    let words = expected.words.iter().zip(&got.words).enumerate();
+    let bytes = expected.bytes.iter().zip(&got.bytes).enumerate();
+    let word = words.clone().find(|(_, (old, new))| old != new);
+    let byte = bytes.clone().find(|(_, (old, new))| old != new);
+    let word = word.map(|(at, (old, new))| format!("the room's word {at} is {new}, not {old}"));
+    word.or(byte.map(|(at, (old, new))| format!("the room's byte {at} is {new}, not {old}")))
+}
+
+/// Lets both sides answer and compares refusal, length, the whole buffer, the
+/// whole table, the whole room and the blocks. Gives what the reference made of the call.
 pub fn compare(case: &Case, call: Call, guard: usize) -> Result<Outcome, Box<Difference>> {
     let expected = outcome(case, reference_word, guard);
     let got = outcome(case, call, guard);
@@ -363,7 +481,7 @@ const CODES: [u32; 22] = [
 ];
 
 /// The refusals, in the order in which they are judged.
-const REFUSALS: [u64; 5] = [8, 3, 2, 4, 1];
+const REFUSALS: [u64; 6] = [8, 3, 2, 5, 4, 1];
 
 /// What the calls were.
 #[derive(Default)]
@@ -383,6 +501,10 @@ pub struct Tally {
     speech: u64,
     /// Calls that change the blocks, and that report figures.
     blocks: [u64; 2],
+    /// Of the calls taken: those whose first transaction is kept, those of
+    /// acknowledgements alone, those that leave fewer kept, and those in which the
+    /// oldest goes.
+    room: [u64; 4],
     /// Calls whose reply has the code.
     codes: BTreeMap<u32, u64>,
     /// Transactions' replies of exactly 2,048 bytes.
@@ -413,6 +535,9 @@ impl Tally {
         let text = outcome.text();
         self.blocks[0] += u64::from(outcome.blocks() != case.blocks);
         self.blocks[1] += u64::from(text.windows(7).any(|window| window == b"rtp/jit"));
+        if outcome.refusal() == 0 {
+            self.count_room(case, outcome);
+        }
         let mut codes: Vec<u32> = text
             .windows(6)
             .filter(|window| window.starts_with(b"ER="))
@@ -429,6 +554,24 @@ impl Tally {
         }
         let inside = text.len().saturating_sub(5 + case.own.len());
         self.full += u64::from(inside == 2_048);
+    }
+
+    fn count_room(&mut self, case: &Case, outcome: &Outcome) {
+        let (before, after) = (case.room.kept(), outcome.room().kept());
+        let message = read(&case.message).unwrap_or_default();
+        let first = message.transactions().next().map(|one| one.id);
+        let is_kept =
+            |(sender, id, _): &rooms::Kept| sender == message.sender && Some(*id) == first;
+        let goes = before.len() == SLOTS && after.last() != before.last();
+        let counts = [
+            before.iter().any(is_kept),
+            outcome.length() == 0,
+            after.len() < before.len(),
+            goes && !after.contains(&before[0]),
+        ];
+        for (sum, count) in self.room.iter_mut().zip(counts) {
+            *sum += u64::from(count);
+        }
     }
 
     /// What never came in so many calls.
@@ -456,6 +599,11 @@ impl Tally {
         if self.blocks.contains(&0) {
             missing.push("a change of the blocks, and figures".to_string());
         }
+        if self.room.contains(&0) {
+            missing.push(
+                "a repeat, acknowledgements alone, a reply dropped, the oldest gone".to_string(),
+            );
+        }
         if self.full == 0 {
             missing.push("a reply of 2,048 bytes".to_string());
         }
@@ -480,9 +628,10 @@ impl fmt::Display for Tally {
             write!(f, " {count}:{calls}")?;
         }
         let [low, high] = self.map;
+        let [repeats, alone, dropped, gone] = self.room;
         write!(
             f,
-            "; changes of the map low:{low} high:{high}, of the flows:{}, of speech:{}, of the blocks:{}; with texts {}, figures {}; codes",
+            "; changes of the map low:{low} high:{high}, of the flows:{}, of speech:{}, of the blocks:{}; with texts {}, figures {}; repeats {repeats}, acknowledgements alone {alone}, replies dropped {dropped}, the oldest gone {gone}; codes",
             self.flows, self.speech, self.blocks[0], self.texts, self.blocks[1]
         )?;
         for (code, calls) in &self.codes {

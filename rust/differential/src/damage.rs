@@ -6,7 +6,11 @@ use crate::numbers::Numbers;
 const SIGNS: &[u8] = b"{}=,/;:\"[]<>$*-_.@!\\ \t\r\n\0\x7f\x80\xff019AOTWZaotwz";
 
 /// What follows a message that was whole.
-const TAILS: [&[u8]; 12] = [
+const TAILS: [&[u8]; 16] = [
+    b"K",
+    b"K{",
+    b"K{0}",
+    b"K{9-8}",
     b";",
     b";x",
     b"\n;x\x7f\n",
@@ -114,8 +118,22 @@ fn slip(numbers: &mut Numbers, message: &mut Vec<u8>) {
         b"\n;",
         b"\ns=\\}\n",
     ];
+    const AFTER_PART: [&[u8]; 12] = [
+        b"K{1}",
+        b"K{1-9}",
+        b"k {7 , 8}",
+        b"K{1-4294967295}",
+        b"K{0}",
+        b"K{9-1}",
+        b"K{}",
+        b"K=1{}",
+        b"K={1}",
+        b"K{1,}",
+        b"K{1 - 2}",
+        b"K{1",
+    ];
     const SPACES: [&[u8]; 6] = [b" ", b"\t", b"\n", b";\r", b";", b"\x0b"];
-    let (signs, texts): (&[u8], &[&[u8]]) = match numbers.under(8) {
+    let (signs, texts): (&[u8], &[&[u8]]) = match numbers.under(9) {
         0 => (b"{,", &AFTER_COMMA),
         1 => (b"=", &AFTER_EQUALS),
         2 => (b"/-.:[]<>!", &SPACES),
@@ -123,6 +141,7 @@ fn slip(numbers: &mut Numbers, message: &mut Vec<u8>) {
         4 => (b"{", &[b"}", b"}", b"{", b",", b"=", b"{}"]),
         5 => (b"{", &AFTER_BRACE),
         6 => (b"\r\n.08", &IN_TEXT),
+        7 => (b"}", &AFTER_PART),
         _ => (b"}", &[b"}", b",", b"{}", b"T=0", b"T=1{C=-{MF=ROOT}}"]),
     };
     // Such a sign, from some place on: it goes, or a text comes beside it.
@@ -148,7 +167,9 @@ fn slip(numbers: &mut Numbers, message: &mut Vec<u8>) {
 
 /// Line noise: any bytes, bytes of the grammar, or pieces of messages.
 pub fn noise(numbers: &mut Numbers) -> Vec<u8> {
-    const PIECES: [&[u8]; 27] = [
+    const PIECES: [&[u8]; 29] = [
+        b"K{1,3-9}",
+        b"K{",
         b"!/1 [1.2.3.4] ",
         b"MEGACO/1 a ",
         b"!/2 <x> ",

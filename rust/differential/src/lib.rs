@@ -12,5 +12,6 @@ pub mod messages;
 pub mod numbers;
 pub mod packets;
 pub mod pairs;
+pub mod rooms;
 pub mod speech;
 pub mod tables;

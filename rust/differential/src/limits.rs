@@ -3,6 +3,7 @@
 use crate::calls::reference_word;
 use crate::messages::{Scope, Writer};
 use crate::numbers::Numbers;
+use crate::rooms::Room;
 
 /// Identifiers and context numbers: "at most 10 digits", up to 4294967295.
 const NUMBERS: [&[u8]; 16] = [
@@ -69,7 +70,8 @@ const MIDS: [&[u8]; 22] = [
 
 /// A message at some limit.
 pub fn message(numbers: &mut Numbers, table: &[u32], scope: &Scope) -> Vec<u8> {
-    match numbers.under(16) {
+    match numbers.under(18) {
+        16 | 17 => acknowledgement(numbers, table, scope),
         0 => message_length(numbers, table, scope),
         1 => version(numbers),
         2 => sender(numbers, table, scope),
@@ -227,13 +229,57 @@ pub fn mid(writer: &mut Writer) {
     }
 }
 
-/// "1 to 8 transactions", and identifiers.
+/// Acknowledgements with identifiers at their limits, before or behind a request.
+fn acknowledgement(numbers: &mut Numbers, table: &[u32], scope: &Scope) -> Vec<u8> {
+    const ODD: [&[u8]; 14] = [
+        b"", b",", b"1,", b",1", b"1,,2", b"5-4", b"2-1", b"5-", b"-5", b"1-2-3", b"1 -2", b"1- 2",
+        b"1;", b"*",
+    ];
+    let mut writer = Writer::new(numbers, table, scope);
+    writer.header();
+    if writer.numbers.one_in(3) {
+        writer.transaction();
+    }
+    writer.put(b"K{");
+    for place in 0..writer.numbers.within(1..=3) {
+        if place > 0 {
+            writer.sign(b',');
+        }
+        let [one, other] = [0, 1].map(|_| writer.numbers.pick(&NUMBERS));
+        match writer.numbers.under(4) {
+            0 => {
+                let odd = writer.numbers.pick(&ODD);
+                writer.put(odd);
+            }
+            1 => {
+                writer.put(one);
+                writer.put(b"-");
+                writer.put(other);
+            }
+            2 => writer.put(b"1-4294967295"),
+            _ => writer.put(one),
+        }
+    }
+    writer.put(b"}");
+    if writer.numbers.one_in(3) {
+        writer.transaction();
+    }
+    writer.bytes
+}
+
+/// "1 to 8 transactions", K "as one of the eight", and identifiers.
 fn several_transactions(numbers: &mut Numbers, table: &[u32], scope: &Scope) -> Vec<u8> {
     let count = numbers.within(7..=9);
     let odd = numbers.under(2 * count);
+    // None, some or all are acknowledgements.
+    let many = numbers.pick(&[1_000, 1_000, 4, 2, 1]);
     let mut writer = Writer::new(numbers, table, scope);
     writer.header();
     for place in 0..count {
+        if writer.numbers.one_in(many) {
+            writer.acknowledgement();
+            continue;
+        }
         if place == odd {
             let number = writer.numbers.pick(&NUMBERS);
             writer.put(b"T=");
@@ -299,6 +345,7 @@ fn reply_length(numbers: &mut Numbers, table: &[u32], scope: &Scope) -> Vec<u8> 
         lines,
         &alone,
         &mut table.to_vec(),
+        &mut Room::empty().lent(),
         &mut [0; reference::blocks::BLOCK_WORDS],
         OWN,
         &mut reply,

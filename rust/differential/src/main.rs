@@ -16,8 +16,7 @@
 
 use std::process::ExitCode;
 
-use cordafina::answer_word;
-use differential::calls::{compare, shortened, Cases, Tally, GUARD};
+use differential::calls::{archive_word, compare, shortened, Cases, Tally, GUARD};
 use differential::contexts;
 use differential::maps::{ask, Questions};
 use differential::numbers::Numbers;
@@ -62,13 +61,13 @@ fn calls(seed: u64, count: u64, guard: usize) -> bool {
     let mut tally = Tally::default();
     for _ in 0..count {
         let case = cases.draw();
-        match compare(&case, answer_word, guard) {
+        match compare(&case, archive_word, guard) {
             Ok(outcome) => {
                 tally.count(&case, &outcome);
-                cases.left(outcome.table());
+                cases.left(&outcome);
             }
             Err(found) => {
-                println!("{}", shortened(found, answer_word, guard));
+                println!("{}", shortened(found, archive_word, guard));
                 println!("seed {seed}, after {tally}: 1 difference");
                 return false;
             }
@@ -160,11 +159,11 @@ fn pairs(seed: u64, count: u64) -> bool {
     let mut numbers = Numbers::new(seed);
     let (mut apart, mut both_table, mut both_map, mut both_flows, mut both_speech) =
         (0, 0, 0, 0, 0);
-    let (mut others, mut unlike) = (0, 0);
+    let (mut others, mut unlike, mut both_oldest) = (0, 0, 0);
     while apart < count {
         let pair = Pair::new(&mut numbers);
         let is_apart = pair.is_apart();
-        match pair.run(answer_word) {
+        match pair.run(archive_word) {
             Err(what) if is_apart => {
                 println!("UNLIKE: {what}\n{pair}");
                 println!("seed {seed}, after {apart} pairs that are apart: 1 ends unlike");
@@ -176,6 +175,7 @@ fn pairs(seed: u64, count: u64) -> bool {
                 both_map += u64::from(run.as_ref().is_ok_and(|both| both.map));
                 both_flows += u64::from(run.as_ref().is_ok_and(|both| both.flows));
                 both_speech += u64::from(run.as_ref().is_ok_and(|both| both.speech));
+                both_oldest += u64::from(run.as_ref().is_ok_and(|both| both.oldest));
             }
             run => {
                 others += 1;
@@ -185,7 +185,7 @@ fn pairs(seed: u64, count: u64) -> bool {
     }
     println!(
         "seed {seed}, {apart} pairs that are apart, in {both_table} both change the table, in {both_map} the map, in \
-         {both_flows} the flows, in {both_speech} where speech goes: 0 end unlike; of {others} other pairs {unlike} end unlike"
+         {both_flows} the flows, in {both_speech} where speech goes, in {both_oldest} an old reply goes for each: 0 end unlike; of {others} other pairs {unlike} end unlike"
     );
     true
 }

@@ -1,8 +1,9 @@
 //! Messages that read well: "Annex B.2, profiled", with every command, item,
-//! text and name, keywords long and short in any letter case, and white space in
+//! text and name, acknowledgements, keywords long and short in any letter case, and white space in
 //! odd places.
 
 use reference::table::{write_name, write_number, Lines, CONTEXTS, OUT_OF_SERVICE};
+use reference::text::is_mid;
 
 use crate::numbers::Numbers;
 use crate::{speech, tables};
@@ -95,6 +96,8 @@ pub struct Scope {
     /// "every context by number or as the null one, and every termination
     /// without `*` or `$`"
     pub plain: bool,
+    /// The senders and identifiers of kept replies.
+    pub kept: Vec<(Vec<u8>, u32)>,
 }
 
 impl Scope {
@@ -109,6 +112,7 @@ impl Scope {
             contexts,
             terminations: (0..lines.terminations()).collect(),
             plain: false,
+            kept: Vec::new(),
         }
     }
 }
@@ -159,14 +163,22 @@ impl<'a> Writer<'a> {
     /// A whole message.
     pub fn message(mut self) -> Vec<u8> {
         self.header();
-        self.transaction();
+        self.part(16);
         let most = self.numbers.pick(&[1, 1, 2, 8]);
         for _ in 1..most {
             if self.bytes.len() < self.room {
-                self.transaction();
+                self.part(6);
             }
         }
         self.bytes
+    }
+
+    /// A transaction, or once in so many an acknowledgement.
+    fn part(&mut self, many: usize) {
+        match self.numbers.one_in(many) {
+            true => self.acknowledgement(),
+            false => self.transaction(),
+        }
     }
 
     // ---- small pieces
@@ -295,8 +307,29 @@ impl<'a> Writer<'a> {
         self.bytes.push(b'/');
         self.put(version.as_bytes());
         self.space();
-        self.mid();
+        self.sender();
         self.space();
+    }
+
+    /// The sender's mId: now and then that of a kept reply, or nearly that.
+    pub fn sender(&mut self) {
+        if self.scope.kept.is_empty() || !self.numbers.one_in(3) {
+            return self.mid();
+        }
+        let place = self.numbers.under(self.scope.kept.len());
+        let (mid, _) = &self.scope.kept[place];
+        let mut mid = mid.clone();
+        if self.numbers.one_in(6) {
+            mid.iter_mut().for_each(|byte| match *byte {
+                b'a'..=b'z' => *byte = byte.to_ascii_uppercase(),
+                _ => *byte = byte.to_ascii_lowercase(),
+            });
+        }
+        // Bytes are kept that are no mId.
+        match is_mid(&mid) {
+            true => self.put(&mid),
+            false => self.mid(),
+        }
     }
 
     pub fn mid(&mut self) {
@@ -336,14 +369,49 @@ impl<'a> Writer<'a> {
 
     /// `T=id{`
     pub fn open_transaction(&mut self) {
-        let id = match self.numbers.under(8) {
-            0 => 1 + self.numbers.word() as u32 / 2,
-            _ => self.numbers.within(1..=999) as u32,
-        };
+        let id = self.id(6);
         self.keyword((b"Transaction", b"T"));
         self.sign(b'=');
         self.number(id, 10);
         self.sign(b'{');
+    }
+
+    /// An identifier: once in so many that of a kept reply.
+    fn id(&mut self, many: usize) -> u32 {
+        if !self.scope.kept.is_empty() && self.numbers.one_in(many) {
+            let place = self.numbers.under(self.scope.kept.len());
+            return self.scope.kept[place].1.max(1);
+        }
+        match self.numbers.under(8) {
+            0 => 1 + self.numbers.word() as u32 / 2,
+            _ => self.numbers.within(1..=999) as u32,
+        }
+    }
+
+    /// `K{..}`: identifiers and ranges, of kept replies for the most part.
+    pub fn acknowledgement(&mut self) {
+        self.keyword((b"TransactionResponseAck", b"K"));
+        self.sign(b'{');
+        let most = self.numbers.pick(&[1, 1, 2, 3, 8]);
+        for place in 0..most {
+            if place > 0 {
+                self.sign(b',');
+            }
+            let first = self.id(1);
+            self.number(first, 10);
+            if self.numbers.one_in(3) {
+                let other = self.id(1);
+                let last = match self.numbers.under(4) {
+                    0 => first,
+                    1 => u32::MAX,
+                    2 => first.saturating_add(self.numbers.under(4) as u32),
+                    _ => first.max(other),
+                };
+                self.bytes.push(b'-');
+                self.number(last, 10);
+            }
+        }
+        self.sign(b'}');
     }
 
     pub fn transaction(&mut self) {

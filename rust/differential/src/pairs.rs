@@ -3,23 +3,34 @@
 
 use std::fmt;
 
+use reference::room::SLOTS;
 use reference::table::{Lines, Name, CONTEXTS};
-use reference::text::{read, ContextId, Property};
+use reference::text::{read, ContextId, Part, Property};
 use reference::{MESSAGE_BYTES, REPLY_BYTES};
 
 use crate::calls::Call;
 use crate::messages::{Scope, Writer};
 use crate::numbers::Numbers;
+use crate::rooms::{self, Kept, Room};
 use crate::tables;
 
-const HEADER: &[u8] = b"!/1 [10.0.0.1] ";
+/// The senders of the two: the same one, or not.
+const SENDERS: [[&str; 2]; 4] = [
+    ["[10.0.0.1]", "[10.0.0.1]"],
+    ["[10.0.0.1]", "[10.0.0.1]"],
+    ["[10.0.0.1]", "[10.0.0.2]"],
+    ["gw/A", "gw/a"],
+];
 const OWN: &[u8] = b"[10.0.0.9]";
 
-/// A sound table of a count of lines, and the texts of two transactions.
+/// A sound table of a count of lines, a sound room, and the texts of two
+/// transactions with their senders.
 pub struct Pair {
     lines: Lines,
     table: Vec<u32>,
+    room: Room,
     blocks: Vec<u32>,
+    senders: [&'static str; 2],
     one: Vec<u8>,
     two: Vec<u8>,
 }
@@ -33,6 +44,15 @@ pub struct BothChange {
     pub flows: bool,
     /// Where speech goes.
     pub speech: bool,
+    /// The kept replies, an old one going for each.
+    pub oldest: bool,
+}
+
+/// What calls leave beside the replies.
+#[derive(Clone)]
+struct Left {
+    table: Vec<u32>,
+    room: Room,
 }
 
 impl Pair {
@@ -57,16 +77,30 @@ impl Pair {
                 _ => two.plain = false,
             }
         }
-        let mut text = |scope: &Scope| {
+        let room = rooms::sound(numbers);
+        let senders = numbers.pick(&SENDERS);
+        if numbers.one_in(8) {
+            // It may be a repeat.
+            let kept = room.kept().into_iter();
+            one.kept = kept.map(|(sender, id, _)| (sender, id)).collect();
+        }
+        let text = |numbers: &mut Numbers, scope: &Scope| {
             let mut writer = Writer::new(numbers, &table, scope);
             writer.transaction();
             writer.bytes
         };
-        let (one, two) = (text(&one), text(&two));
+        let one = text(numbers, &one);
+        if let (Some(named), true) = (named(lines, &one), numbers.one_in(4)) {
+            // The other may have the same identifier.
+            two.kept = vec![(Vec::new(), named.id)];
+        }
+        let two = text(numbers, &two);
         Pair {
             lines,
             table,
+            room,
             blocks: tables::sound_blocks(numbers),
+            senders,
             one,
             two,
         }
@@ -74,8 +108,12 @@ impl Pair {
 
     /// Whether the conditions of demand 3 hold, sentence by sentence.
     pub fn is_apart(&self) -> bool {
-        let named = |transaction| named(self.lines, transaction);
-        let (Some(one), Some(two)) = (named(&self.one), named(&self.two)) else {
+        self.names_are_apart() && self.keys_are_apart()
+    }
+
+    /// Whether the conditions on what the two name hold.
+    pub fn names_are_apart(&self) -> bool {
+        let Some([one, two]) = self.named() else {
             return false;
         };
         // "Say that no termination is named by both."
@@ -89,49 +127,86 @@ impl Pair {
         !one.iter().any(|context| two.contains(context))
     }
 
-    /// Runs both orders, each as two messages and as one. Gives what both
-    /// transactions change, or what ends unlike.
+    /// "the two pairs differ and neither is kept at the start"
+    pub fn keys_are_apart(&self) -> bool {
+        let Some([one, two]) = self.named() else {
+            return false;
+        };
+        let keys = [(self.senders[0], one.id), (self.senders[1], two.id)];
+        let kept = self.room.kept();
+        let is_kept = |&(sender, id): &(&str, u32)| {
+            let mut kept = kept.iter();
+            kept.any(|(of, kept_id, _)| of == sender.as_bytes() && *kept_id == id)
+        };
+        keys[0] != keys[1] && !keys.iter().any(is_kept)
+    }
+
+    fn named(&self) -> Option<[Named; 2]> {
+        let named = |transaction| named(self.lines, transaction);
+        Some([named(&self.one)?, named(&self.two)?])
+    }
+
+    /// Runs both orders, each as two messages and, from one sender, as one. Gives
+    /// what both transactions change, or what ends unlike.
     pub fn run(&self, call: Call) -> Result<BothChange, String> {
-        let (one, two) = (&self.one, &self.two);
+        let (one, two) = ((self.senders[0], &self.one), (self.senders[1], &self.two));
         // "they end with the same blocks": those of the start.
-        let replied = |table: &mut [u32], texts: &[&Vec<u8>]| {
+        let replied = |left: &mut Left, (sender, text): (&str, &[u8])| {
             let mut blocks = self.blocks.clone();
-            let reply = replied(call, self.lines, table, &mut blocks, texts);
+            let reply = replied(call, self.lines, left, &mut blocks, sender, text);
             match self.blocks == blocks {
                 true => reply,
                 false => Err("blocks are changed".to_string()),
             }
         };
-        let mut table = self.table.clone();
-        let first = replied(&mut table, &[one])?;
-        let between = table.clone();
-        let second = replied(&mut table, &[two])?;
+        let start = Left {
+            table: self.table.clone(),
+            room: self.room.clone(),
+        };
+        let mut left = start.clone();
+        let first = replied(&mut left, (one.0, one.1))?;
+        let between = left.clone();
+        let second = replied(&mut left, (two.0, two.1))?;
         let both = |part: std::ops::Range<usize>| {
-            between[part.clone()] != self.table[part.clone()]
-                && table[part.clone()] != between[part]
+            between.table[part.clone()] != start.table[part.clone()]
+                && left.table[part.clone()] != between.table[part]
         };
         let both_change = BothChange {
             table: both(0..self.lines.words()),
             map: both(self.lines.map()..self.lines.flows()),
             flows: both(self.lines.flows()..self.lines.speech()),
             speech: both(self.lines.speech()..self.lines.words()),
+            oldest: self.room.held().len() == SLOTS && left.room.words != between.room.words,
         };
 
-        let mut other = self.table.clone();
-        let second_first = replied(&mut other, &[two])?;
-        let first_second = replied(&mut other, &[one])?;
-        same("table", &table, &other)?;
+        let mut other = start.clone();
+        let second_first = replied(&mut other, (two.0, two.1))?;
+        let first_second = replied(&mut other, (one.0, one.1))?;
+        same("table", &left.table, &other.table)?;
         same("first transaction's reply", &first, &first_second)?;
         same("second transaction's reply", &second, &second_first)?;
+        // "the kept replies are then the same set, their age may differ"
+        same(
+            "kept replies",
+            &left.room.kept_set(),
+            &other.room.kept_set(),
+        )?;
 
-        if HEADER.len() + one.len() + two.len() <= MESSAGE_BYTES {
+        let length = 5 + one.0.len() + one.1.len() + two.1.len();
+        if one.0 == two.0 && length <= MESSAGE_BYTES {
             for (texts, replies) in [
-                ([one, two], [&first, &second]),
-                ([two, one], [&second, &first]),
+                ([one.1, two.1], [&first, &second]),
+                ([two.1, one.1], [&second, &first]),
             ] {
-                let mut together = self.table.clone();
-                let reply = replied(&mut together, &texts)?;
-                same("table after one message", &table, &together)?;
+                let mut together = start.clone();
+                let text = texts.map(|text| &text[..]).concat();
+                let reply = replied(&mut together, (one.0, &text))?;
+                same("table after one message", &left.table, &together.table)?;
+                same(
+                    "kept replies after one message",
+                    &left.room.kept_set(),
+                    &together.room.kept_set(),
+                )?;
                 same(
                     "reply to one message",
                     &replies.map(|reply| &reply[..]).concat(),
@@ -147,8 +222,10 @@ impl fmt::Display for Pair {
     fn fmt(&self, f: &mut fmt::Formatter) -> fmt::Result {
         writeln!(f, "lines  {}", self.lines.count())?;
         writeln!(f, "table  {}", tables::shown(&self.table))?;
-        writeln!(f, "first  {}", self.one.escape_ascii())?;
-        write!(f, "second {}", self.two.escape_ascii())
+        writeln!(f, "room   {}", rooms::shown(&self.room))?;
+        let [first, second] = self.senders;
+        writeln!(f, "first  {first} {}", self.one.escape_ascii())?;
+        write!(f, "second {second} {}", self.two.escape_ascii())
     }
 }
 
@@ -162,6 +239,7 @@ fn shared_out(numbers: &mut Numbers, lines: Lines, table: &[u32]) -> [Scope; 2] 
         contexts: Vec::new(),
         terminations: Vec::new(),
         plain: true,
+        kept: Vec::new(),
     });
     for (termination, &context) in table[..lines.terminations()].iter().enumerate() {
         let side = match context {
@@ -192,8 +270,9 @@ fn shared_out(numbers: &mut Numbers, lines: Lines, table: &[u32]) -> [Scope; 2] 
     scopes
 }
 
-/// What a transaction names.
+/// What a transaction names, and its identifier.
 struct Named {
+    id: u32,
     contexts: Vec<u32>,
     terminations: Vec<usize>,
 }
@@ -212,12 +291,14 @@ impl Named {
 /// What a well-formed transaction names, if it names "every context by number
 /// or as the null one, and every termination without `*` or `$`".
 fn named(lines: Lines, transaction: &[u8]) -> Option<Named> {
-    let message = [HEADER, transaction].concat();
-    let transactions = read(&message).ok()?;
-    let [transaction] = &transactions[..] else {
+    let message = [b"!/1 [10.0.0.1] ", transaction].concat();
+    let read = read(&message).ok()?;
+    // "both are T, a K is no transaction there"
+    let [Part::Transaction(transaction)] = &read.parts[..] else {
         return None;
     };
     let mut named = Named {
+        id: transaction.id,
         contexts: Vec::new(),
         terminations: Vec::new(),
     };
@@ -248,20 +329,26 @@ fn named(lines: Lines, transaction: &[u8]) -> Option<Named> {
     (message.len() <= MESSAGE_BYTES).then_some(named)
 }
 
-/// The reply without its header, of a message with these transactions.
+/// The reply without its header, of a sender's message with these transactions.
 fn replied(
     call: Call,
     lines: Lines,
-    table: &mut [u32],
+    left: &mut Left,
     blocks: &mut [u32],
-    transactions: &[&Vec<u8>],
+    sender: &str,
+    transactions: &[u8],
 ) -> Result<Vec<u8>, String> {
-    let mut message = HEADER.to_vec();
-    for transaction in transactions {
-        message.extend_from_slice(transaction);
-    }
+    let message = [b"!/1 ", sender.as_bytes(), b" ", transactions].concat();
     let mut reply = [0; REPLY_BYTES];
-    let word = call(lines.count(), &message, table, blocks, OWN, &mut reply);
+    let word = call(
+        lines.count(),
+        &message,
+        &mut left.table,
+        &mut left.room.lent(),
+        blocks,
+        OWN,
+        &mut reply,
+    );
     if word >> 32 != 0 {
         return Err(format!("refusal {}", word >> 32));
     }
@@ -289,5 +376,15 @@ impl Shown for Vec<u32> {
 impl Shown for Vec<u8> {
     fn shown(&self) -> String {
         self.escape_ascii().to_string()
+    }
+}
+
+impl Shown for Vec<Kept> {
+    fn shown(&self) -> String {
+        let kept = self
+            .iter()
+            .map(|(sender, id, _)| (sender.escape_ascii(), id));
+        let kept: Vec<String> = kept.map(|(sender, id)| format!("{sender} {id}")).collect();
+        kept.join(", ")
     }
 }

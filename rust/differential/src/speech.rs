@@ -151,8 +151,8 @@ fn line_end(numbers: &mut Numbers) -> &'static [u8] {
 
 /// The texts of a message, none where it does not read.
 pub fn texts(message: &[u8]) -> Vec<&[u8]> {
-    let transactions = read(message).unwrap_or_default();
-    let actions = transactions.iter().flat_map(|one| &one.actions);
+    let message = read(message).unwrap_or_default();
+    let actions = message.transactions().flat_map(|one| &one.actions);
     let items = actions
         .flat_map(|action| &action.commands)
         .flat_map(|command| &command.items);

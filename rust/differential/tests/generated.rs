@@ -3,7 +3,8 @@
 use differential::calls::{compare, reference_word, Cases, Tally, GUARD};
 use differential::messages::{Scope, Writer};
 use differential::numbers::Numbers;
-use differential::{speech, tables};
+use differential::{rooms, speech, tables};
+use reference::room::Room;
 use reference::sdp::session;
 use reference::table::{Lines, Table};
 use reference::text::{read, Fault};
@@ -51,6 +52,31 @@ fn damaged_tables_are_sound_or_not() {
 }
 
 #[test]
+fn sound_rooms_are_sound() {
+    let mut numbers = Numbers::new(1);
+    let mut counts = [0; 17];
+    for _ in 0..2_000 {
+        let mut room = rooms::sound(&mut numbers);
+        let shown = rooms::shown(&room);
+        counts[room.held().len()] += 1;
+        assert!(Room::sound(&mut room.lent()).is_some(), "{shown}");
+    }
+    assert!([0, 1, 15].iter().all(|&count| counts[count] > 100));
+    assert!(counts[16] > 500, "{counts:?}");
+}
+
+#[test]
+fn trampled_rooms_are_sound_or_not() {
+    let mut numbers = Numbers::new(1);
+    let sound = (0..2_000).filter(|_| {
+        let mut room = rooms::trampled(&mut numbers);
+        Room::sound(&mut room.lent()).is_some()
+    });
+    let count = sound.count();
+    assert!((200..1_000).contains(&count), "{count}");
+}
+
+#[test]
 fn messages_read_well() {
     let mut numbers = Numbers::new(1);
     let mut other_versions = 0;
@@ -58,6 +84,9 @@ fn messages_read_well() {
         let lines = tables::lines(&mut numbers);
         let table = tables::sound(&mut numbers, lines);
         let scope = Scope::whole(&mut numbers, lines, &table);
+        let mut scope = scope;
+        let kept = rooms::sound(&mut numbers).kept().into_iter();
+        scope.kept = kept.map(|(sender, id, _)| (sender, id)).collect();
         let message = Writer::new(&mut numbers, &table, &scope).message();
         match read(&message) {
             Ok(_) => {}
@@ -83,7 +112,7 @@ fn texts_are_in_the_subset_or_not() {
         let table = tables::sound(&mut numbers, lines);
         let scope = Scope::whole(&mut numbers, lines, &table);
         let message = Writer::new(&mut numbers, &table, &scope).message();
-        for transaction in read(&message).unwrap_or_default() {
+        for transaction in read(&message).unwrap_or_default().transactions() {
             for command in transaction
                 .actions
                 .iter()
@@ -110,7 +139,7 @@ fn every_code_and_refusal_comes() {
             panic!("the reference is like itself");
         };
         tally.count(&case, &outcome);
-        cases.left(outcome.table());
+        cases.left(&outcome);
     }
     assert_eq!(tally.missing(), [""; 0], "{tally}");
 }
@@ -122,6 +151,6 @@ fn a_seed_gives_the_same_calls() {
         let (one, other) = (one.draw(), other.draw());
         assert!(one.lines == other.lines && one.table == other.table);
         assert!(one.message == other.message && one.own == other.own);
-        assert!(one.reply == other.reply);
+        assert!(one.reply == other.reply && one.room == other.room);
     }
 }

@@ -12,8 +12,8 @@ const LONGEST: usize = 4096;
 type Told<'m> = (Side, &'m [u8], &'m [u8]);
 
 fn expected(message: &[u8]) -> Vec<Told<'_>> {
-    let transactions = read(message).unwrap_or_default();
-    let actions = transactions.iter().flat_map(|one| &one.actions);
+    let message = read(message).unwrap_or_default();
+    let actions = message.transactions().flat_map(|one| &one.actions);
     let mut told = Vec::new();
     for command in actions.flat_map(|action| &action.commands) {
         for item in command.items.iter().flat_map(|item| &item.items) {

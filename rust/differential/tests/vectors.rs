@@ -6,9 +6,9 @@
 use std::fs;
 use std::path::{Path, PathBuf};
 
-use cordafina::answer_word;
-use differential::calls::{outcome, reference_word, Call, Case, GUARD};
+use differential::calls::{archive_word, outcome, reference_word, Call, Case, GUARD};
 use differential::packets::Counted;
+use differential::rooms::{shown, Room};
 use reference::blocks::BLOCK_WORDS;
 use reference::listing::listing;
 
@@ -30,6 +30,7 @@ struct Row {
     case: Case,
     refusal: u64,
     reply: Vec<u8>,
+    room: Room,
     blocks: Vec<u32>,
     after: Vec<u32>,
 }
@@ -103,14 +104,6 @@ impl<'a> Json<'a> {
         number
     }
 
-    /// A key without a value, if it stands here, and the comma after it.
-    fn none(&mut self, name: &str) {
-        if self.take(&format!("\"{name}\":")) {
-            self.skip("null");
-            self.take(",");
-        }
-    }
-
     fn hex(&mut self) -> Vec<u8> {
         let digits = self.string();
         assert_eq!(digits.len() % 2, 0);
@@ -159,6 +152,54 @@ impl<'a> Json<'a> {
         words
     }
 
+    /// The room, an empty one where a row has none, and the comma after it.
+    fn room(&mut self, name: &str) -> Room {
+        if !self.take(&format!("\"{name}\":")) {
+            return Room::empty();
+        }
+        if self.take("null") {
+            self.take(",");
+            return Room::empty();
+        }
+        self.skip("{");
+        self.key("words_len");
+        let length = self.number();
+        self.skip(",");
+        self.key("words");
+        let words = self.words(length);
+        self.skip(",");
+        self.key("bytes_len");
+        let length = self.number();
+        self.skip(",");
+        self.key("bytes");
+        let bytes = self.pieces(length);
+        self.skip("}");
+        self.take(",");
+        Room { words, bytes }
+    }
+
+    /// The bytes that are not 0, as `[place, hex]`.
+    fn pieces(&mut self, length: usize) -> Vec<u8> {
+        let mut bytes = vec![0; length];
+        self.skip("[");
+        if self.take("]") {
+            return bytes;
+        }
+        loop {
+            self.skip("[");
+            let place: usize = self.number();
+            self.skip(",");
+            let piece = self.hex();
+            bytes[place..place + piece.len()].copy_from_slice(&piece);
+            self.skip("]");
+            if !self.take(",") {
+                break;
+            }
+        }
+        self.skip("]");
+        bytes
+    }
+
     fn row(line: &'a str) -> Row {
         let mut json = Json(line);
         json.skip("{");
@@ -187,7 +228,7 @@ impl<'a> Json<'a> {
             false => 8,
         };
         json.take(",");
-        json.none("room");
+        let room = json.room("room");
         let blocks = json.blocks("blocks");
         json.key("refusal");
         let refusal = json.number();
@@ -198,7 +239,7 @@ impl<'a> Json<'a> {
         json.key("after");
         let after = json.words(length);
         json.take(",");
-        json.none("room_after");
+        let room_after = json.room("room_after");
         let blocks_after = json.blocks("blocks_after");
         json.skip("}");
         assert!(json.0.trim().is_empty());
@@ -206,6 +247,7 @@ impl<'a> Json<'a> {
             lines,
             message: message.into_boxed_slice(),
             table,
+            room,
             blocks,
             own: own.into_boxed_slice(),
             reply: reply_length,
@@ -216,6 +258,7 @@ impl<'a> Json<'a> {
             refusal,
             reply,
             after,
+            room: room_after,
             blocks: blocks_after,
         }
     }
@@ -246,6 +289,10 @@ fn differs(row: &Row, call: Call) -> Option<String> {
     }
     if got.blocks() != row.blocks {
         return Some("the blocks are others".to_string());
+    }
+    if got.room() != row.room {
+        let (got, room) = (shown(&got.room()), shown(&row.room));
+        return Some(format!("the room is {got}\n  not {room}"));
     }
     let table = got.table();
     let word = (0..table.len()).find(|&place| table[place] != row.after[place])?;
@@ -286,7 +333,7 @@ fn calls_on_the_reference() {
 
 #[test]
 fn calls_on_the_archive() {
-    run("archive", answer_word);
+    run("archive", archive_word);
 }
 
 /// Has a side count the packet of one line of `packets.jsonl`; whether it did so

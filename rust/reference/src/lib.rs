@@ -1,20 +1,22 @@
 //! A small Megaco (H.248.1) text gateway, in plain Rust, after document 01 and
-//! document 02's requests 10, 5, 2, 1, 6, 11 and 12.
+//! document 02's requests 10, 5, 2, 1, 6, 11, 12 and 3.
 //!
-//! The count of lines, one message, a lent table, lent blocks and a lent reply buffer go in;
-//! an [`Answer`] comes out. The whole message is read to a tree before anything
+//! The count of lines, one message, a lent table, a lent room of kept replies, lent
+//! blocks and a lent reply buffer go in; an [`Answer`] comes out. The whole message is read to a tree before anything
 //! runs. The quoted sentences in the comments are those documents'.
 
 pub mod blocks;
 pub mod listing;
 pub mod map;
 pub mod reply;
+pub mod room;
 pub mod run;
 pub mod sdp;
 pub mod table;
 pub mod text;
 
 use reply::Reply;
+use room::{Lent, Room};
 use table::{Lines, Table};
 use text::Fault;
 
@@ -34,6 +36,8 @@ pub enum Answer {
     ReplyTooShort,
     /// Table not of the count's words, "or not sound"; blocks not 64, or not sound
     TableUnsound,
+    /// Room of kept replies "of the wrong size", or not sound
+    RoomUnsound,
     /// "gateway's own mId not an mId as below, or over 64 bytes"
     MidUnfit,
     /// "message of 0 or over 4,096 bytes"
@@ -51,6 +55,7 @@ impl Answer {
             Answer::TableUnsound => 2,
             Answer::ReplyTooShort => 3,
             Answer::MidUnfit => 4,
+            Answer::RoomUnsound => 5,
             Answer::LinesUnfit => 8,
         }
     }
@@ -58,12 +63,14 @@ impl Answer {
 
 /// Answers one message, with so many lines fitted.
 ///
-/// A call turned down changes neither `reply` nor `table` nor `blocks`. A call taken writes
-/// its reply from the start of the buffer, "and bytes past its length stay".
+/// A call turned down changes neither `reply` nor `table` nor `room` nor `blocks`. A
+/// call taken writes its reply from the start of the buffer, "and bytes past its
+/// length stay"; "a message of only K is taken with length 0".
 pub fn answer(
     lines: u32,
     message: &[u8],
     table: &mut [u32],
+    room: &mut Lent,
     blocks: &mut [u32],
     own: &[u8],
     reply: &mut [u8],
@@ -80,6 +87,10 @@ pub fn answer(
     if !blocks::sound(blocks) {
         return Answer::TableUnsound;
     }
+    // "5, after 2"
+    let Some(mut room) = Room::sound(room) else {
+        return Answer::RoomUnsound;
+    };
     if own.len() > OWN_MID_BYTES || !text::is_mid(own) {
         return Answer::MidUnfit;
     }
@@ -89,7 +100,12 @@ pub fn answer(
 
     let mut out = Reply::new(lines, own);
     match text::read(message) {
-        Ok(transactions) => run::run(&transactions, &mut table, blocks, &mut out),
+        Ok(message) => {
+            run::run(&message, &mut table, &mut room, blocks, &mut out);
+            if message.transactions().next().is_none() {
+                return Answer::Taken(0);
+            }
+        }
         Err(Fault::Message) => out.message_error(400),
         Err(Fault::Version) => out.message_error(406),
         Err(Fault::Transaction(id)) => out.transaction_error(id, 403),

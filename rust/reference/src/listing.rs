@@ -3,6 +3,7 @@
 
 use std::io::{self, BufRead, Write};
 
+use crate::room::{Lent, ROOM_BYTES, ROOM_WORDS};
 use crate::table::{write_name, Lines, Table, CONTEXTS};
 use crate::{answer, Answer, MESSAGE_BYTES, REPLY_BYTES};
 
@@ -12,6 +13,11 @@ const LINES: Lines = Lines::EIGHT;
 /// Answers each line of `input` on a line of `out`, then lists the contexts.
 pub fn listing(mut input: impl BufRead, mut out: impl Write) -> io::Result<()> {
     let mut blocks = [0; crate::blocks::BLOCK_WORDS];
+    // Replies are kept from line to line.
+    let mut room = Lent {
+        words: &mut [0; ROOM_WORDS],
+        bytes: &mut [0; ROOM_BYTES],
+    };
     let mut table = [0; LINES.words()];
     let mut reply = vec![0; REPLY_BYTES];
     let mut line = Vec::with_capacity(MESSAGE_BYTES + 1);
@@ -20,6 +26,7 @@ pub fn listing(mut input: impl BufRead, mut out: impl Write) -> io::Result<()> {
             LINES.count(),
             &line,
             &mut table,
+            &mut room,
             &mut blocks,
             OWN,
             &mut reply,

@@ -69,6 +69,17 @@ impl Reply {
         }
     }
 
+    /// The last transaction's `P=id{..}`.
+    pub fn last(&self) -> &[u8] {
+        &self.bytes[self.start..]
+    }
+
+    /// The reply of a transaction that is kept: "the same bytes".
+    pub fn again(&mut self, kept: &[u8]) {
+        self.start = self.bytes.len();
+        self.bytes.extend_from_slice(kept);
+    }
+
     /// `C=id{`; gives the place of the id, for [`Reply::close_action`].
     pub fn open_action(&mut self, context: ContextId) -> usize {
         self.comma();

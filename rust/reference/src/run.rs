@@ -5,10 +5,12 @@ use std::ops::Range;
 
 use crate::blocks;
 use crate::reply::Reply;
+use crate::room::Room;
 use crate::sdp;
 use crate::table::{self, Name, Record, Session, Table, Values, MEMBERS, OUT_OF_SERVICE};
 use crate::text::{
-    keyword, Action, Command, ContextId, Direction, Item, Property, Transaction, Triple, Value,
+    keyword, Action, Command, ContextId, Direction, Item, Message, Part, Property, Transaction,
+    Triple, Value,
 };
 
 /// The commands that are built.
@@ -50,16 +52,38 @@ impl Kind {
     }
 }
 
-/// Runs the transactions of a message.
-pub fn run(transactions: &[Transaction], table: &mut Table, blocks: &mut [u32], reply: &mut Reply) {
+/// Runs the parts of a message in their turn.
+pub fn run(
+    message: &Message,
+    table: &mut Table,
+    room: &mut Room,
+    blocks: &mut [u32],
+    reply: &mut Reply,
+) {
     let mut runner = Runner {
         table,
         blocks,
         reply,
         matches: Vec::new(),
     };
-    for transaction in transactions {
-        runner.transaction(transaction);
+    let sender = message.sender;
+    for part in &message.parts {
+        match part {
+            Part::Acknowledgement(ranges) => {
+                for ids in ranges {
+                    room.drop_acknowledged(sender, ids);
+                }
+            }
+            // "a request whose pair is kept gets the same bytes and the table
+            // stays"
+            Part::Transaction(transaction) => match room.kept(sender, transaction.id) {
+                Some(kept) => runner.reply.again(kept),
+                None => {
+                    runner.transaction(transaction);
+                    room.keep(sender, transaction.id, runner.reply.last());
+                }
+            },
+        }
     }
 }
 

@@ -3,6 +3,33 @@
 //! "The whole message is read before anything runs." The reader goes once over
 //! the bytes from left to right, so the fault it stops at is the first one.
 
+use std::ops::RangeInclusive;
+
+/// A message that reads well: the sender's mId, and "1 to 8 transactions", K "as
+/// one of the eight".
+#[derive(Debug, Default)]
+pub struct Message<'m> {
+    pub sender: &'m [u8],
+    pub parts: Vec<Part<'m>>,
+}
+
+impl<'m> Message<'m> {
+    /// The transactions without the acknowledgements.
+    pub fn transactions(&self) -> impl Iterator<Item = &Transaction<'m>> {
+        self.parts.iter().filter_map(|part| match part {
+            Part::Transaction(transaction) => Some(transaction),
+            Part::Acknowledgement(_) => None,
+        })
+    }
+}
+
+#[derive(Debug)]
+pub enum Part<'m> {
+    Transaction(Transaction<'m>),
+    /// `K{..}`: identifiers, each a range of one, and ranges.
+    Acknowledgement(Vec<RangeInclusive<u32>>),
+}
+
 /// `T=id{..}`
 #[derive(Debug)]
 pub struct Transaction<'m> {
@@ -110,7 +137,8 @@ pub enum Fault {
     Transaction(u32),
 }
 
-const TRANSACTIONS: usize = 8;
+/// Transactions and acknowledgements of a message.
+const PARTS: usize = 8;
 const ACTIONS: usize = 16;
 const COMMANDS: usize = 64;
 const LEVELS: u32 = 8;
@@ -184,22 +212,22 @@ pub fn is_mid(bytes: &[u8]) -> bool {
     reader.mid().is_ok() && reader.at_end()
 }
 
-/// Reads a whole message to its transactions, or finds its first fault.
-pub fn read(message: &[u8]) -> Result<Vec<Transaction<'_>>, Fault> {
+/// Reads a whole message to its parts, or finds its first fault.
+pub fn read(message: &[u8]) -> Result<Message<'_>, Fault> {
     let mut reader = Reader::new(message);
-    match reader.header() {
-        Ok(1) => {}
+    let sender = match reader.header() {
+        Ok((1, sender)) => sender,
         Ok(_) => return Err(Fault::Version),
         Err(Broken) => return Err(Fault::Message),
-    }
-    let mut transactions = Vec::new();
+    };
+    let mut parts = Vec::new();
     loop {
-        transactions.push(reader.transaction()?);
+        parts.push(reader.part()?);
         reader.white().map_err(|Broken| Fault::Message)?;
         if reader.at_end() {
-            return Ok(transactions);
+            return Ok(Message { sender, parts });
         }
-        if transactions.len() == TRANSACTIONS {
+        if parts.len() == PARTS {
             return Err(Fault::Message);
         }
     }
@@ -389,8 +417,9 @@ impl<'m> Reader<'m> {
         Ok(())
     }
 
-    /// The header "through all the white space after the mId"; gives the version.
-    fn header(&mut self) -> Reads<u64> {
+    /// The header "through all the white space after the mId"; gives the version
+    /// and the sender's mId.
+    fn header(&mut self) -> Reads<(u64, &'m [u8])> {
         self.white()?;
         if !self.take(b'!') && !self.word()?.eq_ignore_ascii_case(b"MEGACO") {
             return Err(Broken);
@@ -398,11 +427,50 @@ impl<'m> Reader<'m> {
         self.expect(b'/')?;
         let version = self.number(2)?;
         self.separator()?;
+        let start = self.at;
         self.mid()?;
+        let sender = &self.bytes[start..self.at];
         self.separator()?;
-        Ok(version)
+        Ok((version, sender))
     }
 
+    fn part(&mut self) -> Result<Part<'m>, Fault> {
+        let word = self.word().map_err(|Broken| Fault::Message)?;
+        if keyword(word, b"Transaction", b"T") {
+            self.transaction().map(Part::Transaction)
+        } else if keyword(word, b"TransactionResponseAck", b"K") {
+            // "any fault in K, a backward range or an identifier 0 too, is 400"
+            let ranges = self.acknowledgement().map_err(|Broken| Fault::Message)?;
+            Ok(Part::Acknowledgement(ranges))
+        } else {
+            Err(Fault::Message)
+        }
+    }
+
+    /// "identifiers and ranges", joined by commas, in braces; Annex B has no white
+    /// space about the sign of a range.
+    fn acknowledgement(&mut self) -> Reads<Vec<RangeInclusive<u32>>> {
+        let mut ranges = Vec::new();
+        self.open()?;
+        loop {
+            self.white()?;
+            let first = self.number_32()?;
+            let last = if self.take(b'-') {
+                self.number_32()?
+            } else {
+                first
+            };
+            if first == 0 || last < first {
+                return Err(Broken);
+            }
+            ranges.push(first..=last);
+            if !self.another()? {
+                return Ok(ranges);
+            }
+        }
+    }
+
+    /// A transaction behind its word.
     fn transaction(&mut self) -> Result<Transaction<'m>, Fault> {
         let id = self.transaction_id().map_err(|Broken| Fault::Message)?;
         if id == 0 {
@@ -416,9 +484,6 @@ impl<'m> Reader<'m> {
     }
 
     fn transaction_id(&mut self) -> Reads<u32> {
-        if !keyword(self.word()?, b"Transaction", b"T") {
-            return Err(Broken);
-        }
         self.equals()?;
         self.number_32()
     }

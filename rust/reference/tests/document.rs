@@ -3,14 +3,31 @@
 
 use reference::listing::listing;
 use reference::map::{in_use, lowest_absent};
+use reference::room::{Lent, ROOM_BYTES, ROOM_WORDS};
 use reference::sdp;
 use reference::table::{write_name, Lines, Name, Session};
-use reference::{answer, Answer};
+use reference::Answer;
 
 const OWN: &[u8] = b"[10.0.0.9]";
 const HEADER_IN: &str = "!/1 [10.0.0.1] ";
 const HEADER_OUT: &str = "!/1 [10.0.0.9] ";
 const FILL: u8 = 0xA5;
+
+/// Answers in an empty room: no request here is a repeat.
+fn answer(
+    lines: u32,
+    message: &[u8],
+    table: &mut [u32],
+    blocks: &mut [u32],
+    own: &[u8],
+    reply: &mut [u8],
+) -> Answer {
+    let mut room = Lent {
+        words: &mut [0; ROOM_WORDS],
+        bytes: &mut [0; ROOM_BYTES],
+    };
+    reference::answer(lines, message, table, &mut room, blocks, own, reply)
+}
 
 /// Answers a whole message on so many lines, checks that the bytes past the reply stay, and
 /// gives what stands after the reply's header.
@@ -192,6 +209,7 @@ fn turned_down() {
     assert_eq!(Answer::TableUnsound.number(), 2);
     assert_eq!(Answer::ReplyTooShort.number(), 3);
     assert_eq!(Answer::MidUnfit.number(), 4);
+    assert_eq!(Answer::RoomUnsound.number(), 5);
     assert_eq!(Answer::LinesUnfit.number(), 8);
     // A longer buffer, and an own mId of just 64 bytes, are fine.
     let mut reply = vec![FILL; 20_000];

@@ -1,6 +1,7 @@
 //! Packets, and the figures that come with the goodbye (document 02, request 12).
 
 use reference::blocks::{block, set, sound, updated, BLOCK_WORDS};
+use reference::room::{Lent, ROOM_BYTES, ROOM_WORDS};
 use reference::{answer, packet, Answer};
 
 const OWN: &[u8] = b"[10.0.0.9]";
@@ -20,7 +21,12 @@ impl Gateway {
     }
 
     fn answer(&mut self, own: &[u8], message: &[u8], reply: &mut [u8]) -> Answer {
-        answer(8, message, &mut self.table, &mut self.blocks, own, reply)
+        let (table, blocks) = (&mut self.table, &mut self.blocks);
+        let mut room = Lent {
+            words: &mut [0; ROOM_WORDS],
+            bytes: &mut [0; ROOM_BYTES],
+        };
+        answer(8, message, table, &mut room, blocks, own, reply)
     }
 
     /// Runs a transaction: its `P=id{..}`.

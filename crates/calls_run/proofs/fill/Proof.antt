@@ -6,10 +6,10 @@ use Rattle.calls_run.proofs.fill.Statement.{statement}
 use Rattle.calls_run.proofs.fill.Tie as tie
 
 abbrev Inv-loop : tie.InvT-loop
-Inv-loop reply₀ n i₀ reply i = length reply ≡ length reply₀
+Inv-loop reply₀ n v i₀ reply i = length reply ≡ length reply₀
 
 abbrev μ-loop : tie.MeasureT-loop
-μ-loop reply₀ n i₀ reply i = n - i
+μ-loop reply₀ n v i₀ reply i = n - i
 
 pub fill-spec : {M : Type 1} → statement M
 fill-spec =

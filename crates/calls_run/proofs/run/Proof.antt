@@ -6,10 +6,11 @@ use Rattle.calls_run.proofs.run.Statement.{statement}
 use Rattle.calls_run.proofs.run.Tie as tie
 
 abbrev Inv-loop : tie.InvT-loop
-Inv-loop room₀ table₀ blocks₀ reply₀ k₀ room table blocks reply k = (length room ≡ length room₀) × (length table ≡ length table₀) × (length blocks ≡ length blocks₀) × (length reply ≡ length reply₀)
+Inv-loop input₀ table₀ blocks₀ reply₀ words₀ bytes₀ k₀ input table blocks reply words bytes k =
+    (length input ≡ length input₀) × (length table ≡ length table₀) × (length blocks ≡ length blocks₀) × (length reply ≡ length reply₀) × (length words ≡ length words₀) × (length bytes ≡ length bytes₀)
 
 abbrev μ-loop : tie.MeasureT-loop
-μ-loop room₀ table₀ blocks₀ reply₀ k₀ room table blocks reply k = 1000000 - k
+μ-loop input₀ table₀ blocks₀ reply₀ words₀ bytes₀ k₀ input table blocks reply words bytes k = 1000000 - k
 
 pub run-spec : {M : Type 1} → statement M
 run-spec =
@@ -19,6 +20,10 @@ run-spec =
     μ-loop
     (λ c. search needs)
     (λ c κs. search needs)
+    (λ c. search needs)
+    (λ c. search needs)
+    (λ c. search needs)
+    (λ c. search needs)
     (λ c. search needs)
     (λ c. search needs)
     (λ c. search needs)

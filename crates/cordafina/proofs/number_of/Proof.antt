@@ -1,4 +1,4 @@
-use Rattle.cordafina.proofs.FaceLaws.{number-taken, number-short, number-unsound, number-mid, number-message, number-lines}
+use Rattle.cordafina.proofs.FaceLaws.{number-taken, number-short, number-unsound, number-room, number-mid, number-message, number-lines}
 use borrow.Author.Needs.{needs}
 use Rattle.cordafina.proofs.number_of.Statement.{statement}
 use Rattle.cordafina.proofs.number_of.Tie as tie
@@ -17,9 +17,12 @@ number-of-spec =
     (λ c. search needs)
     (λ c. search needs)
     (λ c. search needs)
+    (λ c. search needs)
+    (λ c. search needs)
     (λ c. search number-taken)
     (λ c. search number-short)
     (λ c. search number-unsound)
+    (λ c. search number-room)
     (λ c. search number-mid)
     (λ c. search number-message)
     (λ c. search number-lines))

@@ -19,4 +19,6 @@ take-some-spec =
     (λ c. search needs)
     (λ c. search needs)
     (λ c. search needs)
+    (λ c. search needs)
+    (λ c. search needs)
     (λ c. (search needs, search took-some)))

@@ -18,6 +18,8 @@ take-turn-spec =
     (λ c. search needs)
     (λ c. search needs)
     (λ c. search needs)
+    (λ c. search needs)
+    (λ c. search needs)
     (λ c. search turn-ended)
     (λ c. search needs)
     (λ c. search turn-open))

@@ -1,6 +1,6 @@
 use mathlib.Core.Path.{_≡_, refl}
 use Rattle.read_command.specs.Messages.{transactionsAt}
-use Rattle.read_message.proofs.VerdictLaws.{none-left, no-identifier, identifier-0, fault-outside, fault-within, last-one, one-more}
+use Rattle.read_message.proofs.VerdictLaws.{none-left, ack-fault, ack-last, ack-more, no-identifier, identifier-0, fault-outside, fault-within, last-one, one-more}
 use borrow.Author.Needs.{needs}
 use Rattle.read_message.proofs.transactions.Statement.{statement}
 use Rattle.read_message.proofs.transactions.Tie as tie
@@ -18,6 +18,15 @@ transactions-spec =
     Inv-loop
     μ-loop
     (λ c. refl)
+    (λ c κs. search needs)
+    (λ c κs. search needs)
+    (λ c. search needs)
+    (λ c. search needs)
+    (λ c. search ack-fault)
+    (λ c. search needs)
+    (λ c. search needs)
+    (λ c. search ack-more)
+    (λ c. search ack-last)
     (λ c κs. search needs)
     (λ c. search needs)
     (λ c. search needs)

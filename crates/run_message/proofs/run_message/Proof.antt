@@ -1,5 +1,6 @@
 use borrow.Author.Needs.{needs}
-use Rattle.run_message.proofs.MessageLaws.{reads-well, reads-400, reads-403, reads-406}
+use Rattle.run_message.proofs.SenderLaws.{reads}
+use Rattle.run_message.proofs.ServeLaws.{reads-well, reads-400, reads-403, reads-406}
 use Rattle.run_message.proofs.run_message.Statement.{statement}
 use Rattle.run_message.proofs.run_message.Tie as tie
 
@@ -9,13 +10,18 @@ run-message-spec =
     (tie.spec
     (λ c κs. search needs)
     (λ c. search needs)
+    (λ c κs. (search reads, search needs))
+    (λ c. search needs)
+    (λ c κs. search needs)
     (λ c κs. search needs)
     (λ c. search needs)
     (λ c κs. search needs)
-    (λ c. search needs)
     (λ c κs. search needs)
     (λ c. search needs)
     (λ c κs. search needs)
+    (λ c κs. search needs)
+    (λ c. search needs)
+    (λ c. search needs)
     (λ c. search needs)
     (λ c. search needs)
     (λ c. search needs)

@@ -1,6 +1,5 @@
 use borrow.Author.Needs.{needs}
-use Rattle.action_places.proofs.ActionPlaceLaws.{transaction-ends}
-use Rattle.run_message.proofs.MessageLaws.{transaction-runs, scratch-fits}
+use Rattle.run_message.proofs.ServeLaws.{transaction-runs, transaction-closes, scratch-fits}
 use Rattle.run_message.proofs.run_transaction.Statement.{statement}
 use Rattle.run_message.proofs.run_transaction.Tie as tie
 
@@ -8,7 +7,6 @@ pub run-transaction-spec : {M : Type 1} → statement M
 run-transaction-spec =
     tie.close
     (tie.spec
-    (λ c κs. search needs)
     (λ c. search needs)
     (λ c κs. search needs)
     (λ c. search needs)
@@ -21,4 +19,6 @@ run-transaction-spec =
     (λ c. search needs)
     (λ c. search needs)
     (λ c. search needs)
-    (λ c. (search transaction-runs, search transaction-ends)))
+    (λ c. search needs)
+    (λ c. search needs)
+    (λ c. (search transaction-runs, search transaction-closes)))

@@ -26,4 +26,5 @@ letters-1-from-5-spec =
     (λ c κs. unfold tokenAt formsOf shortOf in refl)
     (λ c κs. search needs)
     (λ c. rw (letters-1-from-5-is _) (search (pick-yes-by, pick-no-by) depth 20))
-    (λ c. unfold tokenOf in rw (letters-1-from-5-is _) (search (pick-yes-by, pick-no-by) depth 20)))
+    (λ c κs. search needs)
+    (λ c. rw (letters-1-from-5-is _) (search (pick-yes-by, pick-no-by) depth 20)))

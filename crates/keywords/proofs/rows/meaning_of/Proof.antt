@@ -40,4 +40,6 @@ meaning-of-spec =
     (λ c. search at-length)
     (λ c κs. search needs)
     (λ c. search at-length)
-    (λ c. no-length (1 ∷ 2 ∷ 3 ∷ 4 ∷ 5 ∷ 6 ∷ 7 ∷ 8 ∷ 9 ∷ 10 ∷ 11 ∷ 12 ∷ 13 ∷ 16 ∷ []) _ (unfold lengthsIn spellingsOf has pick in refl) (c .before .before .before .before .before .before .before .before .before .before .before .before .before .if1 .left, (c .before .before .before .before .before .before .before .before .before .before .before .before .if2 .left, (c .before .before .before .before .before .before .before .before .before .before .before .if3 .left, (c .before .before .before .before .before .before .before .before .before .before .if4 .left, (c .before .before .before .before .before .before .before .before .before .if5 .left, (c .before .before .before .before .before .before .before .before .if6 .left, (c .before .before .before .before .before .before .before .if7 .left, (c .before .before .before .before .before .before .if8 .left, (c .before .before .before .before .before .if9 .left, (c .before .before .before .before .if10 .left, (c .before .before .before .if11 .left, (c .before .before .if12 .left, (c .before .if13 .left, (c .if14 .left, tt))))))))))))))))
+    (λ c κs. search needs)
+    (λ c. search at-length)
+    (λ c. no-length (1 ∷ 2 ∷ 3 ∷ 4 ∷ 5 ∷ 6 ∷ 7 ∷ 8 ∷ 9 ∷ 10 ∷ 11 ∷ 12 ∷ 13 ∷ 16 ∷ 22 ∷ []) _ (unfold lengthsIn spellingsOf has pick in refl) (c .before .before .before .before .before .before .before .before .before .before .before .before .before .before .if1 .left, (c .before .before .before .before .before .before .before .before .before .before .before .before .before .if2 .left, (c .before .before .before .before .before .before .before .before .before .before .before .before .if3 .left, (c .before .before .before .before .before .before .before .before .before .before .before .if4 .left, (c .before .before .before .before .before .before .before .before .before .before .if5 .left, (c .before .before .before .before .before .before .before .before .before .if6 .left, (c .before .before .before .before .before .before .before .before .if7 .left, (c .before .before .before .before .before .before .before .if8 .left, (c .before .before .before .before .before .before .if9 .left, (c .before .before .before .before .before .if10 .left, (c .before .before .before .before .if11 .left, (c .before .before .before .if12 .left, (c .before .before .if13 .left, (c .before .if14 .left, (c .if15 .left, tt)))))))))))))))))
