@@ -1,7 +1,8 @@
 /*
  * The Megaco trunk gateway, for C99 and C++: the call, packets and their figures,
- * the contexts as text, the texts of Local and Remote in a message, two questions
- * about the ephemerals in use, who hears whom, and digit maps.
+ * the contexts as text, the texts of Local and Remote in a message, a table carried
+ * to a spare, two questions about the ephemerals in use, who hears whom, and digit
+ * maps.
  *
  * A call takes the count of lines that the shelf has, one H.248.1 (Megaco) text
  * message, and a table, a room of kept replies and 64 blocks of figures that the
@@ -37,14 +38,15 @@
  * table. With 6 and with 7 cordafina_answer got new arguments: a program must be
  * compiled with the header of its archive.
  */
-#define CORDAFINA_VERSION 7
+#define CORDAFINA_VERSION 8
 
 /*
  * Stack that a call of any function here uses at most, but for the plain digit
  * matcher. Measured and rounded up: tests/stack.c runs each function on a painted
  * stack, on some 2,700 messages, and fails if one takes more. The deepest was
- * 9,344 bytes. It does not grow with a message: items nest 8 levels, a number is
- * written in 10 digits, and nothing else calls itself.
+ * 11,432 bytes, of a row that is read; of a call it was 9,952. It does not grow
+ * with a message: items nest 8 levels, a number is written in 10 digits or 5
+ * groups, and nothing else calls itself.
  */
 #define CORDAFINA_STACK_BYTES 12288
 
@@ -162,7 +164,7 @@ typedef char cordafina_blocks_are_words[
 
 /* Bytes of a reply buffer: at least so many. No reply is longer. */
 #define CORDAFINA_REPLY_BYTES 16640
-/* Bytes of an output for the contexts as text: at least so many. No text is longer. */
+/* Bytes of an output for the contexts as text or a row: at least so many. No text and no row is longer. */
 #define CORDAFINA_OUTPUT_BYTES 8192
 /* Bytes of a message: 1 to so many. */
 #define CORDAFINA_MESSAGE_BYTES 4096
@@ -182,6 +184,7 @@ typedef char cordafina_blocks_are_words[
 #define CORDAFINA_ROOM_UNSOUND 5      /* room not of 64 words and 33,920 bytes, or not sound */
 #define CORDAFINA_LINES_UNFIT 8       /* count of lines outside 1 to 16 */
 #define CORDAFINA_EPHEMERAL_ABSENT 9  /* packet of an ephemeral that does not exist, or outside 1 to 64 */
+#define CORDAFINA_ROW_UNFIT 10        /* bytes that are not a sound table's row with that count of lines */
 #define CORDAFINA_OUTPUT_TOO_SHORT 11 /* output under 8,192 bytes */
 
 /* What cordafina_text_side gives. */
@@ -332,6 +335,34 @@ uint64_t cordafina_text(const uint8_t *message, size_t message_len, size_t k);
 uint64_t cordafina_text_name(const uint8_t *message, size_t message_len, size_t k);
 
 /*
+ * A table carried to a spare, as a row of numbers. The row has all that the table
+ * has: the count of lines; of each termination its context and properties, and of
+ * an ephemeral Local and Remote; of each context its record and two flow words. The
+ * map of the ephemerals is worked out when it is read. A number is 1 to 5 bytes of
+ * seven bits, low ones first, the top bit set on all but the last. One sound table
+ * has one row, of at most 4,369 bytes.
+ *
+ *   lines                  the count of lines, 1 to 16
+ *   table, table_len       the table, its length in words
+ *   out, out_len           where the row goes, at least 8,192 bytes
+ *   row, row_len           a row, and no byte more
+ *
+ * cordafina_write_row writes the row from the first byte of the output on; its
+ * result is taken apart as that of cordafina_answer. The refusals are judged in the
+ * order 8, 11, 2. cordafina_read_row fills the table from a row, whatever stood in
+ * it, and gives 0 or the refusal, judged in the order 8, 2, 10: of the table only
+ * the length is looked at, and 10 is given for all bytes but a sound table's row
+ * with that count of lines. A refusal writes nothing; bytes past a written row stay.
+ * Pointers, ownership and threads are as above; the row and the table do not overlap.
+ */
+uint64_t cordafina_write_row(uint32_t lines,
+                             const uint32_t *table, size_t table_len,
+                             uint8_t *out, size_t out_len);
+uint32_t cordafina_read_row(uint32_t lines,
+                            const uint8_t *row, size_t row_len,
+                            uint32_t *table, size_t table_len);
+
+/*
  * Asked of the map alone, given as one number; no table is read. Any map is
  * answered.
  *
@@ -386,7 +417,7 @@ static inline int cordafina_hears(uint32_t lines, const uint32_t *table, size_t 
            && CORDAFINA_FLOW(cordafina_flows(lines, table, table[speaker]), i, j);
 }
 
-/* The length in a result of cordafina_answer or cordafina_contexts, 0 for a call turned down; that of a part. */
+/* The length in a result of cordafina_answer, cordafina_contexts or cordafina_write_row, 0 for a call turned down; that of a part. */
 static inline size_t cordafina_length(uint64_t answer)
 {
     return (size_t)(answer & 0xFFFFFFFFu);
@@ -418,6 +449,7 @@ static inline const char *cordafina_refusal_text(int refusal)
     case CORDAFINA_BAD_STRING: return "dialled string over 32 symbols, or with a foreign one";
     case CORDAFINA_LINES_UNFIT: return "count of lines outside 1 to 16";
     case CORDAFINA_EPHEMERAL_ABSENT: return "packet of an ephemeral that does not exist";
+    case CORDAFINA_ROW_UNFIT: return "not a sound table's row with that count of lines";
     case CORDAFINA_OUTPUT_TOO_SHORT: return "output under 8,192 bytes";
     default: return "no refusal of this version";
     }

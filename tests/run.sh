@@ -1,6 +1,6 @@
 #!/usr/bin/env bash
 # The tests beside the proofs: tools, unit tests, documentation without an archive, examples, the reference's examples, listing sessions,
-# differential tests of the calls, the map of the ephemerals, the contexts and packets, demand 3 on the compiled library, README.md's commands.
+# differential tests of the calls, the map of the ephemerals, the contexts, packets and rows, demand 3 on the compiled library, README.md's commands.
 # Ends with status 0 only if all of them passed. docs/TESTING.md says what each is.
 #
 #   tests/run.sh                      the short form, some minutes
@@ -18,12 +18,13 @@ calls=200000
 maps=200000
 contexts=100000
 packets=100000
+rows=50000
 pairs=20000
 long=no
 allow=no
 for option in "$@"; do
     case $option in
-        --long) long=yes calls=2000000 contexts=1000000 packets=1000000 pairs=200000 ;;
+        --long) long=yes calls=2000000 contexts=1000000 packets=1000000 rows=500000 pairs=200000 ;;
         --allow-no-archive) allow=yes ;;
         *) sed -n '2,11s/^# \{0,1\}//p' tests/run.sh >&2; exit 2 ;;
     esac
@@ -67,6 +68,7 @@ step "differential test, $calls calls" rust run -p differential -- calls "$seed"
 step "map of the ephemerals, $maps maps" rust run -p differential -- maps "$seed" $maps
 step "contexts as text, $contexts tables" rust run -p differential -- contexts "$seed" $contexts
 step "$packets packets" rust run -p differential -- packets "$seed" $packets
+step "$rows rows of tables" rust run -p differential -- rows "$seed" $rows
 step "demand 3, $pairs pairs" rust run -p differential -- pairs "$seed" $pairs
 step "commands of README.md" python3 tests/readme.py
 if [ $long = yes ]; then

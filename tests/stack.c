@@ -79,6 +79,19 @@ static void texts(void)
     cordafina_text_name((const uint8_t *)text, length, 1);
 }
 
+static uint32_t spare[CORDAFINA_TABLE_WORDS(CORDAFINA_MOST_LINES)];
+static size_t row_length;
+
+static void write_row(void)
+{
+    row_length = cordafina_length(cordafina_write_row(lines, table, CORDAFINA_TABLE_WORDS(lines), out, sizeof out));
+}
+
+static void read_row(void)
+{
+    cordafina_read_row(lines, out, row_length, spare, CORDAFINA_TABLE_WORDS(lines));
+}
+
 static void questions(void)
 {
     cordafina_lowest_absent(cordafina_map(lines, table));
@@ -136,8 +149,8 @@ static size_t most(size_t a, size_t b)
     return a < b ? b : a;
 }
 
-/* The most that was used by the call, the contexts, the texts, and the questions about the map with a packet; how many messages were answered. */
-static size_t by_call, by_contexts, by_texts, by_questions, calls;
+/* The most that was used by the call, the contexts, the texts, rows, and the questions about the map with a packet; how many messages were answered. */
+static size_t by_call, by_contexts, by_texts, by_rows, by_questions, calls;
 
 static void message(const char *bytes, size_t count)
 {
@@ -148,6 +161,8 @@ static void message(const char *bytes, size_t count)
     by_call = most(by_call, used(answer));
     by_contexts = most(by_contexts, used(contexts));
     by_texts = most(by_texts, used(texts));
+    by_rows = most(by_rows, used(write_row));
+    by_rows = most(by_rows, used(read_row));
     by_questions = most(by_questions, used(questions));
     calls++;
 }
@@ -191,17 +206,18 @@ int main(int count, char **files)
             second = most(second, used(plain));
         }
     }
-    printf("stack: of %zu calls the deepest %zu bytes, contexts %zu, texts %zu, the map and a packet %zu, digit maps %zu, the plain matcher %zu;",
-           calls, by_call, by_contexts, by_texts, by_questions, first, second);
+    printf("stack: of %zu calls the deepest %zu bytes, contexts %zu, texts %zu, rows %zu, the map and a packet %zu, digit maps %zu, the plain matcher %zu;",
+           calls, by_call, by_contexts, by_texts, by_rows, by_questions, first, second);
     printf(" %zu of each are this test's\n", base);
-    if (most(most(by_call, by_contexts), most(most(by_texts, by_questions), first)) > CORDAFINA_STACK_BYTES || second > CORDAFINA_PLAIN_STACK_BYTES) {
+    if (most(most(most(by_call, by_contexts), by_rows), most(most(by_texts, by_questions), first)) > CORDAFINA_STACK_BYTES
+        || second > CORDAFINA_PLAIN_STACK_BYTES) {
         printf("stack: FAILED, more than the %d bytes, for the plain matcher %d, that the headers say\n", CORDAFINA_STACK_BYTES,
                CORDAFINA_PLAIN_STACK_BYTES);
         return 1;
     }
     /* A test that sees nothing would pass. */
-    if (by_call < base + 2049 || calls < 2688) {
-        printf("stack: FAILED, an action's buffer of 2,049 bytes was not seen, or some messages were not\n");
+    if (by_call < base + 2049 || by_rows < base + 8072 || calls < 2688) {
+        printf("stack: FAILED, an action's buffer of 2,049 bytes or a row's 2,018 words were not seen, or some messages were not\n");
         return 1;
     }
     return 0;

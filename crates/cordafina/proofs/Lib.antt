@@ -1,3 +1,4 @@
 pub mod FaceLaws
 mod HeadLaws
 mod ContextLaws
+mod RowLaws

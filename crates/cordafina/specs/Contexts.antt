@@ -12,6 +12,7 @@ use Rattle.base.specs.Bytes.{put}
 use Rattle.megaco.specs.Table.{mostLines, words, sound}
 use Rattle.megaco.specs.Names.{within}
 use Rattle.sessions.specs.Listing.{contextsText}
+use Rattle.row_laws.specs.Answers.{leastOutput}
 
 -- what is answered: the number of the refusal or 0, the text's length, what the output then holds
 pub record Written : Type 0 where
@@ -25,14 +26,11 @@ refused n o = record { refusal = n; size = 0; out = o }
 unfoldable pub written : List ℕ → List ℕ → Written
 written x o = record { refusal = 0; size = length x; out = put o 0 x }
 
-abbrev pub room : ℕ
-room = 8192
-
 -- of a table t of n lines, into an output o
 unfoldable pub contextsOf : ℕ → List ℕ → List ℕ → Written
 contextsOf n t o =
     pick (not (within n mostLines)) (refused 8 o)
-    (pick (ltb (length o) room) (refused 11 o) (pick (not (eqb (length t) (words n) && sound t)) (refused 2 o) (written (contextsText n t) o)))
+    (pick (ltb (length o) leastOutput) (refused 11 o) (pick (not (eqb (length t) (words n) && sound t)) (refused 2 o) (written (contextsText n t) o)))
 
 -- the answer in one number of 64 bits, the length in the low 32 and the refusal in the high 32, and the output after the call
 pub record Shown (w : Written) (o′ : List ℕ) (r : ℕ) : Type 0 where

@@ -5,15 +5,12 @@ ghost use Rattle.megaco.specs.Table.{mostLines};
 ghost use Rattle.megaco.specs.Names.{within};
 ghost use Rattle.cordafina.specs.Contexts.{contextsOf, Shown};
 
-// The least length of the output.
-const ROOM: usize = 8192;
-
 // The text's length in the low 32 bits, the number of the refusal in the high 32.
 #[no_mangle]
 pub extern "C" fn cordafina_contexts(lines: u32, table: &[u32], out: &mut [u8]) -> u64
     ensures { λ r. ⌜ Shown (contextsOf lines (now (table .entry)) (now (out .entry))) (now (out .exit)) r ⌝ }
 {
-    if gateway::are_fitted(lines) {
+    if table::are_fitted(lines) {
         return contexts_fitted(lines, table, out);
     }
     8 * 4294967296
@@ -24,10 +21,10 @@ fn contexts_fitted(lines: u32, table: &[u32], out: &mut [u8]) -> u64
     requires { ⌜ within lines mostLines ≡ true ⌝ }
     ensures { λ r. ⌜ Shown (contextsOf lines (now (table .entry)) (now (out .entry))) (now (out .exit)) r ⌝ }
 {
-    if out.len() < ROOM {
+    if out.len() < row::LEAST_OUTPUT {
         return 11 * 4294967296;
     }
-    let n = gateway::words_of(lines);
+    let n = table::words_of(lines);
     if table.len() != n {
         return 2 * 4294967296;
     }

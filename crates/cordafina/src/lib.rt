@@ -2,6 +2,7 @@
 // that include/cordafina.h declares.
 pub mod contexts;
 pub mod digit_maps;
+pub mod rows;
 pub mod speech;
 
 use gateway::CallOutcome;

@@ -8,3 +8,4 @@ pub mod Witness
 pub mod Afternoon
 pub mod PairsNeeded
 pub mod Theorems
+pub mod Spare

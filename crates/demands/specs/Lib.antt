@@ -1,3 +1,4 @@
 pub mod Demands
 pub mod Afternoon
 pub mod PairsNeeded
+pub mod Spare

@@ -41,31 +41,17 @@ pub fn answer(
 ) -> CallOutcome
     ensures { λ r. ⌜ Answered (call lines (now (message .entry)) (state (now (table .entry)) (now (blocks .entry))) (room (now (words .entry)) (now (bytes .entry))) (now (own .entry)) (now (reply .entry))) (state (now (table .exit)) (now (blocks .exit))) (room (now (words .exit)) (now (bytes .exit))) (now (reply .exit)) r ⌝ }
 {
-    if are_fitted(lines) {
+    if table::are_fitted(lines) {
         return answer_fitted(lines, message, table, blocks, words, bytes, own, reply);
     }
     CallOutcome::LinesUnfit
-}
-
-// 1 to 16.
-pub fn are_fitted(lines: u32) -> bool
-    ensures { λ r. ⌜ r ≡ within lines mostLines ⌝ }
-{
-    (0 < lines) & (lines <= table::MOST_LINES)
-}
-
-// The words of a table of so many lines.
-pub fn words_of(lines: u32) -> usize
-    ensures { λ r. ⌜ r ≡ words lines ⌝ }
-{
-    table::start_by_lines(lines, 6)
 }
 
 // Whether the table is of so many lines, and both it and the blocks are sound.
 fn state_fits(lines: u32, table: &[u32], blocks: &[u32]) -> bool
     ensures { λ r. ⌜ r ≡ stateFits lines (state (now (table .entry)) (now (blocks .entry))) ⌝ }
 {
-    let n = words_of(lines);
+    let n = table::words_of(lines);
     if table.len() == n {
         return sound::is_sound(table) & statistics::is_sound(blocks);
     }
@@ -168,7 +154,7 @@ pub fn packet(
 ) -> u32
     ensures { λ r. ⌜ Counted (packet lines (state (now (table .entry)) (now (blocks .entry))) n arrival stamp) (now (blocks .exit)) r ⌝ }
 {
-    let told = are_fitted(lines);
+    let told = table::are_fitted(lines);
     if told {
         return packet_fitted(lines, table, blocks, n, arrival, stamp);
     }

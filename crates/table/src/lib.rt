@@ -8,7 +8,8 @@ ghost use Rattle.base.specs.Pick.{pick};
 ghost use Rattle.base.specs.Lists.{count, lowestAbsent};
 ghost use Rattle.megaco.specs.Map.{digits, withDigit, inUse};
 ghost use Rattle.megaco.specs.Attempt.{sideWrites};
-ghost use Rattle.megaco.specs.Table.{lineTerminations, terminations, regions, startOf, place, words, fitted, Sized, prop, rec, used, flow, lowFlow, highFlow, ctx, cell, address, get, write, store, apply, places, isEphemeral, exists, known, members, placeIn, freeContext, freeEphemeral, usedEphemerals};
+ghost use Rattle.megaco.specs.Names.{within};
+ghost use Rattle.megaco.specs.Table.{mostLines, lineTerminations, terminations, regions, startOf, place, words, fitted, Sized, prop, rec, used, flow, lowFlow, highFlow, ctx, cell, address, get, write, store, apply, places, isEphemeral, exists, known, members, placeIn, freeContext, freeEphemeral, usedEphemerals};
 
 // The most lines that can be fitted.
 pub const MOST_LINES: u32 = 16;
@@ -41,6 +42,13 @@ pub const NO_LINES: usize = 2 * EPHEMERALS as usize + CONTEXTS as usize + MAP + 
 pub const LINE: usize = 2 * CHANNELS;
 
 // ---- sizes
+
+// Whether there can be so many lines: 1 to 16.
+pub fn are_fitted(lines: u32) -> bool
+    ensures { λ r. ⌜ r ≡ within lines mostLines ⌝ }
+{
+    (0 < lines) & (lines <= MOST_LINES)
+}
 
 // The lines fitted, as the table's size tells.
 fn count_lines(table: &[u32]) -> usize
@@ -96,6 +104,13 @@ pub fn start_by_lines(lines: u32, k: usize) -> usize
     ensures { λ r. ⌜ r ≡ startOf lines k ⌝ }
 {
     start_of(lines as usize, k)
+}
+
+// The words of a table of so many lines.
+pub fn words_of(lines: u32) -> usize
+    ensures { λ r. ⌜ r ≡ words lines ⌝ }
+{
+    start_by_lines(lines, 6)
 }
 
 pub fn region_start(table: &[u32], k: usize) -> usize

@@ -46,6 +46,22 @@ extern "C" {
 
     pub fn cordafina_text_name(message: *const u8, message_len: usize, k: usize) -> u64;
 
+    pub fn cordafina_write_row(
+        lines: u32,
+        table: *const u32,
+        table_len: usize,
+        out: *mut u8,
+        out_len: usize,
+    ) -> u64;
+
+    pub fn cordafina_read_row(
+        lines: u32,
+        row: *const u8,
+        row_len: usize,
+        table: *mut u32,
+        table_len: usize,
+    ) -> u32;
+
     pub fn cordafina_lowest_absent(map: u64) -> u32;
 
     pub fn cordafina_in_use(map: u64) -> u32;

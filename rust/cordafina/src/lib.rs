@@ -300,6 +300,38 @@ pub fn contexts_word(lines: u32, table: &[u32], out: &mut [u8]) -> u64 {
     }
 }
 
+/// A table of any words as a row of numbers, as C has it, in one word as
+/// [`answer_word`] has it.
+#[must_use]
+pub fn write_row_word(lines: u32, table: &[u32], out: &mut [u8]) -> u64 {
+    // SAFETY: as in `contexts_word`.
+    unsafe {
+        archive::cordafina_write_row(
+            lines,
+            table.as_ptr(),
+            table.len(),
+            out.as_mut_ptr(),
+            out.len(),
+        )
+    }
+}
+
+/// A table of any words filled from a row, as C has it: 0 or the refusal.
+#[must_use]
+pub fn read_row_word(lines: u32, row: &[u8], table: &mut [u32]) -> u32 {
+    // SAFETY: each pointer is a slice's own, with its length, and so aligned and
+    // not null; the table overlaps nothing. The callee keeps neither.
+    unsafe {
+        archive::cordafina_read_row(
+            lines,
+            row.as_ptr(),
+            row.len(),
+            table.as_mut_ptr(),
+            table.len(),
+        )
+    }
+}
+
 /// The lowest absent number of a map of ephemerals, 1 to 64, or 0 if there is
 /// none: of the lowest bit that is not set, one more than its place.
 #[must_use]

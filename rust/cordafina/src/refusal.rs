@@ -28,6 +28,8 @@ pub enum Refusal {
     LinesUnfit = 8,
     /// A packet of an ephemeral that does not exist, or outside 1 to 64.
     EphemeralAbsent = 9,
+    /// Bytes that are not a sound table's row with that count of lines.
+    RowUnfit = 10,
     /// An output under 8,192 bytes.
     OutputTooShort = 11,
 }
@@ -54,8 +56,17 @@ impl Refusal {
             7 => Refusal::BadString,
             8 => Refusal::LinesUnfit,
             9 => Refusal::EphemeralAbsent,
+            10 => Refusal::RowUnfit,
             11 => Refusal::OutputTooShort,
             _ => panic!("refusal {number}: the archive is not this library"),
+        }
+    }
+
+    /// A result that is 0 or the refusal.
+    pub(crate) fn or_done(number: u32) -> Result<(), Self> {
+        match number {
+            0 => Ok(()),
+            number => Err(Refusal::of_number(number)),
         }
     }
 
@@ -83,6 +94,7 @@ impl fmt::Display for Refusal {
             Refusal::BadString => "dialled string over 32 symbols, or with a foreign one",
             Refusal::LinesUnfit => "count of lines outside 1 to 16",
             Refusal::EphemeralAbsent => "packet of an ephemeral that does not exist",
+            Refusal::RowUnfit => "not a sound table's row with that count of lines",
             Refusal::OutputTooShort => "output under 8,192 bytes",
         })
     }

@@ -4,7 +4,8 @@ use core::{fmt, str};
 
 use crate::layout::{flows_start, line_terminations, map_start, records_start, speech_start};
 use crate::layout::{table_words, terminations, CONTEXTS, MEMBERS, MOST_LINES, OUTPUT_BYTES};
-use crate::{contexts_word, in_use, lowest_absent, Mode, Refusal, ServiceState, Termination};
+use crate::{contexts_word, in_use, lowest_absent, read_row_word, write_row_word};
+use crate::{Mode, Refusal, ServiceState, Termination};
 
 /// The gateway's memory, for a count of lines: which context each termination
 /// stands in, its mode and state, and the contexts with who hears whom in each.
@@ -69,6 +70,38 @@ impl Table {
         Refusal::or_length(contexts_word(lines, words, &mut [0; OUTPUT_BYTES]))?;
         table.words[..words.len()].copy_from_slice(words);
         Ok(table)
+    }
+
+    /// The table that [`write_row`](Self::write_row) wrote, for a spare.
+    ///
+    /// # Errors
+    /// `LinesUnfit` if the count is not 1 to 16; `RowUnfit` if the bytes are not a
+    /// sound table's row with that count.
+    pub fn from_row(lines: u32, row: &[u8]) -> Result<Self, Refusal> {
+        let mut table = Table::with_lines(lines)?;
+        Refusal::or_done(read_row_word(lines, row, table.lent()))?;
+        Ok(table)
+    }
+
+    /// The table as a row of numbers, of at most 4,369 bytes, from the start of the
+    /// output on.
+    ///
+    /// ```
+    /// use cordafina::{Gateway, Table};
+    ///
+    /// let mut gateway = Gateway::new(b"[10.0.0.9]")?;
+    /// gateway.answer(b"!/1 [10.0.0.1] T=1{C=${A=L/1/5,A=$}}")?;
+    /// let mut out = [0; 8192];
+    /// let row = gateway.table().write_row(&mut out)?;
+    /// assert!(Table::from_row(8, row)? == *gateway.table());
+    /// # Ok::<(), cordafina::Refusal>(())
+    /// ```
+    ///
+    /// # Errors
+    /// `OutputTooShort` if the output has under 8,192 bytes.
+    pub fn write_row<'out>(&self, out: &'out mut [u8]) -> Result<&'out [u8], Refusal> {
+        let length = Refusal::or_length(write_row_word(self.lines, self.words(), out))?;
+        Ok(&out[..length])
     }
 
     /// The count of lines.

@@ -11,7 +11,7 @@ const GATEWAY: &str = include_str!("../../../crates/gateway/src/lib.rt");
 const DIGITS: &str = include_str!("../../../crates/digits/src/lib.rt");
 const REFERENCE: &str = include_str!("../../../docs/REFERENCE.md");
 
-const ALL: [Refusal; 10] = [
+const ALL: [Refusal; 11] = [
     Refusal::MessageUnfit,
     Refusal::TableUnsound,
     Refusal::ReplyTooShort,
@@ -21,6 +21,7 @@ const ALL: [Refusal; 10] = [
     Refusal::BadString,
     Refusal::LinesUnfit,
     Refusal::EphemeralAbsent,
+    Refusal::RowUnfit,
     Refusal::OutputTooShort,
 ];
 
@@ -66,8 +67,8 @@ fn as_the_code_has_them() {
         });
     for refusal in ALL {
         let name = format!("{refusal:?},");
-        // The contexts as text and packets have a number and no enum.
-        let numbered = [Refusal::OutputTooShort, Refusal::EphemeralAbsent];
+        // The contexts as text, packets and rows have a number and no enum.
+        let numbered = [Refusal::OutputTooShort, Refusal::EphemeralAbsent, Refusal::RowUnfit];
         let is_known = outcomes.contains(&&*name) || dialled.contains(&&*name);
         assert_eq!(is_known, !numbered.contains(&refusal), "{name}");
     }

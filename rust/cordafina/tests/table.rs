@@ -235,3 +235,32 @@ fn where_speech_goes() {
         assert_eq!(Table::from_words(lines, &words), Err(Refusal::TableUnsound));
     }
 }
+
+/// A table carried to a spare: the row gives it back, and nothing but a row does.
+#[test]
+fn rows() {
+    for lines in 1..=MOST_LINES {
+        let table = after(
+            lines,
+            &[
+                "T=1{C=${PR=4,EG,A=L/1/5{M{O{MO=SR},TS{SI=TE}}},A=$}}",
+                "T=2{C=${A=L/1/31,A=$,A=$}}",
+            ],
+        );
+        let mut out = [0xA5; OUTPUT_BYTES];
+        let row = table.write_row(&mut out).unwrap().to_vec();
+        assert!(out[row.len()..].iter().all(|byte| *byte == 0xA5));
+        assert_eq!(u32::from(row[0]), lines);
+        assert!(Table::from_row(lines, &row).unwrap() == table);
+        assert!(table.write_row(&mut [0; OUTPUT_BYTES - 1]).err() == Some(Refusal::OutputTooShort));
+        let other = lines % MOST_LINES + 1;
+        assert!(Table::from_row(other, &row).err() == Some(Refusal::RowUnfit));
+        assert!(Table::from_row(0, &row).err() == Some(Refusal::LinesUnfit));
+        assert!(Table::from_row(lines, &row[1..]).err() == Some(Refusal::RowUnfit));
+        for end in [0, 1, row.len() - 1] {
+            assert!(Table::from_row(lines, &row[..end]).err() == Some(Refusal::RowUnfit));
+        }
+        let longer = [&row[..], &[0]].concat();
+        assert!(Table::from_row(lines, &longer).err() == Some(Refusal::RowUnfit));
+    }
+}

@@ -11,6 +11,9 @@
 //! `differential packets SEED COUNT`: so many packets, the archive against the
 //! reference.
 //!
+//! `differential rows SEED COUNT`: so many tables written as rows and so many rows,
+//! whole or damaged, read, the archive against the reference.
+//!
 //! `differential pairs SEED COUNT`: so many pairs of transactions that meet
 //! demand 3's conditions, in both orders.
 
@@ -22,9 +25,10 @@ use differential::maps::{ask, Questions};
 use differential::numbers::Numbers;
 use differential::packets;
 use differential::pairs::Pair;
+use differential::rows;
 
 const USAGE: &str =
-    "usage: differential calls SEED COUNT [exact] | (maps | contexts | packets | pairs) SEED COUNT";
+    "usage: differential calls SEED COUNT [exact] | (maps | contexts | packets | rows | pairs) SEED COUNT";
 
 fn main() -> ExitCode {
     let words: Vec<String> = std::env::args().skip(1).collect();
@@ -51,6 +55,7 @@ fn test(words: &[&str]) -> Option<bool> {
         ("maps", []) => Some(maps(seed, count)),
         ("contexts", []) => Some(contexts(seed, count)),
         ("packets", []) => Some(packets(seed, count)),
+        ("rows", []) => Some(rows(seed, count)),
         ("pairs", []) => Some(pairs(seed, count)),
         _ => None,
     }
@@ -150,6 +155,41 @@ fn packets(seed: u64, count: u64) -> bool {
     );
     if count >= 10_000 && [taken, eight, two, nine].contains(&0) {
         println!("a refusal never came, or none was counted");
+        return false;
+    }
+    true
+}
+
+fn rows(seed: u64, count: u64) -> bool {
+    let mut numbers = Numbers::new(seed);
+    let (mut wrote, mut read, mut longest) = ([0; 12], [0; 12], 0);
+    for place in 0..count {
+        match rows::ask(
+            &mut numbers,
+            cordafina::write_row_word,
+            cordafina::read_row_word,
+        ) {
+            Ok(asked) => {
+                wrote[asked.write as usize] += 1;
+                read[asked.read as usize] += 1;
+                longest = longest.max(asked.length);
+            }
+            Err(what) => {
+                println!("DIFFERENCE: {what}");
+                println!("seed {seed}, after {place} rows: 1 difference");
+                return false;
+            }
+        }
+    }
+    let written = [0, 8, 11, 2].map(|number: usize| wrote[number]);
+    let taken = [0, 8, 2, 10].map(|number: usize| read[number]);
+    println!(
+        "seed {seed}, {count} tables, written {}, refused 8 {}, 11 {}, 2 {} times, longest row {longest} bytes; \
+         {count} rows, read {}, refused 8 {}, 2 {}, 10 {} times: 0 differences",
+        written[0], written[1], written[2], written[3], taken[0], taken[1], taken[2], taken[3],
+    );
+    if count >= 10_000 && (written.contains(&0) || taken.contains(&0)) {
+        println!("a refusal never came, or no row was taken");
         return false;
     }
     true

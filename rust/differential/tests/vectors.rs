@@ -1,6 +1,6 @@
-//! Runs the recorded calls and packets of the folder that the variable VECTORS
-//! names (`calls.jsonl`, `packets.jsonl` if there is one) on the reference and on
-//! the archive, and its listings (`listing/`) on the reference; without it, nothing
+//! Runs the recorded calls, packets and rows of the folder that the variable VECTORS
+//! names (`calls.jsonl`, `packets.jsonl` and `rows.jsonl` if there is one) on the
+//! reference and on the archive, and its listings (`listing/`) on the reference; without it, nothing
 //! is run.
 
 use std::fs;
@@ -9,6 +9,7 @@ use std::path::{Path, PathBuf};
 use differential::calls::{archive_word, outcome, reference_word, Call, Case, GUARD};
 use differential::packets::Counted;
 use differential::rooms::{shown, Room};
+use differential::rows::{self, Reads, Writes};
 use reference::blocks::BLOCK_WORDS;
 use reference::listing::listing;
 
@@ -390,6 +391,92 @@ fn packets() {
         let different = text.lines().filter(|line| !counted(line, side)).count();
         println!(
             "{name}: {} packets, {different} different",
+            text.lines().count()
+        );
+        assert!(!text.is_empty());
+        assert_eq!(different, 0);
+    }
+}
+
+/// Has a side write or read the row of one line of `rows.jsonl`; whether it did so as
+/// recorded.
+fn carried(line: &str, writes: Writes, reads: Reads) -> bool {
+    /// More words than any table has; the length comes behind them.
+    const MOST: usize = 4096;
+    let mut json = Json(line);
+    json.skip("{");
+    json.key("what");
+    let what = json.string();
+    json.skip(",");
+    json.key("lines");
+    let lines = json.number();
+    json.skip(",");
+    if what == "write" {
+        json.key("table");
+        let table = json.words(MOST);
+        json.skip(",");
+        let [length, refusal] = ["out", "refusal"].map(|name| {
+            json.key(name);
+            let number: usize = json.number();
+            json.skip(",");
+            number
+        });
+        json.key("row");
+        let row = json.hex();
+        json.skip(",");
+        json.key("table_len");
+        let words: usize = json.number();
+        let answer = (refusal as u64) << 32 | row.len() as u64;
+        let (got, lent) = rows::written(lines, &table[..words], length, writes);
+        // The row from the first byte on, and what stood there behind it.
+        let mut left = rows::written(lines, &[], length, |_, _, _| 0).1;
+        left[rows::GUARD..][..row.len()].copy_from_slice(&row);
+        return got == answer && lent == left;
+    }
+    json.key("row");
+    let row = json.hex();
+    json.skip(",");
+    let [length, refusal] = ["words", "refusal"].map(|name| {
+        json.key(name);
+        let number: usize = json.number();
+        json.skip(",");
+        number
+    });
+    json.key("table");
+    let before = vec![7; length];
+    let after = match refusal {
+        0 => json.words(length),
+        _ => before.clone(),
+    };
+    let left = rows::read(lines, &row, &after, |_, _, _| 0).1;
+    rows::read(lines, &row, &before, reads) == (refusal as u32, left)
+}
+
+#[test]
+fn table_rows() {
+    let Some(path) = folder().map(|folder| folder.join("rows.jsonl")) else {
+        return;
+    };
+    if !path.exists() {
+        println!("no rows.jsonl: no rows are run");
+        return;
+    }
+    let text = String::from_utf8(read(&path)).unwrap();
+    let sides: [(&str, Writes, Reads); 2] = [
+        ("reference", rows::reference_writes, rows::reference_reads),
+        (
+            "archive",
+            cordafina::write_row_word,
+            cordafina::read_row_word,
+        ),
+    ];
+    for (name, writes, reads) in sides {
+        let different = text
+            .lines()
+            .filter(|line| !carried(line, writes, reads))
+            .count();
+        println!(
+            "{name}: {} rows, {different} different",
             text.lines().count()
         );
         assert!(!text.is_empty());

@@ -1,5 +1,5 @@
 //! A small Megaco (H.248.1) text gateway, in plain Rust, after document 01 and
-//! document 02's requests 10, 5, 2, 1, 6, 11, 12 and 3.
+//! document 02's requests 10, 5, 2, 1, 6, 11, 12, 3 and 14.
 //!
 //! The count of lines, one message, a lent table, a lent room of kept replies, lent
 //! blocks and a lent reply buffer go in; an [`Answer`] comes out. The whole message is read to a tree before anything
@@ -10,6 +10,7 @@ pub mod listing;
 pub mod map;
 pub mod reply;
 pub mod room;
+pub mod row;
 pub mod run;
 pub mod sdp;
 pub mod table;

@@ -1,0 +1,12 @@
+use borrow.Author.Needs.{needs}
+use Rattle.groups.proofs.PutLaws.{group-all}
+use Rattle.groups.proofs.put_number.Statement.{statement}
+use Rattle.groups.proofs.put_number.Tie as tie
+
+pub put-number-spec : {M : Type 1} → statement M
+put-number-spec =
+    tie.close
+    (tie.spec
+    (λ c κs. search needs)
+    (λ c. search needs)
+    (λ c. search group-all))

@@ -1,0 +1,5 @@
+pub mod ItemLaws
+pub mod WordLaws
+pub mod PutLaws
+pub mod ReadLaws
+pub mod AnswerLaws
