@@ -1,5 +1,5 @@
 #!/usr/bin/env bash
-# The tests beside the proofs: tools, unit tests, documentation without an archive, examples, the reference's examples, listing sessions,
+# The tests beside the proofs: tools, names in the documents, unit tests, documentation without an archive, examples, the reference's examples, listing sessions,
 # differential tests of the calls, the map of the ephemerals, the contexts, packets and rows, demand 3 on the compiled library, README.md's commands.
 # Ends with status 0 only if all of them passed. docs/TESTING.md says what each is.
 #
@@ -57,6 +57,7 @@ if [ ! -f "$archive" ]; then
 fi
 
 step "tools" python3 tests/tools.py
+step "names in the documents" python3 tools/names.py
 step "build" rust build --workspace
 step "unit tests" rust test --workspace
 step "no archive" without_archive

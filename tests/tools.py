@@ -5,7 +5,7 @@
 
 Every file of tools/ but command.py and prover.py, which tools share, is a tool. With `--help` it prints its usage on standard output and ends with status 0. With an option that
 it does not have, a file that is not there, a file of bytes that are no text (a word too many, where it takes no file), and without rt where it runs
-rt, it ends with status 2 and prints on standard error the usage or one line that says what is wrong.
+rt, it ends with status 2 and prints on standard error the usage or one line that says what is wrong. crates.py and names.py find what they look for.
 """
 import os
 import pathlib
@@ -73,6 +73,13 @@ def main():
         named = ran(crates, [], PATH=str(folder / "kit/bin"))
         hold("crates.py", "a crate that is called as a module of the kit", named.returncode == 1 and "base: the kit's library some has" in named.stdout)
         hold("crates.py", "the kit is not found", ran(crates, [], PATH=str(folder / "path")).returncode == 0)
+        # a document with a name of each form, and below it each once more with a letter behind it
+        there = ["crates/gateway/src/lib.rt", "specs/Places", "Reading.itemR", "gateway::answer", "read-derives", "wordAt", "judge_attempt"]
+        lines = [" ".join(f"`{name}`" for name in there + ["T=7{C=$}"])] + [f"`{name}X`" for name in there]
+        (folder / "names.md").write_text("\n".join(lines) + "\n", encoding="utf-8")
+        found = ran(TOP / "tools/names.py", [str(folder / "names.md")])
+        told = [line.split("names.md:")[1] for line in found.stdout.splitlines()[:-1]]
+        hold("names.py", "names that are not there, and only those", found.returncode == 1 and told == [f"{at}: {line}" for at, line in enumerate(lines, 1) if at > 1])
     for name in sorted(set(NEED_RT) - {tool.name for tool in tools}):
         hold(name, "NEED_RT names it, and it is not there", False)
     print(f"tools: {len(tools)} tools, {tried} things tried, {failed} failed")
