@@ -1,14 +1,14 @@
 #!/usr/bin/env bash
 # Builds and runs the examples, in C, C++ and Rust, and compares what they print with expected.txt.
 # The archive is CORDAFINA_LIB (a path that is not absolute starts at the top folder of the repository), or
-# target/staticlib/libcordafina.a.
+# crates/cordafina/out/libcordafina.a.
 set -eu
 cd "$(dirname "$0")/.."
-archive=$(realpath -m "${CORDAFINA_LIB:-target/staticlib/libcordafina.a}")
+archive=$(realpath -m "${CORDAFINA_LIB:-crates/cordafina/out/libcordafina.a}")
 export CORDAFINA_LIB=$archive
 if [ ! -f "$archive" ]; then
     echo "examples: FAILED, there is no archive at $archive"
-    echo "make it with 'rt staticlib cordafina' (README.md says how long that takes), or name one in CORDAFINA_LIB"
+    echo "make it with '(cd crates/cordafina && rt lib)' (README.md says how long that takes), or name one in CORDAFINA_LIB"
     exit 1
 fi
 out=$(mktemp -d)

@@ -10,9 +10,9 @@
  * the caller lends. docs/REFERENCE.md says what a message may say and what is
  * answered; the code is proved equal to the definition in crates/megaco/specs.
  *
- *     cc -I include program.c target/staticlib/libcordafina.a
+ *     cc -I include program.c crates/cordafina/out/libcordafina.a
  *
- * `rt staticlib cordafina` makes the archive. If the compiler finds no such file,
+ * `(cd crates/cordafina && rt lib)` makes the archive. If the compiler finds no such file,
  * or the linker says `undefined reference to cordafina_answer`, it was not made
  * or does not stand behind the program on the command line. It is for x86-64
  * Linux and asks for nothing but the C library's memory functions.

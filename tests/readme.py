@@ -1,14 +1,15 @@
 #!/usr/bin/env python3
 """Runs every command that README.md shows, as it is written there, and holds what it prints to what README.md says.
 
-    python3 tests/readme.py          needs what `rt ci`, or `rt check`, proved under target/
+    python3 tests/readme.py
 
-A command is a line of a fenced block other than `quick`, or stands in backquotes: words that begin with a program's name, a script, a
-program of target/bin. Each must be run here or named in NOT_RUN with the reason, and each that is run or named must stand in README.md.
+A command is a line of a fenced block other than `quick`, or stands in backquotes: words that begin with a program's name or with `(cd`, a
+script, a program of a crate. Each must be run here or named in NOT_RUN with the reason, and each that is run or named must stand in README.md.
 
-The commands are run one after the other in a copy of the tree's files with its target/, so that rt finds what was proved, but without the
-archive: as in a clone, the first ones do without it, until `rt staticlib` makes it. A command may leave files under target/ and rust/target/
-and the one that it names itself behind `-o`, which is removed; nothing else in the copy, and nothing in the folder for temporary files.
+The commands are run one after the other in a copy of the tree's files, without what was proved and without the archive: as in a clone, the
+first ones do without it, until `rt lib` makes it. rt begins there with what its checks kept in any checkout on this machine. A command may leave
+files under crates/*/out/ and rust/target/ and the one that it names itself behind `-o`, which is removed; nothing else in the copy, and nothing in
+the folder for temporary files.
 """
 import os
 import pathlib
@@ -20,10 +21,11 @@ import tempfile
 import time
 
 TOP = pathlib.Path(__file__).resolve().parent.parent
-BUILT = {".git", "target", "rust/target"}
+BUILT = re.compile(r"\.git|crates/\w+/out|rust/target")
 NOT_RUN = {
     "bash .ci/run": "is the gate, which runs this",
     "tests/run.sh": "is what runs this",
+    "rt ci": "is what the gate runs first",
     "rt try": "is what tools/quick_start.py runs, not a whole command",
 }
 
@@ -38,13 +40,14 @@ def commands(readme):
 
 def is_command(span):
     first, *rest = span.split()
-    return bool(rest and shutil.which(first)) or bool(re.search(r"^target/bin/|\.(sh|py)$", first))
+    return bool(rest and shutil.which(first)) or bool(re.search(r"^\(cd$|^crates/\w+/out/|\.(sh|py)$", first))
 
 
 def expected(readme):
     """Each command to run: what it reads, and whether what it prints (as lines; on standard error) is what README.md says."""
     quick = [re.split(r" {2,}", line) for line in re.search(r"^```quick\n(.*?)^```$", readme, re.M | re.S)[1].splitlines()]
     asked, replies = "".join(message + "\n" for message, _ in quick), [reply for _, reply in quick]
+    listed = (TOP / "crates/listing/stdout").read_text(encoding="latin-1").splitlines()
     called = (TOP / "examples/expected.txt").read_text().splitlines()
     manifest = "--manifest-path rust/Cargo.toml"
 
@@ -59,13 +62,13 @@ def expected(readme):
         ("python3 tools/quick_start.py", "", started("(NOT PROVED")),
         ("rt version", "", lambda out, _: len(out) == 1),
         ("bash tools/kit.sh", "", lambda out, _: out[0].startswith("kit: ")),
-        ("rt check listing", "", lambda out, _: "listing proved" in "\n".join(out)),
-        ("python3 tools/quick_start.py --proved", "", started("(by target/bin/listing")),
-        ("target/bin/listing", asked, lambda out, _: out[:3] == replies),
+        ("(cd crates/listing && rt run < stdin)", "", lambda out, _: out[-len(listed):] == listed),
+        ("python3 tools/quick_start.py --proved", "", started("(by crates/listing/out/listing")),
+        ("crates/listing/out/listing", asked, lambda out, _: out[:3] == replies),
         (f"cargo doc {manifest}", "", lambda _, err: "no archive" in err),
         (f"cargo check {manifest}", "", lambda _, err: "no archive" in err),
-        ("rt staticlib cordafina", "", lambda out, _: "libcordafina.a" in out[-1]),
-        ("cc -I include examples/c/call.c target/staticlib/libcordafina.a -o call && ./call", "", lambda out, _: out == called),
+        ("(cd crates/cordafina && rt lib)", "", lambda out, _: out[-1].startswith("logic=proved ")),
+        ("cc -I include examples/c/call.c crates/cordafina/out/libcordafina.a -o call && ./call", "", lambda out, _: out == called),
         (f"cargo run {manifest} -p call", "", lambda out, _: out == called),
         ("bash examples/run.sh", "", examples),
     ]
@@ -75,7 +78,7 @@ def files(top):
     """The files of a tree by name, but for what is built."""
     for folder, below, names in os.walk(top):
         here = pathlib.Path(folder).relative_to(top)
-        below[:] = [name for name in below if str(here / name) not in BUILT]
+        below[:] = [name for name in below if not BUILT.fullmatch(str(here / name))]
         yield from (here / name for name in names)
 
 
@@ -92,8 +95,6 @@ def copied(copy):
     for name in tree():
         (copy / name).parent.mkdir(parents=True, exist_ok=True)
         shutil.copy2(TOP / name, copy / name)
-    # not by links: rt writes into files that are there
-    shutil.copytree(TOP / "target", copy / "target", ignore=shutil.ignore_patterns("staticlib"))
 
 
 def state(copy):
@@ -128,11 +129,8 @@ def main():
     wrong += [f"`{command}` is named here, and README.md does not show it" for command in sorted(known - spans)]
     if (TOP / "kit.txt").read_text().strip() not in spans:
         wrong.append("README.md names another kit than kit.txt")
-    if not (TOP / "target/stamp/listing").exists():
-        wrong.append("the listing program is not proved here; `rt ci` or `rt check` does it")
     if not wrong:
         with tempfile.TemporaryDirectory() as folder:
-            os.chmod(folder, 0o755)    # rt runs a program as nobody
             copy, room = pathlib.Path(folder, "copy"), pathlib.Path(folder, "room")
             room.mkdir()
             copied(copy)

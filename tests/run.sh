@@ -8,10 +8,10 @@
 #   tests/run.sh --allow-no-archive   where there is no archive: the reference's tests alone, and the note 'no archive yet'
 #
 # The archive is the file that CORDAFINA_LIB names (a path that is not absolute starts at the top folder of the repository), or
-# target/staticlib/libcordafina.a. SEED (default 1) is that of the generated calls.
+# crates/cordafina/out/libcordafina.a. SEED (default 1) is that of the generated calls.
 set -euo pipefail
 cd "$(dirname "$0")/.."
-archive=$(realpath -m "${CORDAFINA_LIB:-target/staticlib/libcordafina.a}")
+archive=$(realpath -m "${CORDAFINA_LIB:-crates/cordafina/out/libcordafina.a}")
 export CORDAFINA_LIB=$archive
 seed=${SEED:-1}
 calls=200000
@@ -43,12 +43,12 @@ without_archive() ( # a clone can be read and checked before anything is proved;
     rust doc --no-deps -p cordafina || exit 1
     rust check --workspace --all-targets || exit 1
     output=$(rust build -p call 2>&1) && { echo "a program was linked without the archive"; exit 1; }
-    [[ $output == *cordafina_is_missing__make_it_with__rt_staticlib_cordafina* ]] || { echo "$output"; exit 1; }
+    [[ $output == *cordafina_is_missing__make_it_with__rt_lib_in_crates_cordafina* ]] || { echo "$output"; exit 1; }
 )
 
 if [ ! -f "$archive" ]; then
     if [ $allow = no ]; then
-        echo "tests: FAILED, there is no archive at $archive; make it with 'rt staticlib cordafina'"
+        echo "tests: FAILED, there is no archive at $archive; make it with '(cd crates/cordafina && rt lib)'"
         exit 1
     fi
     step "unit tests of the reference" rust test -p reference

@@ -6,8 +6,8 @@
 set -euo pipefail
 root=$(cd "$(dirname "$0")/.." && pwd)
 folder=${1:-$root/tests/sessions}
-program=$root/target/bin/listing
-[ -x "$program" ] || { echo "sessions: there is no $program; make it with 'rt check listing'"; exit 1; }
+program=$root/crates/listing/out/listing
+[ -x "$program" ] || { echo "sessions: there is no $program; make it with '(cd crates/listing && rt run < stdin)'"; exit 1; }
 count=0
 for input in "$folder"/*.in; do
     "$program" < "$input" | cmp - "${input%.in}.out" || { echo "sessions: $input is answered otherwise"; exit 1; }

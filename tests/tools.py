@@ -18,7 +18,7 @@ import tempfile
 TOP = pathlib.Path(__file__).resolve().parent.parent
 SHARED = ("command.py", "prover.py")
 # the tools that need rt, each with words with which it does
-NEED_RT = {"definition_edits.py": [], "evaluate.py": ["calls"], "kit.sh": [], "quick_start.py": [], "try_edits.py": []}
+NEED_RT = {"axioms.py": [], "definition_edits.py": [], "evaluate.py": ["calls"], "kit.sh": [], "quick_start.py": [], "try_edits.py": []}
 
 
 def ran(tool, words, **env):
@@ -64,17 +64,16 @@ def main():
             hold(tool.name, "needs rt, or does not, otherwise than NEED_RT says", needs_rt == (tool.name in NEED_RT))
             if needs_rt:
                 hold(tool.name, "without rt on the path", refuses(tool, NEED_RT.get(tool.name, []), "there is no rt", PATH=str(folder / "path")))
-        # a kit with a module that is called as a crate here; and none
+        # a kit with a library that is called as a crate here; and none
         (folder / "kit/bin").mkdir(parents=True)
-        (folder / "kit/libs/some/src").mkdir(parents=True)
-        (folder / "kit/libs/some/src/base.rt").touch()
+        (folder / "kit/rlibs/base.rlib").mkdir(parents=True)
         (folder / "kit/bin/rt").touch(0o755)
         crates = TOP / "tools/crates.py"
         named = ran(crates, [], PATH=str(folder / "kit/bin"))
-        hold("crates.py", "a crate that is called as a module of the kit", named.returncode == 1 and "base: the kit's library some has" in named.stdout)
+        hold("crates.py", "a crate that is called as a library of the kit", named.returncode == 1 and "base: the kit has a library" in named.stdout)
         hold("crates.py", "the kit is not found", ran(crates, [], PATH=str(folder / "path")).returncode == 0)
         # a document with a name of each form, and below it each once more with a letter behind it
-        there = ["crates/gateway/src/lib.rt", "specs/Places", "Reading.itemR", "gateway::answer", "read-derives", "wordAt", "judge_attempt"]
+        there = ["crates/gateway/src/lib.rt", "specs/Places", "Reading.item_r", "gateway::answer", "read_derives", "word_at", "judge_attempt"]
         lines = [" ".join(f"`{name}`" for name in there + ["T=7{C=$}"])] + [f"`{name}X`" for name in there]
         (folder / "names.md").write_text("\n".join(lines) + "\n", encoding="utf-8")
         found = ran(TOP / "tools/names.py", [str(folder / "names.md")])

@@ -1,6 +1,6 @@
 #!/usr/bin/env python3
 """Whether each edit still fits: every `old:` text of crates/*/must-fail and tools/definition-edits must stand exactly once in the file that
-the edit names. A file there with another ending than `.edit`, or in another folder than must-fail/more, is a fault too: nothing would try it.
+the edit names. A file there with another ending than `.edit`, or in a folder of its own, is a fault too: nothing would try it.
 
 It takes a moment; the gate finds the first only after it has proved every crate, and the second never.
 """
@@ -19,9 +19,9 @@ def main():
     edits = olds = bad = 0
     for path in sorted(glob.glob("crates/*/must-fail/**", recursive=True) + glob.glob("tools/definition-edits/**", recursive=True)):
         folder = os.path.isdir(path)
-        if folder and re.fullmatch("crates/[^/]*/must-fail(/more)?|tools/definition-edits", path.rstrip("/")):
+        if folder and re.fullmatch("crates/[^/]*/must-fail|tools/definition-edits", path.rstrip("/")):
             continue
-        if folder or not re.fullmatch("crates/[^/]*/must-fail(/more)?/[^/]*[.]edit|tools/definition-edits/[^/]*[.]edit", path):
+        if folder or not re.fullmatch("crates/[^/]*/must-fail/[^/]*[.]edit|tools/definition-edits/[^/]*[.]edit", path):
             bad += 1
             print(f"{path}: is no edit, and nothing tries it")
             continue

@@ -1,13 +1,13 @@
 #!/usr/bin/env python3
-"""Whether what the documents name is there: each name in backquotes in docs/*.md and README.md (docs/changes is history, and left out) that has the
+"""Whether what the documents name is there: each name in backquotes in docs/*.md and README.md (docs/changes and docs/PORT.md are history, and left out) that has the
 form of a file, a definition, a theorem or a function of the tree.
 
     crates/gateway/src/lib.rt     a path from a top folder, with or without backquotes: a file or folder; NAME, f and `*` stand for any name
     specs/Places, Theorems.antt   a path from a crate or a folder of one, a file's name: some file has it as its path's end
-    Reading.itemR                 a file Reading.antt, or one that declares a type Reading, declares itemR
+    Reading.item_r                a file Reading.antt, or one that declares a type Reading, declares item_r
     gateway::answer               crate, module or type gateway has a function, type, constant or case answer
-    read-derives, wordAt, SameSet a word of the proofs or the code, comments aside, or the name of an edit, a file, a folder
-    judge_attempt, CORDAFINA_LIB  the same, of the code, the headers, the tools and the tests
+    read_derives, SameSet, a-file a word of the proofs, the code, the headers, the tools or the tests, comments aside, or the name of an edit, a
+                                  file, a folder
 
 All else is passed over: texts of the protocol, numbers, commands, single plain words.
 """
@@ -33,8 +33,7 @@ class Tree:
         self.paths, self.texts, self.words, self.proofs = set(), {}, set(), set()
         for top in TOPS:
             for folder, folders, files in os.walk(top):
-                if folder == "rust":
-                    folders[:] = [name for name in folders if name != "target"]
+                folders[:] = [name for name in folders if not re.fullmatch(r"rust/target|crates/\w+/out", os.path.join(folder, name))]
                 self.paths.update(os.path.join(folder, name) for name in folders + files)
         self.paths.update(TOPS, (name for name in os.listdir(".") if os.path.isfile(name)))
         self.all = "\n".join(sorted(self.paths))
@@ -46,7 +45,7 @@ class Tree:
                 continue
             text = re.sub(COMMENTS.get(ending, SLASHES), "", command.text(path))
             if ending == ".antt":
-                self.proofs.update(re.split(r"[\s(){};,.·«»]+", text))
+                self.proofs.update(re.split(r"[\s(){};,.«»]+", text))
                 self.declared[path] = {word for found in DECLARED.findall(text) for words in found for word in words.split()}
             else:
                 self.words.update(re.findall(r"\w+", text))
@@ -77,7 +76,7 @@ class Tree:
 
     def has(self, name):
         """Whether the tree has what a text in backquotes names; None for a text that is no name by its form."""
-        if re.match(r"(?:rust/)?target/", name):
+        if re.match(r"(?:rust/target|crates/\w+/out)/", name):
             return None
         if re.fullmatch(r"[A-Z]\w*\.[^\s.]+( \w+)*", name):
             module, of = name.split(" ")[0].split(".")
@@ -93,10 +92,8 @@ class Tree:
         if re.fullmatch(r"\w+(::\w+)+", name):
             owner, of = name.split("::")[-2:]
             return name.startswith("std::") or self.has_item(owner, of)
-        if re.fullmatch(r"[a-z]\w*(-[\w?′]+)+|[A-Z]?[a-z]+[A-Z]\w*", name):
+        if re.fullmatch(r"[a-z]\w*(-[\w?′]+)+|[A-Z]?[a-z]+[A-Z]\w*|[A-Za-z]\w*_[\w?′]+", name):
             return name in self.proofs or name in self.words or name in self.stems
-        if re.fullmatch(r"[A-Za-z]\w*_\w+", name):
-            return name in self.words or name in self.stems
         return None
 
 
@@ -115,7 +112,7 @@ def main():
     words.add_argument("files", metavar="FILE", nargs="*", help="documents; none: docs/*.md and README.md")
     files = [os.path.abspath(path) for path in words.parse_args().files]
     os.chdir(command.TOP)
-    texts = {path: command.text(path) for path in files or sorted(glob.glob("docs/*.md")) + ["README.md"]}
+    texts = {path: command.text(path) for path in files or sorted({*glob.glob("docs/*.md")} - {"docs/PORT.md"}) + ["README.md"]}
     tree = Tree()
     looked = bad = 0
     for path, text in texts.items():

@@ -1,50 +1,47 @@
-"""The kit's prover on a copy of a crate, beside the modules that `rt check` left checked in target/rlib, so that only what an edit reaches is checked.
+"""Copies of crates in which rt tries edits: what try_edits.py and definition_edits.py share.
 
-What try_edits.py and definition_edits.py share. A refusal is a refusal, whatever was taken from target/rlib; that a crate is proved is rt's to say.
+rt begins in a copy with what its checks kept in any checkout on this machine, so that only what an edit reaches is checked. A refusal is a refusal,
+whatever was taken from there; that a crate is proved is `rt ci`'s to say.
 """
 import os
 import pathlib
-import platform
-import re
 import shutil
 import subprocess
-import tempfile
 
 import command
 
 TOP = pathlib.Path(command.TOP)
-BUILT = TOP / "target" / "rlib"
 PARTS = ("src", "specs", "proofs")
-
-
-def kit():
-    """The kit's folder, and in it that of this machine."""
-    command.need("rt")
-    home = pathlib.Path(os.environ.get("RATTLE_HOME") or pathlib.Path(shutil.which("rt")).resolve().parent.parent)
-    return home, home / "on" / platform.machine()
 
 
 def jobs():
     return int(os.environ.get("RT_JOBS") or min(os.cpu_count() or 1, 4))
 
 
+def lines():
+    """The line of each crate in crates.txt, and the crates that it names behind the crate."""
+    found = {}
+    for line in command.text(TOP / "crates.txt").splitlines():
+        head, colon, below = line.split("#")[0].partition(":")
+        if colon:
+            found[head.split()[0]] = line, below.split()
+    return found
+
+
 def rests_on(crate):
     """The crates that crates.txt names behind a crate."""
-    return next(line.split(":")[1].split() for line in command.text(TOP / "crates.txt").splitlines() if line.startswith(f"{crate}:"))
+    return lines()[crate][1]
 
 
-def proved(crates):
-    for crate in crates:
-        if not (BUILT / f"{crate}.rlib").is_dir():
-            command.fail(f"crate {crate} is not proved yet: `rt check {crate}` comes first")
-
-
-def copied(crate, work):
-    """A copy of a crate's files in the folder `work`."""
-    for part in PARTS:
-        if (TOP / "crates" / crate / part).is_dir():
-            shutil.copytree(TOP / "crates" / crate / part, work / crate / part)
-    return work / crate
+def copied(crates, work):
+    """Lays copies of crates, and of all below them, into the folder `work`, with their lines of crates.txt."""
+    listed, wanted = lines(), list(crates)
+    for crate in wanted:
+        wanted += [below for below in listed[crate][1] if below in listed and below not in wanted]
+        for part in PARTS:
+            if (TOP / "crates" / crate / part).is_dir():
+                shutil.copytree(TOP / "crates" / crate / part, work / "crates" / crate / part)
+    (work / "crates.txt").write_text("".join(f"{listed[crate][0]}\n" for crate in dict.fromkeys(wanted)), encoding="utf-8")
 
 
 def edited(edit, crate):
@@ -64,43 +61,6 @@ def edited(edit, crate):
             file.write_text(text.replace(old, rest), encoding="utf-8")
 
 
-def modules_folder():
-    """What the prover calls the folder in which it keeps checked modules: it makes one here for crate base."""
-    with tempfile.TemporaryDirectory() as work:
-        work = pathlib.Path(work)
-        said = check("base", copied("base", work), [], work / "kept")
-        if not (work / "kept").is_dir():
-            command.fail(f"the prover keeps no modules: {said.stdout[-300:]}{said.stderr[-300:]}")
-        return next((work / "kept").iterdir()).name
-
-
-def keep(crates, kept):
-    """Lays the checked modules of crates into the folder `kept`."""
-    for crate in crates:
-        shutil.copytree(BUILT / f"{crate}.rlib" / "toolchain" / "checked", kept, dirs_exist_ok=True)
-
-
-def check(crate, folder, sources, kept):
-    """Runs the prover on a crate's folder, with copies of some crates below it as sources and the others as they were proved."""
-    home, own = kit()
-    words = [own / "bin" / "rattle", "check", "--crate-name", crate, folder / "src" / "lib.rt", "--extern", f"std={own}/rlib/std.rlib"]
-    for below in rests_on(crate):
-        if below in sources:
-            words += ["--lib", f"{below}:{','.join(rests_on(below))}={folder.parent}/{below}/src/lib.rt"]
-        else:
-            words += ["--extern", f"{below}={BUILT if (BUILT / f'{below}.rlib').is_dir() else own / 'rlib'}/{below}.rlib"]
-    words += [] if sources else ["-L", f"dependency={BUILT}"]
-    words += ["-L", f"dependency={own}/rlib", "--antt-project", home / "logic" / "antt-project.json"]
-    words += ["--logic-built", own / "logic-built", "--incremental", kept]
-    return subprocess.run([str(word) for word in words], capture_output=True, text=True)
-
-
-def refusals(run, work):
-    """What the prover refused, if it came so far: its words with paths from crates/ on, or nothing and why not."""
-    said = (run.stdout + run.stderr).replace(f"{work}/", "crates/")
-    first = next((line for line in said.splitlines() if ": error" in line), "")
-    if run.returncode == 0:
-        return "", "still proved"
-    if run.returncode != 1 or not re.search("^logic=not-proved", said, re.M):
-        return "", f"did not reach the prover: {first or said[-300:]}"
-    return said, first
+def rt(folder, *words):
+    """Runs rt in a crate's folder."""
+    return subprocess.run(["rt", *words], cwd=folder, stdin=subprocess.DEVNULL, capture_output=True, text=True, errors="replace")

@@ -3,16 +3,17 @@
 
 An example is a fenced block. What is answered stands indented by four spaces under what was asked.
 
-    session    requests and replies without their headers, from a fresh table of eight lines, through target/bin/listing;
+    session    requests and replies without their headers, from a fresh table of eight lines, through the listing program;
                the contexts may follow, as that program prints them
     messages   the same with whole messages; `refused 1` is an answer too
-    dial       a digit map, the start timer and what zero does, then dialled strings, through target/bin/dial; `""` is no symbol
+    dial       a digit map, the start timer and what zero does, then dialled strings, through the dial program; `""` is no symbol
     c          a whole program, compiled and linked with the archive; the next block, `output`, is what it prints
     quick      README.md's Quick start: a message and its reply on a line
 
 In messages and strings <CR> and <TAB> are those bytes and <N*TEXT> is N times TEXT. Blocks of other kinds are not run, and only
 `sh`, `text` and `output` may be such. That a wrong example is found is tried on every block: one byte of an answer is changed,
-and the block must then fail. Needed: `rt check listing dial`, and for `c` the archive (`rt staticlib cordafina`).
+and the block must then fail. Needed: what `rt ci` made of these two, or
+`rt run < stdin` in the folders of both, and for `c` the archive (`(cd crates/cordafina && rt lib)`).
 """
 import os
 import re
@@ -72,9 +73,9 @@ def run(command, text):
 
 
 def program(name):
-    path = os.path.join(TOP, 'target/bin', name)
+    path = os.path.join(TOP, 'crates', name, 'out', name)
     if not os.path.exists(path):
-        command.fail(f'there is no {path}; make it with `rt check {name}`')
+        command.fail(f'there is no {path}; make it with `(cd crates/{name} && rt run < stdin)`')
     return path
 
 
@@ -100,9 +101,9 @@ def quick(lines):
 
 
 def c_program(lines, output):
-    archive = os.path.join(TOP, os.environ.get('CORDAFINA_LIB', 'target/staticlib/libcordafina.a'))
+    archive = os.path.join(TOP, os.environ.get('CORDAFINA_LIB', 'crates/cordafina/out/libcordafina.a'))
     if not os.path.exists(archive):
-        command.fail(f'there is no archive at {archive}; make it with `rt staticlib cordafina`')
+        command.fail(f'there is no archive at {archive}; make it with `(cd crates/cordafina && rt lib)`')
     with tempfile.TemporaryDirectory() as folder:
         source, binary = os.path.join(folder, 'example.c'), os.path.join(folder, 'example')
         open(source, 'w').write('\n'.join(lines) + '\n')

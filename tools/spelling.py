@@ -2,13 +2,16 @@
 """Spells the names that this repository's own definitions, lemmas, fields and constructors declare in snake case: `rowFrom` and `row-from` become `row_from`.
 
 Run once, after the kit's port.py (docs/PORT.md). Types, facts and modules keep their capital; names of src/, strings, and names of the libraries stay.
-With --check it writes nothing. It prints a line for each name that would fall together with another, and fails then.
+It prints a line for each name that would fall together with another, and fails then. Without --write it writes nothing.
 """
 import pathlib
 import re
 import sys
 
-TOP = pathlib.Path(__file__).resolve().parent.parent
+sys.dont_write_bytecode = True
+import command
+
+TOP = pathlib.Path(command.TOP)
 CUT = r"""[^\s(){}.;,@"«»λ\\]+"""
 DECLARED = re.compile(r"^(\s*)((?:(?:pub|abbrev|unfoldable)\s+)*)([^\s(){}:.;,@\"«»]+)((?:\s+\{[^{}]*\})*)\s+:\s")
 HEAD = re.compile(r"^(\s*)((?:(?:pub|abbrev|unfoldable)\s+)*)(data|record)\s+(\S+)")
@@ -76,7 +79,9 @@ def declarations(text):
 
 
 def main():
-    write = "--check" not in sys.argv
+    words = command.parser(__doc__)
+    words.add_argument("--write", action="store_true", help="write the files")
+    write = words.parse_args().write
     crates = {p.name for p in (TOP / "crates").iterdir() if (p / "src").is_dir()}
     antt = sorted(p for p in (TOP / "crates").rglob("*.antt") if "out" not in p.parts)
     rt = sorted(p for p in (TOP / "crates").rglob("*.rt") if "out" not in p.parts)
@@ -150,4 +155,4 @@ def main():
 
 
 if __name__ == "__main__":
-    raise SystemExit(main())
+    command.run(main)

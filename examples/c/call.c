@@ -1,7 +1,7 @@
 /*
  * Places a call: a line and an RTP ephemeral into a new context, both turned on, and cleared again.
  *
- *     cc -I include examples/c/call.c target/staticlib/libcordafina.a -o call
+ *     cc -I include examples/c/call.c crates/cordafina/out/libcordafina.a -o call
  */
 #include <stdio.h>
 #include <string.h>

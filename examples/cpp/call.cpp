@@ -1,6 +1,6 @@
 // Places a call: a line and an RTP ephemeral into a new context, both turned on, and cleared again.
 //
-//     c++ -I include examples/cpp/call.cpp target/staticlib/libcordafina.a -o call
+//     c++ -I include examples/cpp/call.cpp crates/cordafina/out/libcordafina.a -o call
 #include <cstdint>
 #include <iostream>
 #include <stdexcept>

@@ -1,6 +1,6 @@
 //! Links the proved archive: the file that the variable CORDAFINA_LIB names (a
 //! path that is not absolute starts at the top folder of the repository), or the
-//! one that `rt staticlib cordafina` writes.
+//! one that `rt lib` writes in crates/cordafina.
 //!
 //! Where there is none, `cargo check`, `cargo doc` and an editor go on with a
 //! warning; only a program or a test then fails, when it is linked, and the name
@@ -9,9 +9,9 @@
 use std::path::PathBuf;
 use std::{env, fs};
 
-const BUILT: &str = "target/staticlib/libcordafina.a";
+const BUILT: &str = "crates/cordafina/out/libcordafina.a";
 const FOUND: &str = "cordafina_archive";
-const MISSING: &str = "cordafina_is_missing__make_it_with__rt_staticlib_cordafina";
+const MISSING: &str = "cordafina_is_missing__make_it_with__rt_lib_in_crates_cordafina";
 
 fn main() {
     let top = folder("CARGO_MANIFEST_DIR").join("../..");
@@ -27,7 +27,7 @@ fn main() {
             println!("cargo:warning=no archive at {}: {error}", archive.display());
             println!("cargo:warning=checks and documentation work, programs and tests do not link");
             println!(
-                "cargo:warning=make it with `rt staticlib cordafina`, or name it in CORDAFINA_LIB"
+                "cargo:warning=make it with `(cd crates/cordafina && rt lib)`, or name it in CORDAFINA_LIB"
             );
             MISSING
         }

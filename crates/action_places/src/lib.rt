@@ -1,5 +1,7 @@
 // The parts of actions and transactions in a well-formed message: where each stands and ends. Nothing can fail here: where no such part
 // stands, what is found has no meaning.
+#![tactic(auto)]
+
 ghost use Rattle.std.specs.Prelude.{◌≡◌};
 ghost use Rattle.megaco.specs.Reading.{unlimited};
 ghost use Rattle.read_command.specs.Production.{value_in, next_in, list_after, list_p};
@@ -12,21 +14,21 @@ use megaco::{Ack, Class, Context, Direction, Number, Parsed, Property, Token};
 use read_command::{Piece, Rest};
 
 // A context, and the place behind it.
-#[derive(Drop)]
+#[derive(Clone, Copy)]
 pub struct ContextPlaces {
     pub context: Context,
     pub end: usize,
 }
 
 // An action: its context, and where its properties or commands begin.
-#[derive(Drop)]
+#[derive(Clone, Copy)]
 pub struct ActionPlaces {
     pub context: Context,
     pub body: usize,
 }
 
 // A triple: its two names, its direction, and the place behind it.
-#[derive(Drop)]
+#[derive(Clone, Copy)]
 pub struct TriplePlaces {
     pub one: Piece,
     pub two: Piece,
@@ -35,21 +37,21 @@ pub struct TriplePlaces {
 }
 
 // A property, and the place behind it.
-#[derive(Drop)]
+#[derive(Clone, Copy)]
 pub struct PropertyPlaces {
     pub property: Property,
     pub end: usize,
 }
 
 // A transaction: its identifier, and where its actions begin.
-#[derive(Drop)]
+#[derive(Clone, Copy)]
 pub struct TransactionPlaces {
     pub id: u32,
     pub body: usize,
 }
 
 // What an acknowledgement names, and the place behind it.
-#[derive(Drop)]
+#[derive(Clone, Copy)]
 pub struct AckPlaces {
     pub ack: Ack,
     pub end: usize,

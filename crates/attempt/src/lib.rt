@@ -1,4 +1,6 @@
 // One attempt: judged by what it saw, and what it changes.
+#![tactic(auto)]
+
 ghost use Rattle.std.specs.Prelude.{◌≡◌, [], ◌+◌, ◌<◌, ltb};
 ghost use Rattle.base.specs.Pick.{pick};
 ghost use Rattle.megaco.specs.Square.{joined, parted};

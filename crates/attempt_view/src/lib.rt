@@ -1,4 +1,6 @@
 // What an attempt sees of the table, and whom a wildcard matches.
+#![tactic(auto)]
+
 ghost use Rattle.std.specs.Prelude.{◌≡◌, ◌<◌, length, true};
 ghost use Rattle.megaco.specs.Table.{Sized, known};
 ghost use Rattle.megaco.specs.Attempt.{free_at, look};
@@ -20,7 +22,7 @@ fn free_at(table: &[u32], at: Context) -> u32
 }
 
 // A context as it is seen, and the place of one termination among its members.
-#[derive(Drop)]
+#[derive(Clone, Copy)]
 pub struct ContextSeen {
     pub seen: Seen,
     pub place: usize,

@@ -1,1 +1,3 @@
+#![tactic(auto)]
+
 // Definitions and laws that every crate shares; see specs/.

@@ -5,19 +5,24 @@
 // a line end. The room stays from call to call. Each call has one line of output: its number, the refusal or the reply's length and its
 // bytes, the sums of the table, of the blocks, of the whole buffer, of the room's words and of its bytes. tools/call_cases.py writes the
 // input and the output.
+#![tactic(auto)]
+
 ghost use Rattle.std.specs.Prelude.{◌<◌, ◌≡◌, length};
 
 use gateway::CallOutcome;
-use libc::STDIN_FILENO;
+use std::io::Read;
 
-fn main() {
-    let mut input = io::large_buffer();
+fn main(rt: HostRuntime) {
+    let mut source = rt.stdin();
+    let mut input = [0u8; 65536];
     let mut table = [0u32; 2100];
     let mut blocks = [0u32; 300];
     let mut reply = [0u8; 20000];
     let mut words = [0u32; 80];
     let mut bytes = [0u8; 34000];
     run(
+        &rt,
+        &mut source,
         &mut input,
         &mut table,
         &mut blocks,
@@ -28,7 +33,9 @@ fn main() {
 }
 
 // Nothing says that the input ends, so the numbers of the calls end.
-fn run(
+fn run<R: Read>(
+    rt: &impl Print,
+    source: &mut R,
     input: &mut [u8],
     table: &mut [u32],
     blocks: &mut [u32],
@@ -38,7 +45,7 @@ fn run(
 ) {
     let mut k: u64 = 1;
     while k < 1000000 {
-        if one(k, input, table, blocks, reply, words, bytes) {
+        if one(rt, source, k, input, table, blocks, reply, words, bytes) {
             k += 1;
         } else {
             return;
@@ -47,7 +54,9 @@ fn run(
 }
 
 // Reads one call and prints its line; whether there was one.
-fn one(
+fn one<R: Read>(
+    rt: &impl Print,
+    source: &mut R,
     k: u64,
     input: &mut [u8],
     table: &mut [u32],
@@ -57,7 +66,7 @@ fn one(
     bytes: &mut [u8],
 ) -> bool {
     let mut head = [0u8; 72];
-    if io::read_full(STDIN_FILENO, &mut head) < 72 {
+    if program_io::read_full(source, &mut head) < 72 {
         return false;
     }
     let own = program_io::number(&head);
@@ -67,10 +76,11 @@ fn one(
     let figures = more + program_io::number(&head[60..]) * 21;
     if figures < input.len() {
         let e = figures + 1;
-        if io::read_full(STDIN_FILENO, &mut input[0..e]) < e {
+        if program_io::read_full(source, &mut input[0..e]) < e {
             return false;
         }
         take(
+            rt,
             k,
             &head,
             &input[0..e],
@@ -92,6 +102,7 @@ fn one(
 
 // The parts of a call that was read.
 fn take(
+    rt: &impl Print,
     k: u64,
     head: &[u8],
     input: &[u8],
@@ -112,6 +123,7 @@ fn take(
                 if more <= figures {
                     if figures <= input.len() {
                         lend(
+                            rt,
                             k,
                             &input[0..own],
                             &input[own..message],
@@ -150,6 +162,7 @@ fn number_at(head: &[u8], at: usize) -> usize
 
 // Lends as much of each slice as the call has.
 fn lend(
+    rt: &impl Print,
     k: u64,
     own: &[u8],
     message: &[u8],
@@ -175,6 +188,7 @@ fn lend(
                 if w <= words.len() {
                     if b <= bytes.len() {
                         call(
+                            rt,
                             k,
                             own,
                             message,
@@ -197,6 +211,7 @@ fn lend(
 }
 
 fn call(
+    rt: &impl Print,
     k: u64,
     own: &[u8],
     message: &[u8],
@@ -214,11 +229,14 @@ fn call(
     prepare(table, reply, runs);
     set_words(blocks, figures);
     prepare_room(words, bytes, kept, emptied);
-    answer(k, own, message, lines, table, blocks, reply, words, bytes);
+    answer(
+        rt, k, own, message, lines, table, blocks, reply, words, bytes,
+    );
 }
 
 // The call itself.
 fn answer(
+    rt: &impl Print,
     k: u64,
     own: &[u8],
     message: &[u8],
@@ -230,8 +248,8 @@ fn answer(
     bytes: &mut [u8],
 ) {
     let a = gateway::answer(lines, message, table, blocks, words, bytes, own, reply);
-    print_outcome(k, a, reply);
-    print_sums(table, blocks, reply, words, bytes);
+    print_outcome(rt, k, a, reply);
+    print_sums(rt, table, blocks, reply, words, bytes);
 }
 
 // ---- what is lent
@@ -341,32 +359,39 @@ fn sum_bytes(reply: &[u8]) -> u32 {
 
 // ---- writing
 
-fn print_outcome(k: u64, a: CallOutcome, reply: &[u8]) {
-    program_io::print_number(b"", k);
+fn print_outcome(rt: &impl Print, k: u64, a: CallOutcome, reply: &[u8]) {
+    program_io::print_number(rt, b"", k);
     match a {
-        CallOutcome::Taken(n) => print_reply(reply, n),
-        CallOutcome::MessageUnfit => program_io::print(b" refused 1"),
-        CallOutcome::TableUnsound => program_io::print(b" refused 2"),
-        CallOutcome::ReplyTooShort => program_io::print(b" refused 3"),
-        CallOutcome::MidUnfit => program_io::print(b" refused 4"),
-        CallOutcome::RoomUnsound => program_io::print(b" refused 5"),
-        CallOutcome::LinesUnfit => program_io::print(b" refused 8"),
+        CallOutcome::Taken(n) => print_reply(rt, reply, n),
+        CallOutcome::MessageUnfit => program_io::print(rt, b" refused 1"),
+        CallOutcome::TableUnsound => program_io::print(rt, b" refused 2"),
+        CallOutcome::ReplyTooShort => program_io::print(rt, b" refused 3"),
+        CallOutcome::MidUnfit => program_io::print(rt, b" refused 4"),
+        CallOutcome::RoomUnsound => program_io::print(rt, b" refused 5"),
+        CallOutcome::LinesUnfit => program_io::print(rt, b" refused 8"),
     }
 }
 
-fn print_reply(reply: &[u8], n: usize) {
-    program_io::print_number(b" taken ", n as u64);
-    program_io::print(b" ");
+fn print_reply(rt: &impl Print, reply: &[u8], n: usize) {
+    program_io::print_number(rt, b" taken ", n as u64);
+    program_io::print(rt, b" ");
     if n <= reply.len() {
-        program_io::print(&reply[0..n]);
+        program_io::print(rt, &reply[0..n]);
     }
 }
 
-fn print_sums(table: &[u32], blocks: &[u32], reply: &[u8], words: &[u32], bytes: &[u8]) {
-    program_io::print_number(b" ", sum_words(table) as u64);
-    program_io::print_number(b" ", sum_words(blocks) as u64);
-    program_io::print_number(b" ", sum_bytes(reply) as u64);
-    program_io::print_number(b" ", sum_words(words) as u64);
-    program_io::print_number(b" ", sum_bytes(bytes) as u64);
-    program_io::print(b"\n");
+fn print_sums(
+    rt: &impl Print,
+    table: &[u32],
+    blocks: &[u32],
+    reply: &[u8],
+    words: &[u32],
+    bytes: &[u8],
+) {
+    program_io::print_number(rt, b" ", sum_words(table) as u64);
+    program_io::print_number(rt, b" ", sum_words(blocks) as u64);
+    program_io::print_number(rt, b" ", sum_bytes(reply) as u64);
+    program_io::print_number(rt, b" ", sum_words(words) as u64);
+    program_io::print_number(rt, b" ", sum_bytes(bytes) as u64);
+    program_io::print(rt, b"\n");
 }

@@ -1,5 +1,7 @@
 // The parts of a command and of an item in a well-formed message: where each stands, found once. Nothing can fail here: where no such part
 // stands, what is found has no meaning.
+#![tactic(auto)]
+
 ghost use Rattle.std.specs.Prelude.{◌≡◌, ◌+◌, ◌<◌};
 ghost use Rattle.megaco.specs.Bytes.{comma, left_brace, right_brace};
 ghost use Rattle.read_command.specs.Production.{end_of, past_white, past_sign};
@@ -10,7 +12,7 @@ use megaco::{Class, Parsed};
 use read_command::Piece;
 
 // A value that may stand in an item: whether it does and stands between quotes, its bytes if it is plain, and the place behind it.
-#[derive(Drop)]
+#[derive(Clone, Copy)]
 pub struct ValuePlaces {
     pub given: bool,
     pub quoted: bool,
@@ -19,7 +21,7 @@ pub struct ValuePlaces {
 }
 
 // An item: its word, whether a second word follows, its value, whether braces follow, and where the items in them begin.
-#[derive(Drop)]
+#[derive(Clone, Copy)]
 pub struct ItemPlaces {
     pub word: Piece,
     pub second: bool,
@@ -29,7 +31,7 @@ pub struct ItemPlaces {
 }
 
 // Local or Remote with a text in its braces: its word, the text, and the place behind the closing brace.
-#[derive(Drop)]
+#[derive(Clone, Copy)]
 pub struct SpeechPlaces {
     pub word: Piece,
     pub text: Piece,
@@ -37,7 +39,7 @@ pub struct SpeechPlaces {
 }
 
 // Whether `O-` and `W-` stand before a command's word, and where that begins.
-#[derive(Drop)]
+#[derive(Clone, Copy)]
 pub struct Marks {
     pub optional: bool,
     pub wild: bool,
@@ -45,7 +47,7 @@ pub struct Marks {
 }
 
 // A command: its marks, its word, its name, the place behind them, whether braces follow, and where the items in them begin.
-#[derive(Drop)]
+#[derive(Clone, Copy)]
 pub struct CommandPlaces {
     pub optional: bool,
     pub wild: bool,

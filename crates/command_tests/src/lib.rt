@@ -1,4 +1,6 @@
 // What a command's word, its context, its items and its name come to.
+#![tactic(auto)]
+
 ghost use Rattle.std.specs.Prelude.{◌≡◌};
 ghost use Rattle.megaco.specs.Table.{Sized};
 ghost use Rattle.megaco.specs.State.{state};
@@ -13,7 +15,7 @@ use megaco::{Context, Judged, Op, Token, Values};
 use run_attempts::{CommandOutcome, Turn};
 
 // What a command's word and its `W-` tell: one of the commands that are built, or another.
-#[derive(Drop)]
+#[derive(Clone, Copy)]
 pub enum Found {
     Built(Op),
     Unbuilt,

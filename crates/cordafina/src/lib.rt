@@ -1,5 +1,7 @@
-// The library's face for C: thin functions, each with the promise of the one that it calls. `rt staticlib cordafina` makes the archive
-// that include/cordafina.h declares.
+// The library's face for C: thin functions, each with the promise of the one that it calls. `rt lib` in this crate's folder makes
+// the archive that include/cordafina.h declares, out/libcordafina.a.
+#![tactic(auto)]
+
 pub mod contexts;
 pub mod digit_maps;
 pub mod rows;

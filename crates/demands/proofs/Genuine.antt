@@ -133,3 +133,4 @@ pub all_fit : (k : ℕ) (ps : List Part) → Few k ps → AllFit ps
 all_fit k [] few_none = tt
 all_fit (suc k) (request (transaction id acts) ∷ ps) (few_request l f) = (request_fits id acts l, all_fit k ps f)
 all_fit (suc k) (acknowledge ks ∷ ps) (few_ack f) = (tt, all_fit k ps f)
+all_fit zero (_ ∷ ps) x3 = elim x3 [ ]

@@ -1,5 +1,7 @@
 // A program for support. The first line of standard input is a map, the second a start timer and `waits` or `runs out`, each further line a
 // dialled string. For each string it prints the answer and the timer, or the refusal. Where the second line ends in ` plain` the plain matcher answers.
+#![tactic(auto)]
+
 ghost use Rattle.std.specs.Prelude.{◌≡◌, [], ◌∷◌, ◌≤◌, length};
 ghost use Rattle.base.specs.Lists.{same};
 ghost use Rattle.base.specs.Bytes.{◌then◌};
@@ -13,7 +15,7 @@ use digits::{Dialled, Progress, Timer, ZeroStart};
 use megaco::Number;
 
 // What the second line says.
-#[derive(Drop)]
+#[derive(Clone, Copy)]
 enum Settings {
     Set {
         start: u32,
@@ -144,7 +146,7 @@ fn put_line(out: &mut [u8], d: Dialled) -> usize
 // ---- the program
 
 // What is asked of every string: the map as text and as it was loaded, and which matcher answers.
-#[derive(Drop)]
+#[derive(Clone, Copy)]
 struct Asked {
     start: u32,
     rule: ZeroStart,
@@ -167,29 +169,37 @@ fn answer(x: Asked, map: &[u8], cells: &[u32; CELLS], w: &[u8]) -> Dialled
 }
 
 // Tells the answer to the first line of a text; how long that line is.
-fn tell_line(t: &[u8], out: &mut [u8], x: Asked, map: &[u8], cells: &[u32; CELLS]) -> usize
+fn tell_line(
+    rt: &impl Print,
+    t: &[u8],
+    out: &mut [u8],
+    x: Asked,
+    map: &[u8],
+    cells: &[u32; CELLS],
+) -> usize
     requires { Keeps (load map.now x.start x.rule) x.loaded cells.now }
     ensures { result ≤ length t.now }
 {
     let n = program_io::line_length(t);
     let k = put_line(out, answer(x, map, cells, &t[0..n]));
-    io::write_all(1, &out[0..k]);
+    program_io::print(rt, &out[0..k]);
     n
 }
 
 // Tells the answers to the lines of a text.
-fn tell(s: &[u8], out: &mut [u8], x: Asked, map: &[u8], cells: &[u32; CELLS])
+fn tell(rt: &impl Print, s: &[u8], out: &mut [u8], x: Asked, map: &[u8], cells: &[u32; CELLS])
     requires { Keeps (load map.now x.start x.rule) x.loaded cells.now }
 {
     let mut from: usize = 0;
     while from < s.len() {
-        let n = tell_line(map_text::rest(s, from), out, x, map, cells);
+        let n = tell_line(rt, map_text::rest(s, from), out, x, map, cells);
         from += n + 1;
     }
 }
 
 // A map with its settings, and the strings that are dialled.
 fn dial_all(
+    rt: &impl Print,
     start: u32,
     rule: ZeroStart,
     plain: bool,
@@ -205,10 +215,10 @@ fn dial_all(
         plain: plain,
         loaded: l,
     };
-    tell(s, out, x, map, cells);
+    tell(rt, s, out, x, map, cells);
 }
 
-fn run(s: &[u8], out: &mut [u8], cells: &mut [u32; CELLS]) {
+fn run(rt: &impl Print, s: &[u8], out: &mut [u8], cells: &mut [u32; CELLS]) {
     let n = program_io::line_length(s);
     let t = map_text::rest(s, n + 1);
     let m = program_io::line_length(t);
@@ -216,6 +226,7 @@ fn run(s: &[u8], out: &mut [u8], cells: &mut [u32; CELLS]) {
     match x {
         Settings::Set { start, rule, plain } => {
             dial_all(
+                rt,
                 start,
                 rule,
                 plain,
@@ -226,22 +237,22 @@ fn run(s: &[u8], out: &mut [u8], cells: &mut [u32; CELLS]) {
             );
         }
         Settings::Unread => {
-            io::write_all(
-                1,
+            program_io::print(
+                rt,
                 b"the second line is a start timer and 'waits' or 'runs out'\n",
             );
         }
     }
 }
 
-fn main() {
-    let mut room = io::large_buffer();
+fn main(rt: HostRuntime) {
+    let mut room = [0u8; 65536];
     let mut cells = [0u32; CELLS];
     let mut out = [0u8; 64];
-    let n = io::read_full(0, &mut room);
+    let n = program_io::read_full(&mut rt.stdin(), &mut room);
     if n < 65536 {
-        run(&room[0..n], &mut out, &mut cells);
+        run(&rt, &room[0..n], &mut out, &mut cells);
     } else {
-        io::write_all(1, b"over 65535 bytes\n");
+        program_io::print(&rt, b"over 65535 bytes\n");
     }
 }

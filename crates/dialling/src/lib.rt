@@ -1,4 +1,6 @@
 // The first digit matcher (CR 8): a map is loaded once, and a dialled string is followed through all its places at once.
+#![tactic(auto)]
+
 ghost use Rattle.std.specs.Prelude.{◌≡◌, false, [], ◌∷◌, ◌<◌, ◌≤◌, length, take};
 ghost use Rattle.base.specs.Out.{Appended};
 ghost use Rattle.digits.specs.Symbols.{symbols_of};
@@ -19,7 +21,7 @@ const PLACES: usize = CELLS + 1;
 
 // A map that was loaded: whether it is good, the timer before any symbol, and how many of the lent cells it has. The cells hold the
 // selectors of its alternatives, 0 after each alternative.
-#[derive(Drop)]
+#[derive(Clone, Copy)]
 pub struct Loaded {
     pub good: bool,
     pub first: Timer,

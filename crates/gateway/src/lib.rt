@@ -1,5 +1,7 @@
 // The call: the lines fitted, one message, a lent table, lent blocks, the lent room of kept replies, the gateway's own mId and a lent reply buffer; and a packet of an
 // ephemeral.
+#![tactic(auto)]
+
 ghost use Rattle.std.specs.Prelude.{◌≡◌, true, ◌-◌, ◌≤◌, length};
 ghost use Rattle.megaco.specs.Table.{words, most_lines, sound};
 ghost use Rattle.megaco.specs.State.{state};
@@ -14,7 +16,7 @@ pub const LONGEST_MESSAGE: usize = 4096;
 pub const REPLY_ROOM: usize = 16640;
 
 // What a call answers: the reply's length, or why it was turned down (`refusalOf` gives the number of each).
-#[derive(Drop)]
+#[derive(Clone, Copy)]
 pub enum CallOutcome {
     Taken(usize),
     ReplyTooShort,

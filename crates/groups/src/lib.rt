@@ -1,5 +1,7 @@
 // A row of numbers as bytes: each number below 2^32 in groups of seven bits, low group first, the top bit set on all but the last, in the
 // shortest form only.
+#![tactic(auto)]
+
 ghost use Rattle.std.specs.Prelude.{◌≡◌, ◌≤◌, ◌<◌, drop, [], ◌∷◌};
 ghost use Rattle.base.specs.Out.{Appended};
 ghost use Rattle.groups.specs.Groups.{groups_f, number, most, take_f, take_at};

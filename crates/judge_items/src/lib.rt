@@ -1,4 +1,6 @@
 // A command's items judged in reading order (document 01, test 3): the first code, or the values given.
+#![tactic(auto)]
+
 ghost use Rattle.std.specs.Prelude.{◌≡◌, true, false};
 ghost use Rattle.std.proofs.Math.Option.{none, some};
 ghost use Rattle.megaco.specs.Tree.{plain};
@@ -17,14 +19,14 @@ use megaco::{
 };
 
 // What items are judged, and where they end if nothing is wrong with them.
-#[derive(Drop)]
+#[derive(Clone, Copy)]
 pub struct JudgedItems {
     pub judged: Judged,
     pub end: usize,
 }
 
 // What an item of Media is judged, where it ends if nothing is wrong with it, and which descriptors stood before the item after it.
-#[derive(Drop)]
+#[derive(Clone, Copy)]
 pub struct JudgedPart {
     pub judged: Judged,
     pub end: usize,

@@ -1,4 +1,6 @@
 // The table of keywords, and words compared with its forms, in any letter case. rows.rt, derived from the table, finds a word's row.
+#![tactic(auto)]
+
 ghost use Rattle.std.specs.Prelude.{◌≡◌, ◌<◌, ◌≤◌, ◌+◌, length};
 ghost use Rattle.std.specs.Int.Bits.{bit_and};
 ghost use Rattle.base.specs.Lists.{same};
@@ -11,11 +13,11 @@ use megaco::Token;
 pub use rows::{meaning_of, spells};
 
 // A keyword: its meaning, then its long and its short form in capital letters, with blanks behind them.
-#[derive(Drop)]
+#[derive(Clone, Copy)]
 pub struct Row(pub Token, pub [u8; 24], pub [u8; 2]);
 
 // What bytes mean.
-#[derive(Drop)]
+#[derive(Clone, Copy)]
 pub enum Meaning {
     Of(Token),
     Nothing,

@@ -8,7 +8,7 @@ use lib.Dec.{ltb, leb, eqb}
 use borrow.Author.Tests.{eqb-true, eqb-false, eq-eqb, ltb-true, lt-ltb, leb-true, leb-false, le-leb, not-true, not-false}
 use native.Mathlib.Omega.{arith}
 use Rattle.base.specs.Pick.{pick}
-use Rattle.protocol.specs.Types.{Context, Numbered, Choose, Op, Add, Modify, Subtract, Move, AuditValue, Checked, Speech, Kept, Released, Values, View}
+use Rattle.protocol.specs.Types.{Context, Null, Numbered, Choose, All, Op, Add, Modify, Subtract, Move, AuditValue, Checked, Speech, Kept, Released, Values, View}
 use Rattle.megaco.specs.Table.{line_terminations, terminations, contexts, fitted, most, prop, rec, used, flow, low_flow, high_flow, ctx, cell, get, Write, write, apply, record_words, is_ephemeral, exists, known, members, free_context}
 use Rattle.megaco.specs.Square.{Square, joined as joinedSquare, parted}
 use Rattle.megaco.proofs.Squares.{shape_joined, shape_parted}
@@ -28,7 +28,9 @@ use Rattle.laws.proofs.Counting.{member, place_low, lowest}
 use Rattle.laws.proofs.Flows.{fit_joined, fit_parted}
 use Rattle.laws.proofs.Sound.{alive, record_words_lem, record_at}
 use Rattle.laws.proofs.Sides.{side_of, Voices, Mute, both_voices, mute_voices, both_other, OnEphemeral, on_ephemeral, both_within, MaySay, releases, may_say}
-use Rattle.laws.proofs.Moved.{Moves, Streams, Fitting, Goes, low_low, high_high, low_high, high_low, moved_sound, moved_here, modifies, modified_place, modified_sound}
+use Rattle.laws.proofs.Moved.{Moves, Streams, Fitting, low_low, high_high, low_high, high_low, moved_sound, moved_here, modifies, modified_place, modified_sound}
+use Rattle.laws.proofs.Going.{Goes}
+use Rattle.laws.proofs.Presence.{Present}
 use Rattle.protocol.specs.Ranges.{InRange}
 use Rattle.laws.proofs.Values.{update_sound}
 use Rattle.laws.proofs.Meant.{Meant, Each, more, each_on}
@@ -101,11 +103,6 @@ MayAttempt Subtract at t = Stands at
 MayAttempt Move at t = Joins at t
 MayAttempt AuditValue at t = Unit {0}
 
--- a record that a context may have
-pub record Present (g : ℕ) : Type 0 where
-  pub some : 0 < g
-  pub low : g ≤ 32
-
 -- ---- the context that an attempt joins
 
 record Target (at : Context) (t : List ℕ) (x : ℕ) : Type 0 where
@@ -139,6 +136,8 @@ targeted (Numbered c) i t W (there q l h) p =
       there = λ _. h;
       named = λ _. refl;
     }
+targeted Null i t W x3 p = elim x3 [ ]
+targeted All i t W x4 p = elim x4 [ ]
 
 -- ---- an attempt that passes its tests
 
@@ -407,6 +406,8 @@ joined_there at i v t u j T h W e = by at j T e
     by : (at : Context) → Joins at t → Target at t (target at v) → get u (ctx i) ≡ target at v → Joins (settled at v) u
     by Choose anew T e = there T.some T.low (held v.free T.some T.low e)
     by (Numbered c) (there p q _) T e = there p q (held c p q e)
+    by Null x3 T e = elim x3 [ ]
+    by All x4 T e = elim x4 [ ]
 
 -- the context that it stands in
 here_low : (i : ℕ) (t : List ℕ) → Whole t → i < terminations (fitted t) → 0 < get t (ctx i) → (seen (get t (ctx i)) t).members ≡ members (get t (ctx i)) t
@@ -573,6 +574,9 @@ attempt_says Move at given i vs t W j h p =
           (placed_moves (fitted t) given d i (target at v) y h)))).within;
     }
 attempt_says AuditValue at given i vs t W j h p = record { voices = mute_voices i [] (λ k v. refl); within = tt }
+attempt_says Subtract Null given i vs t W j h p = elim j [ ]
+attempt_says Subtract Choose given i vs t W j h p = elim j [ ]
+attempt_says Subtract All given i vs t W j h p = elim j [ ]
 
 pub attempt_sound : (op : Op) (at : Context) (given i : ℕ) (vs : Values) (t : List ℕ) → Whole t → MayAttempt op at t → Meant op t i → Present given → InRange vs
     → Passed (checks op at i vs (look at i t)) → Leaves op (settled at (look at i t)) t (apply (changes op at given i vs (look at i t)) t)
@@ -641,6 +645,9 @@ attempt_sound Move at given i vs t W j M G F p =
     })
     vs F (attempt_says Move at given i vs t W j M.small p).voices
 attempt_sound AuditValue at given i vs t W j M G F p = record { whole = W; ready = tt; meant = λ k m. m }
+attempt_sound Subtract Null given i vs t W j M G F p = elim j [ ]
+attempt_sound Subtract Choose given i vs t W j M G F p = elim j [ ]
+attempt_sound Subtract All given i vs t W j M G F p = elim j [ ]
 
 -- ---- the attempts of a command
 

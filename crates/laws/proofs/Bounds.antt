@@ -146,6 +146,7 @@ all_fit : (k : ℕ) (ps : List Part) → Few k ps → AllFit ps
 all_fit k [] few_none = tt
 all_fit (suc k) (request (transaction id acts) ∷ ps) (few_request l f) = (request_fits id acts l, all_fit k ps f)
 all_fit (suc k) (acknowledge ks ∷ ps) (few_ack f) = (tt, all_fit k ps f)
+all_fit zero (_ ∷ ps) x3 = elim x3 [ ]
 
 fit_in : (x : Message) → FewIn 8 x → FitIn x
 fit_in (well_formed ps) h = all_fit 8 ps h
@@ -180,6 +181,7 @@ parts_fit m h k [] st r f a s = omega arith
 parts_fit m h (suc k) (p ∷ ps) st r f a s =
     let y = run_part m p st r in
     simp length_then (omega (arith, part_short m p st r a.0 s, parts_fit m h k ps y.state y.room (few_rest k p ps f) a.1 (part_follows m h p st r a.0 s).sound))
+parts_fit m h zero (p ∷ ps) st r f a s = elim f [ ]
 
 message_fits : (m : List ℕ) → length m ≤ 72 → (x : Message) (st : State) (r : Room) → FewIn 8 x → room_sound r ≡ true → length (run_message m x st r).text ≤ 16384
 unfolding run_message

@@ -14,6 +14,7 @@ use Rattle.protocol.specs.Types.{Direction, Isolate, Oneway, Bothway}
 use Rattle.megaco.specs.Square.{Square, square_of, low_of, high_of, flow_at, may_flow, row_is_sound, rows_are_sound, square_is_sound, paired, directed, joined_flow, joined, parted_flow, parted}
 use Rattle.megaco.proofs.Squares.{AllEight, Shape, square_back, low_below, high_below, shape_of, flow_in, flow_within, shape_paired, flow_paired, flow_joined, flow_parted}
 use Rattle.laws.specs.Sound.{Fit, SoundFlows}
+use Rattle.laws.proofs.PartedFlows.{parted_may}
 
 -- ---- the test of a square
 
@@ -115,16 +116,6 @@ pub fit_joined : (q : Square) (m k : ℕ) → Fit m (joined q m k)
 fit_joined q m k a b e = let w = flow_within (joined q m k) a b e in joined_may q m k a b (sym (flow_joined q m k a b w.0 w.1) ∙ e)
 
 -- a member leaves
-parted_may : (q : Square) (m k a b : ℕ) → k < m → Fit m q → parted_flow q k a b ≡ true → (a < m - 1) × (b < m - 1) × (a ≢ b)
-unfolding parted_flow pick
-parted_may q m k a b h f e = by (ltb a k) (ltb b k) refl refl e
-  where
-    by : (x y : Bool) → ltb a k ≡ x → ltb b k ≡ y → flow_at q (pick x a (a + 1)) (pick y b (b + 1)) ≡ true → (a < m - 1) × (b < m - 1) × (a ≢ b)
-    by true true p r e = let g = f a b e in let u = ltb-true a k p in let v = ltb-true b k r in (omega (arith, u), omega (arith, v), g.2)
-    by true false p r e = let g = f a (b + 1) e in let u = ltb-true a k p in let v = ltb-false b k r in (omega (arith, u), omega (arith, g.1), λ z. omega (arith, u, v, z))
-    by false true p r e = let g = f (a + 1) b e in let u = ltb-false a k p in let v = ltb-true b k r in (omega (arith, g.0), omega (arith, v), λ z. omega (arith, u, v, z))
-    by false false p r e = let g = f (a + 1) (b + 1) e in (omega (arith, g.0), omega (arith, g.1), λ z. g.2 (ap (λ (n : ℕ). n + 1) z))
-
 pub fit_parted : (q : Square) (m k : ℕ) → k < m → Fit m q → Fit (m - 1) (parted q k)
 fit_parted q m k h f a b e = let w = flow_within (parted q k) a b e in parted_may q m k a b h f (sym (flow_parted q k a b w.0 w.1) ∙ e)
 

@@ -23,7 +23,8 @@ use Rattle.laws.specs.Sound.{Whole}
 use Rattle.laws.proofs.Sound.{sound_whole, whole_sound}
 use Rattle.protocol.specs.Ranges.{InRange}
 use Rattle.laws.proofs.Meant.{name_low, MeansTerminations, some_targets, targets_meant}
-use Rattle.laws.proofs.Attempts.{seen_there, Joins, anew, there, Stands, stands, MayAttempt, Present, attempts_sound}
+use Rattle.laws.proofs.Attempts.{seen_there, Joins, anew, there, Stands, stands, MayAttempt, attempts_sound}
+use Rattle.laws.proofs.Presence.{Present}
 use Rattle.laws.proofs.Starts.{start_sound, start_given}
 use Rattle.laws.proofs.Runs.{Keeps, CourseKeeps, command_keeps, step_keeps, transaction_keeps, part_keeps, message_keeps, call_keeps}
 

@@ -25,13 +25,16 @@ pub mod Bounds
 pub mod ApartTest
 pub mod Witness
 pub mod Needed
+pub mod PartedFlows
 pub mod Flows
 pub mod Sides
 pub mod Sound
+pub mod Going
 pub mod Moved
 pub mod Values
 pub mod SpeechSample
 pub mod Meant
+pub mod Presence
 pub mod Attempts
 pub mod OneName
 pub mod Linked

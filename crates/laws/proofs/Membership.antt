@@ -42,10 +42,14 @@ not_has b l e m = clash (sym (in_has b l m) ∙ e)
 
 -- ---- a test of every element
 
-pub all_is : {A : Type 0} (p : A → Bool) (l : List A) → all? p l ≡ true → (a : A) → a ∈ l → p a ≡ true
+-- the element ahead of the list, as the recursion has it
+told_is : {A : Type 0} (p : A → Bool) (a : A) (l : List A) → all? p l ≡ true → a ∈ l → p a ≡ true
 unfolding all?
-all_is p _ e a (Memᴰ.head {x = x} {xs = xs} q) = ap p q ∙ and_left (p x) (all? p xs) e
-all_is p _ e a (Memᴰ.tail {x = x} {xs = xs} m) = all_is p xs (and_right (p x) (all? p xs) e) a m
+told_is p a _ e (Memᴰ.head {x = x} {xs = xs} q) = ap p q ∙ and_left (p x) (all? p xs) e
+told_is p a _ e (Memᴰ.tail {x = x} {xs = xs} m) = told_is p a xs (and_right (p x) (all? p xs) e) m
+
+pub all_is : {A : Type 0} (p : A → Bool) (l : List A) → all? p l ≡ true → (a : A) → a ∈ l → p a ≡ true
+all_is p l e a m = told_is p a l e m
 
 pub is_all : {A : Type 0} (p : A → Bool) (l : List A) → ((a : A) → a ∈ l → p a ≡ true) → all? p l ≡ true
 unfolding all?
@@ -88,10 +92,14 @@ ahead_either none l i m = inr m
 ahead_either (some j) l i (Memᴰ.head e) = inl (ap some (sym e))
 ahead_either (some j) l i (Memᴰ.tail m) = inr m
 
-pub in_collect : {A : Type 0} (f : A → Option ℕ) (l : List A) (a : A) (i : ℕ) → a ∈ l → f a ≡ some i → i ∈ collect f l
+-- the element ahead of the list, as the recursion has it
+given_in : {A : Type 0} (f : A → Option ℕ) (a : A) (l : List A) (i : ℕ) → a ∈ l → f a ≡ some i → i ∈ collect f l
 unfolding collect
-in_collect f _ a i (Memᴰ.head {x = x} {xs = xs} p) e = rw (sym (ap f p) ∙ e) (unfold ahead in Memᴰ.head refl)
-in_collect f _ a i (Memᴰ.tail {x = x} {xs = xs} m) e = ahead_later (f x) (collect f xs) i (in_collect f xs a i m e)
+given_in f a _ i (Memᴰ.head {x = x} {xs = xs} p) e = rw (sym (ap f p) ∙ e) (unfold ahead in Memᴰ.head refl)
+given_in f a _ i (Memᴰ.tail {x = x} {xs = xs} m) e = ahead_later (f x) (collect f xs) i (given_in f a xs i m e)
+
+pub in_collect : {A : Type 0} (f : A → Option ℕ) (l : List A) (a : A) (i : ℕ) → a ∈ l → f a ≡ some i → i ∈ collect f l
+in_collect f l a i m e = given_in f a l i m e
 
 pub collect_in : {A : Type 0} (f : A → Option ℕ) (l : List A) (i : ℕ) → i ∈ collect f l → (a : A) × (a ∈ l) × (f a ≡ some i)
 unfolding collect

@@ -21,6 +21,7 @@ use Rattle.laws.specs.Slots.{Valid}
 use Rattle.laws.proofs.Slots.{length_apply, fitted_apply, holds, Within, get_apply, narrow_apply}
 use Rattle.laws.proofs.Counting.{one, members_same, members_moved}
 use Rattle.laws.proofs.Flows.{sound_packed}
+use Rattle.laws.proofs.Going.{Goes}
 use Rattle.laws.proofs.Sides.{side_of, side_word, Voices, both_voices, Other, both_other, OnEphemeral, both_within, speech_there, MaySay, side_goes}
 
 -- the facts of a sound table, of what the words hold after writes
@@ -91,20 +92,6 @@ pub record Fitting (t : List ℕ) (joins parts : Bool) (d x : ℕ) (J P : Square
   pub shape_out : Shape P
   pub fit_out : parts ≡ true → 0 < d → Fit (members d t - 1) P
   pub last : parts ≡ false → 0 < d → members d t ≤ 1
-
--- when a termination may go
-pub record Goes (t : List ℕ) (new last mark : Bool) (g d i x y : ℕ) : Type 0 where
-  pub small : i < terminations (fitted t)
-  pub from : get t (ctx i) ≡ d
-  pub away : x ≢ d
-  pub low : x ≤ contexts
-  pub word : SoundWord y
-  pub absent : line_terminations (fitted t) ≤ i → x ≡ 0 → y ≡ 0
-  pub room : 0 < x → members x t < most
-  pub made : new ≡ true → (0 < g) × (g ≤ 32)
-  pub there : new ≡ false → 0 < x → 0 < get t (cell (rec x))
-  pub ends : 0 < d → last ≡ leb (members d t) 1
-  pub stays : mark ≡ false → line_terminations (fitted t) ≤ i → min x 1 ≡ min d 1
 
 module _ (t : List ℕ) (new last mark : Bool) (g d i x y : ℕ) (ws : List Write) (W : Whole t) (M : Moves (fitted t) new last mark g d i x y ws) (G : Goes t new last mark g d i x y) where
   -- the termination stands there then, and the others where they stood

@@ -162,9 +162,12 @@ module _ (c : ℕ) (t : List ℕ) (l : length t ≡ words (fitted t)) (k : known
         by true z = refl
         by false z = absurd (clash (sym (tells Bothway) ∙ ap (λ (p : Square). flow_at p (place_of (party c t a)) (place_of (party c t b))) (same_links Bothway z ∙ sym (same_links Isolate z)) ∙ tells Isolate))
 
+fine_of : (c : ℕ) (t : List ℕ) (x : Triple) (ts : List Triple) → AllFine c t ts → x ∈ ts → Fine c t x
+fine_of c t x _ f (Memᴰ.head p) = rw p f.0
+fine_of c t x _ f (Memᴰ.tail {x = y} {xs = ys} n) = fine_of c t x ys f.1 n
+
 fine_in : (c : ℕ) (t : List ℕ) (ts : List Triple) → AllFine c t ts → (x : Triple) → x ∈ ts → Fine c t x
-fine_in c t _ f x (Memᴰ.head p) = rw p f.0
-fine_in c t _ f x (Memᴰ.tail {x = y} {xs = ys} n) = fine_in c t ys f.1 x n
+fine_in c t ts f x n = fine_of c t x ts f n
 
 -- of a context of a sound table: a list that sets what `ts` sets, of any flows that the context may have, is no shorter than the fold
 pub folded_shortest : (c : ℕ) (t : List ℕ) → Whole t → 0 < c → c ≤ contexts → (ts us : List Triple) → AllFine c t ts → AllFine c t us

@@ -18,7 +18,8 @@ use Rattle.laws.specs.Passed.{Passed}
 use Rattle.laws.specs.Sound.{Whole, Fit}
 use Rattle.laws.proofs.Passed.{judged}
 use Rattle.laws.proofs.Moved.{recorded_members, recorded_sound, flowed_sound}
-use Rattle.laws.proofs.Attempts.{both_known, seen_held, seen_there, seen_flows, Present}
+use Rattle.laws.proofs.Attempts.{both_known, seen_held, seen_there, seen_flows}
+use Rattle.laws.proofs.Presence.{Present}
 use Rattle.laws.proofs.Linked.{links_fit}
 
 none_over : (ps : List Property) → any_given ps ≡ false → over15 ps ≡ false

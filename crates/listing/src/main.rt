@@ -1,10 +1,13 @@
 // The listing program: one message per line of standard input, from a fresh table, blocks that have had no packet and an empty room. For each line it prints the reply or
 // `refused 1`, and at the end of the input the contexts.
+#![tactic(auto)]
+
 ghost use Rattle.std.specs.Prelude.{◌≤◌, ◌<◌, ◌≡◌, length, take};
 ghost use Rattle.sessions.specs.Session.{lent, between, taken_in, Answers, HoldsLine, Turned, Took, Input, Finished, answer_room};
 
 use gateway::{CallOutcome, LONGEST_MESSAGE, REPLY_ROOM};
 use statistics::BLOCK_WORDS;
+use std::io::Read;
 use table::{LINE, NO_LINES};
 
 // The lines fitted, and the words of their table.
@@ -23,7 +26,7 @@ const LINE_ROOM: usize = LONGEST_MESSAGE + 1;
 const REPLY_LINE_ROOM: usize = REPLY_ROOM + 1;
 
 // After a turn: the place in the chunk where the next one starts, how many bytes of a line are held, how many are to be printed.
-#[derive(Drop)]
+#[derive(Clone, Copy)]
 struct ChunkTurn {
     next: usize,
     held: usize,
@@ -31,7 +34,7 @@ struct ChunkTurn {
 }
 
 // After a read: whether the input may go on, and how many bytes of a line are held.
-#[derive(Drop)]
+#[derive(Clone, Copy)]
 struct Progress {
     more: bool,
     held: usize,
@@ -106,6 +109,7 @@ fn take_turn(
 
 // Prints the answers to the lines that end in a chunk. That they are printed, and where, no promise says: the kit's `write_all` makes none.
 fn take_chunk(
+    rt: &impl Print,
     chunk: &[u8],
     line: &mut [u8],
     held: usize,
@@ -125,15 +129,17 @@ fn take_chunk(
     while from < chunk.len() {
         let t = take_turn(chunk, from, line, h, table, blocks, words, bytes, out);
         let size = t.size;
-        io::write_all(1, &out[0..size]);
+        let _ = rt.write_all(&out[0..size]);
         h = t.held;
         from = t.next;
     }
     h
 }
 
-// Reads once, and takes what came. A read that fails ends the input. What is read is whatever the C library gives: nothing is assumed of it.
-fn take_some(
+// Reads once, and takes what came. A read that fails ends the input. What is read is whatever the reader gives: nothing is assumed of it.
+fn take_some<R: Read>(
+    rt: &impl Print,
+    input: &mut R,
     line: &mut [u8],
     held: usize,
     table: &mut [u32],
@@ -147,10 +153,22 @@ fn take_some(
     ensures holds_line_2 { HoldsLine line.new result.held }
     ensures took { Took line.old held (lent table.old blocks.old words.old bytes.old) line.new (lent table.new blocks.new words.new bytes.new) result.more result.held }
 {
-    let mut chunk = io::large_buffer();
-    let got = libc::read(0, &mut chunk);
-    let n = io::count(got, &chunk);
-    let h = take_chunk(&chunk[..n], line, held, table, blocks, words, bytes, out);
+    let mut chunk = [0u8; 65536];
+    let n = match input.read(&mut chunk) {
+        Ok(count) => count,
+        Err(_) => 0,
+    };
+    let h = take_chunk(
+        rt,
+        &chunk[..n],
+        line,
+        held,
+        table,
+        blocks,
+        words,
+        bytes,
+        out,
+    );
     Progress {
         more: n != 0,
         held: h,
@@ -159,7 +177,9 @@ fn take_some(
 
 // Takes the whole input, and tells how many bytes are held of a last line that has no line end. A proved loop has to end, and
 // nothing says that an input does: so the turns are counted down, from a number that no run uses up.
-fn take_input(
+fn take_input<R: Read>(
+    rt: &impl Print,
+    input: &mut R,
     line: &mut [u8],
     table: &mut [u32],
     blocks: &mut [u32],
@@ -175,7 +195,7 @@ fn take_input(
     let mut h: usize = 0;
     let mut turns = u64::MAX;
     while turns > 0 {
-        let t = take_some(line, h, table, blocks, words, bytes, out);
+        let t = take_some(rt, input, line, h, table, blocks, words, bytes, out);
         h = t.held;
         if !t.more {
             return h;
@@ -206,7 +226,7 @@ fn finish_line(
 }
 
 // Moves bytes: what it prints was put into `out` by the functions above and by crate sessions. Output that can't be written is lost.
-fn main() {
+fn main(rt: HostRuntime) {
     let mut table = [0u32; WORDS];
     let mut blocks = [0u32; BLOCK_WORDS];
     let mut words = [0u32; ROOM_WORDS];
@@ -214,6 +234,8 @@ fn main() {
     let mut line = [0u8; LINE_ROOM];
     let mut out = [0u8; REPLY_LINE_ROOM];
     let held = take_input(
+        &rt,
+        &mut rt.stdin(),
         &mut line,
         &mut table,
         &mut blocks,
@@ -230,7 +252,7 @@ fn main() {
         &mut bytes,
         &mut out,
     );
-    io::write_all(1, &out[0..n]);
+    let _ = rt.write_all(&out[0..n]);
     let k = sessions::put_contexts(&mut out, 0, LINES, &table);
-    io::write_all(1, &out[0..k]);
+    let _ = rt.write_all(&out[0..k]);
 }

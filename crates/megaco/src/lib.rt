@@ -1,24 +1,26 @@
 // The plain types that definitions and contracts share. What they mean is said in specs/.
+#![tactic(auto)]
+
 ghost use Rattle.std.specs.Prelude.{◌≡◌};
 ghost use Rattle.megaco.specs.Attempt.{number_of, is_choose};
 ghost use Rattle.megaco.specs.Command.{is_add, is_subtract, in_place, is_null};
 
 // What a reader of one part finds: the place after it, or that the part does not stand there.
-#[derive(Drop)]
+#[derive(Clone, Copy)]
 pub enum Parsed {
     Next(usize),
     Fault,
 }
 
 // What a reader of a number finds: the value and the place after it, or that no such number stands there.
-#[derive(Drop)]
+#[derive(Clone, Copy)]
 pub enum Number {
     Got { value: u32, next: usize },
     Bad,
 }
 
 // Classes of bytes that may stand in a row: in a word, a name, a plain value, a quoted value, a domain name.
-#[derive(Drop)]
+#[derive(Clone, Copy)]
 pub enum Class {
     WordByte,
     NameByte,
@@ -28,7 +30,7 @@ pub enum Class {
 }
 
 // Keywords, under Annex B.2's names and in its order.
-#[derive(Drop)]
+#[derive(Clone, Copy)]
 pub enum Token {
     AddToken,
     AuditToken,
@@ -67,7 +69,7 @@ pub enum Token {
 }
 
 // An action's context: `-`, a number, `$`, `*`.
-#[derive(Drop)]
+#[derive(Clone, Copy)]
 pub enum Context {
     Null,
     Numbered(u32),
@@ -76,6 +78,7 @@ pub enum Context {
 }
 
 impl Context {
+    #[tactic(auto, unfolding(crate::specs::Command::is_null))]
     pub fn is_null(self) -> bool
         ensures { result ≡ is_null self }
     {
@@ -85,6 +88,7 @@ impl Context {
         }
     }
 
+    #[tactic(auto, unfolding(crate::specs::Attempt::is_choose))]
     pub fn is_choose(self) -> bool
         ensures { result ≡ is_choose self }
     {
@@ -95,6 +99,7 @@ impl Context {
     }
 
     // A context's number; null, `$` and `*` are 0.
+    #[tactic(auto, unfolding(crate::specs::Attempt::number_of))]
     pub fn number(self) -> u32
         ensures { result ≡ number_of self }
     {
@@ -106,7 +111,7 @@ impl Context {
 }
 
 // A context's property, as an action gives it: `PR=n`, `EG`, `TP{..}`.
-#[derive(Drop)]
+#[derive(Clone, Copy)]
 pub enum Property {
     Priority(u32),
     Emergency,
@@ -114,14 +119,14 @@ pub enum Property {
 }
 
 // What an acknowledgement names: the identifiers from a first to a last.
-#[derive(Drop)]
+#[derive(Clone, Copy)]
 pub struct Ack {
     pub first: u32,
     pub last: u32,
 }
 
 // How media flows between the two terminations of a triple: neither way, from the first to the second, both ways.
-#[derive(Drop)]
+#[derive(Clone, Copy)]
 pub enum Direction {
     Isolate,
     Oneway,
@@ -130,7 +135,7 @@ pub enum Direction {
 
 // Whom a name in a triple means: nobody, with `*`, `$` or as ROOT; a termination that does not exist; one that stands elsewhere; the member
 // that has this place in the square of flows.
-#[derive(Drop)]
+#[derive(Clone, Copy)]
 pub enum Party {
     Unfit,
     Absent,
@@ -139,7 +144,7 @@ pub enum Party {
 }
 
 // The commands that are built.
-#[derive(Drop)]
+#[derive(Clone, Copy)]
 pub enum Op {
     Add,
     Modify,
@@ -149,6 +154,7 @@ pub enum Op {
 }
 
 impl Op {
+    #[tactic(auto, unfolding(crate::specs::Command::is_add))]
     pub fn is_add(self) -> bool
         ensures { result ≡ is_add self }
     {
@@ -158,6 +164,7 @@ impl Op {
         }
     }
 
+    #[tactic(auto, unfolding(crate::specs::Command::is_subtract))]
     pub fn is_subtract(self) -> bool
         ensures { result ≡ is_subtract self }
     {
@@ -168,6 +175,7 @@ impl Op {
     }
 
     // Whether a termination stays where it stands.
+    #[tactic(auto, unfolding(crate::specs::Command::in_place))]
     pub fn in_place(self) -> bool
         ensures { result ≡ in_place self }
     {
@@ -180,7 +188,7 @@ impl Op {
 }
 
 // What a wildcard ranges over: `*`, `L/*`, `R/*`, `L/l/*`.
-#[derive(Drop)]
+#[derive(Clone, Copy)]
 pub enum Range {
     Everyone,
     EveryLine,
@@ -190,7 +198,7 @@ pub enum Range {
 
 // What a termination's name means. `Chosen`: `$` and `R/$`; `Unchosen`: another name with `$`; `Wildcard`: a form with `*` that
 // matches; `Unmatched`: another name with `*`.
-#[derive(Drop)]
+#[derive(Clone, Copy)]
 pub enum Name {
     Termination(usize),
     Root,
@@ -202,14 +210,14 @@ pub enum Name {
 }
 
 // A value given by a command's items, or none.
-#[derive(Drop)]
+#[derive(Clone, Copy)]
 pub enum Given {
     Keep,
     To(u32),
 }
 
 // Where speech goes, as Local or Remote gives it: nothing is given; an empty text; an address, a port and a payload type.
-#[derive(Drop)]
+#[derive(Clone, Copy)]
 pub enum Speech {
     Kept,
     Released,
@@ -217,7 +225,7 @@ pub enum Speech {
 }
 
 // What a command's items ask: the mode and the state that they give, whether they audit both, and what Local and Remote give.
-#[derive(Drop)]
+#[derive(Clone, Copy)]
 pub struct Values {
     pub mode: Given,
     pub state: Given,
@@ -227,28 +235,28 @@ pub struct Values {
 }
 
 // A command's items: the first code in reading order, or the values given.
-#[derive(Drop)]
+#[derive(Clone, Copy)]
 pub enum Judged {
     Wrong(u32),
     Right(Values),
 }
 
 // What tests come to: every one is passed, or the code of the first that fails.
-#[derive(Drop)]
+#[derive(Clone, Copy)]
 pub enum Checked {
     Passes,
     Fails(u32),
 }
 
 // Which property a descriptor holds: Mode in LocalControl, ServiceStates in TerminationState.
-#[derive(Drop)]
+#[derive(Clone, Copy)]
 pub enum Kind {
     InControl,
     InState,
 }
 
 // A flag for each descriptor that Media may hold.
-#[derive(Drop)]
+#[derive(Clone, Copy)]
 pub struct Descriptors {
     pub control: bool,
     pub state: bool,
@@ -257,14 +265,14 @@ pub struct Descriptors {
 }
 
 // Which of the two that hold text.
-#[derive(Drop)]
+#[derive(Clone, Copy)]
 pub enum Side {
     OfLocal,
     OfRemote,
 }
 
 // What a line of SDP is: one that is skipped, one of the three that are asked for with its numbers, or none of these.
-#[derive(Drop)]
+#[derive(Clone, Copy)]
 pub enum SdpLine {
     Skipped,
     Version,
@@ -274,7 +282,7 @@ pub enum SdpLine {
 }
 
 // What the lines so far have been.
-#[derive(Drop)]
+#[derive(Clone, Copy)]
 pub enum SdpStage {
     NoLine,
     AfterVersion,
@@ -288,7 +296,7 @@ pub enum SdpStage {
 }
 
 // What a text in the braces of Local or Remote says: nothing, where speech goes, or what is outside our subset of SDP.
-#[derive(Drop)]
+#[derive(Clone, Copy)]
 pub enum SdpText {
     EmptyText,
     Described {
@@ -300,7 +308,7 @@ pub enum SdpText {
 }
 
 // Of a context: its record, how many terminations stand in it, and the two words of its flows.
-#[derive(Drop)]
+#[derive(Clone, Copy)]
 pub struct Seen {
     pub held: u32,
     pub members: usize,
@@ -309,7 +317,7 @@ pub struct Seen {
 }
 
 // The figures of an ephemeral, its block: packets received, the transit of the last one, the jitter in sixteenths.
-#[derive(Drop)]
+#[derive(Clone, Copy)]
 pub struct Block {
     pub packets: u32,
     pub transit: u32,
@@ -319,7 +327,7 @@ pub struct Block {
 // What an attempt sees: where the termination stands, its property word, the action's context, the context that it stands in, and
 // the lowest number absent, and how many lines are fitted; its place among the members of the action's context, and of the one that it
 // stands in.
-#[derive(Drop)]
+#[derive(Clone, Copy)]
 pub struct View {
     pub here: u32,
     pub word: u32,

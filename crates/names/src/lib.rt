@@ -1,4 +1,6 @@
 // Names of terminations: what the bytes of a name mean. Letter case is folded as they are read.
+#![tactic(auto)]
+
 ghost use Rattle.std.specs.Prelude.{◌≡◌, ◌-◌, ◌≤◌, length};
 ghost use Rattle.base.specs.Lists.{has, before, behind};
 ghost use Rattle.megaco.specs.Bytes.{slash, capitals};

@@ -1,4 +1,6 @@
 // Small functions on numbers: the lower of two; what a context's record, 1 + priority + 16 for an emergency, tells.
+#![tactic(auto)]
+
 ghost use Rattle.std.specs.Prelude.{◌≡◌, min};
 ghost use Rattle.megaco.specs.Table.{priority_of, emergency_of};
 

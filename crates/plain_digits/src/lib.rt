@@ -4,6 +4,8 @@
 // It stops as soon as both questions are answered yes: the string is matched, and some longer one is. Where they are not, every way through the
 // dots is tried: k selectors with a dot that take the same n symbols are tried in (n + k)! / (n! k!) ways. So it does not come back on `x.` 32 times
 // with 31 digits and then `A` dialled, which no way matches. The first matcher's work is selectors times symbols at most.
+#![tactic(auto)]
+
 ghost use Rattle.std.specs.Prelude.{◌≡◌, ◌<◌, length, get_or};
 ghost use Rattle.digits.specs.Symbols.{symbol_of, symbols_of, takes};
 ghost use Rattle.digits.specs.DigitMap.{list_f, map_r};

@@ -1,11 +1,43 @@
 // What several programs have in common: lines and numbers read, words put into a table, text and numbers printed. For programs alone: it
-// rests on the C library's `write`, so no library may rest on it (tools/axioms.py).
-ghost use Rattle.std.specs.Prelude.{◌<◌, ◌≤◌, ◌≡◌, length};
+// reads and prints, so no library may rest on it (tools/axioms.py).
+#![tactic(auto)]
+
+ghost use Rattle.std.specs.Prelude.{◌<◌, ◌≤◌, ◌≡◌, length, take};
+ghost use Rattle.std.specs.Io.KnownBytes.{Consumes};
 ghost use Rattle.base.specs.Lists.{before};
 
-use libc::STDOUT_FILENO;
+use std::io::Read;
 
 // ---- reading
+
+// Reads once: how many bytes stand at the buffer's start. A read that fails gives none.
+pub fn read_some<R: Read>(input: &mut R, buf: &mut [u8]) -> usize
+    ensures in_bounds { result ≤ length buf.new }
+    ensures prefix_length { result ≡ length (take result buf.new) }
+    ensures bytes { Consumes (R.remaining input.old) (R.remaining input.new) (take result buf.new) }
+{
+    match input.read(buf) {
+        Ok(n) => n,
+        Err(_) => 0,
+    }
+}
+
+// Reads until the buffer is full, the input ends or a read fails: how many bytes stand at the buffer's start.
+pub fn read_full<R: Read>(input: &mut R, buf: &mut [u8]) -> usize
+    ensures in_bounds { result ≤ length buf.new }
+    ensures prefix_length { result ≡ length (take result buf.new) }
+    ensures bytes { Consumes (R.remaining input.old) (R.remaining input.new) (take result buf.new) }
+{
+    let mut done = 0;
+    while done < buf.len() {
+        let n = read_some(input, &mut buf[done..]);
+        if n == 0 {
+            break;
+        }
+        done += n;
+    }
+    done
+}
 
 // How many bytes the first line of a text has.
 pub fn line_length(s: &[u8]) -> usize
@@ -51,12 +83,13 @@ pub fn put_run(table: &mut [u32], from: usize, to: usize, v: u32) {
 
 // ---- printing
 
-pub fn print(s: &[u8]) {
-    io::write_all(STDOUT_FILENO, s);
+// What can't be written is lost.
+pub fn print(rt: &impl Print, s: &[u8]) {
+    let _ = rt.write_all(s);
 }
 
 // A text and a number behind it.
-pub fn print_number(s: &[u8], n: u64) {
-    print(s);
-    io::print_decimal(STDOUT_FILENO, n);
+pub fn print_number(rt: &impl Print, s: &[u8], n: u64) {
+    print(rt, s);
+    let _ = rt.print(n);
 }

@@ -1,4 +1,6 @@
 // Reading actions: a context, then properties and commands in braces.
+#![tactic(auto)]
+
 ghost use Rattle.std.specs.Prelude.{◌≡◌};
 ghost use Rattle.megaco.specs.Keywords.{spells};
 ghost use Rattle.megaco.specs.Tokens.{after_number};

@@ -1,4 +1,6 @@
 // Reading whole messages: the types of what is found, and the readers of items and commands. Actions and messages are read by the crates above.
+#![tactic(auto)]
+
 ghost use Rattle.std.specs.Prelude.{◌≡◌, ◌&&◌, ◌||◌, suc};
 ghost use Rattle.protocol.specs.Types.{Next, LocalToken, RemoteToken, TopologyToken};
 ghost use Rattle.megaco.specs.Keywords.{spells};
@@ -13,7 +15,7 @@ ghost use Rattle.read_command.specs.Places.{second_at, value_item_at, braces_at,
 use megaco::{Class, Parsed, Token};
 
 // What a message reads as: well-formed, or the fault that is told, a fault inside a transaction's braces with the identifier.
-#[derive(Drop)]
+#[derive(Clone, Copy)]
 pub enum Verdict {
     WellFormed,
     Fault400,
@@ -22,7 +24,7 @@ pub enum Verdict {
 }
 
 // What a transaction's braces read as: the place after them and the white space there; or a fault outside them, or one between them.
-#[derive(Drop)]
+#[derive(Clone, Copy)]
 pub enum Braces {
     Past(usize),
     Outside,
@@ -30,21 +32,21 @@ pub enum Braces {
 }
 
 // What follows an action's properties: commands, or none; and the place where they begin, or where the properties end.
-#[derive(Drop)]
+#[derive(Clone, Copy)]
 pub struct Rest {
     pub commands: bool,
     pub at: usize,
 }
 
 // A part of the message, from a place up to another.
-#[derive(Drop)]
+#[derive(Clone, Copy)]
 pub struct Piece {
     pub from: usize,
     pub to: usize,
 }
 
 // What follows a part of a list: another part, which begins here, or the list ends, and this is what it reads as.
-#[derive(Drop)]
+#[derive(Clone, Copy)]
 pub enum Following {
     Another(usize),
     Ends(Parsed),

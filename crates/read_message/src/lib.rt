@@ -1,4 +1,6 @@
 // Reading a whole message: the verdict. Nothing but the message is touched.
+#![tactic(auto)]
+
 ghost use Rattle.std.specs.Prelude.{◌≡◌};
 ghost use Rattle.megaco.specs.Reading.{identifier_from, start_at, sender_at, message_r};
 ghost use Rattle.megaco.specs.Tokens.{at_least};

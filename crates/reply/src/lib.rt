@@ -1,4 +1,6 @@
 // A reply around its reports, written into a lent buffer: header, transactions, actions, faults.
+#![tactic(auto)]
+
 ghost use Rattle.std.specs.Prelude.{◌≡◌};
 ghost use Rattle.base.specs.Out.{Appended};
 ghost use Rattle.megaco.specs.Reply.{error_text, context_text, reply_text, header_text};

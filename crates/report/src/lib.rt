@@ -1,4 +1,6 @@
 // The reports of a reply, written into a lent buffer: what was tried and how it went.
+#![tactic(auto)]
+
 ghost use Rattle.std.specs.Prelude.{◌≡◌, ◌<◌};
 ghost use Rattle.base.specs.Out.{Appended};
 ghost use Rattle.megaco.specs.Names.{name_text};

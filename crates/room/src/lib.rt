@@ -1,5 +1,7 @@
 // The kept replies in their lent room: 64 words and 33,920 bytes (megaco/specs/Room.antt has the layout). Every function takes any
 // slices: past the end stands 0, and nothing is stored there.
+#![tactic(auto)]
+
 ghost use Rattle.std.specs.Prelude.{◌≡◌, [], ◌∷◌, map, length, get_or, set, take, drop, replicate, true, false, ◌+◌, ◌-◌, ◌≤◌};
 ghost use Rattle.base.specs.Lists.{same, has, every, before};
 ghost use Rattle.base.specs.Bytes.{put};

@@ -1,4 +1,6 @@
 // A table carried to a spare as a row of numbers (document 02, CR 14): written, and read.
+#![tactic(auto)]
+
 ghost use Rattle.row_laws.specs.Answers.{Wrote, Read};
 
 use row_laws::Answer;

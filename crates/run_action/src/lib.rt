@@ -1,4 +1,6 @@
 // Running the actions of a transaction: each one's start, its commands in order, and its `C=id{..}`.
+#![tactic(auto)]
+
 ghost use Rattle.std.specs.Prelude.{◌≡◌, true, false, ◌≤◌, length, take, [], ◌∷◌};
 ghost use Rattle.megaco.specs.Table.{Sized, sound};
 ghost use Rattle.megaco.specs.State.{state};
@@ -19,7 +21,7 @@ use run_attempts::{CommandOutcome, Turn};
 use run_command::RanCommand;
 
 // An action that was run: the place after its reply, whether the transaction goes on, and where the action's own text ends.
-#[derive(Drop)]
+#[derive(Clone, Copy)]
 pub struct RanAction {
     pub next: usize,
     pub going: bool,
@@ -27,7 +29,7 @@ pub struct RanAction {
 }
 
 // A part of a message that was run: the place after its reply, and where its own text ends.
-#[derive(Drop)]
+#[derive(Clone, Copy)]
 pub struct RanPart {
     pub next: usize,
     pub end: usize,

@@ -1,4 +1,6 @@
 // The attempts of a command, on those that its name means: each looked at, judged, done and reported.
+#![tactic(auto)]
+
 ghost use Rattle.std.specs.Prelude.{◌≡◌, true, false, [], ◌∷◌, ◌-◌, ◌<◌, take};
 ghost use Rattle.base.specs.Out.{Appended};
 ghost use Rattle.megaco.specs.Table.{line_terminations, Sized};
@@ -20,7 +22,7 @@ use targets::Target;
 
 // Where a transaction stands: the record that its action gives to a context that comes to be, the action's context, whether no report was
 // put in the action yet, and the place for the next.
-#[derive(Drop)]
+#[derive(Clone, Copy)]
 pub struct Turn {
     pub given: u32,
     pub at: Context,
@@ -29,7 +31,7 @@ pub struct Turn {
 }
 
 // Where a part of a run ends: the place after its text, the action's context, and whether the transaction goes on.
-#[derive(Drop)]
+#[derive(Clone, Copy)]
 pub struct CommandOutcome {
     pub next: usize,
     pub at: Context,

@@ -1,4 +1,6 @@
 // One command of a message: its parts found once, its tests in document 01's order, and what it leaves.
+#![tactic(auto)]
+
 ghost use Rattle.std.specs.Prelude.{◌≡◌};
 ghost use Rattle.std.proofs.Math.Option.{some};
 ghost use Rattle.megaco.specs.Table.{Sized};
@@ -15,7 +17,7 @@ use megaco::Op;
 use run_attempts::{CommandOutcome, Turn};
 
 // What a command leaves, and where its text ends.
-#[derive(Drop)]
+#[derive(Clone, Copy)]
 pub struct RanCommand {
     pub outcome: CommandOutcome,
     pub end: usize,

@@ -1,4 +1,6 @@
 // Running a message: its verdict, and the transactions and acknowledgements of one that reads, with the kept replies.
+#![tactic(auto)]
+
 ghost use Rattle.std.specs.Prelude.{◌≡◌, true, ◌≤◌, length, take};
 ghost use Rattle.megaco.specs.Table.{sound};
 ghost use Rattle.megaco.specs.State.{state};
@@ -21,7 +23,7 @@ use reply::TRANSACTION_ROOM;
 use run_action::RanPart;
 
 // How a part of a message was served: the place in the buffer, whether there is a reply, and where the part ends.
-#[derive(Drop)]
+#[derive(Clone, Copy)]
 pub struct ServedPart {
     pub next: usize,
     pub told: bool,
@@ -29,7 +31,7 @@ pub struct ServedPart {
 }
 
 // The same of a whole message.
-#[derive(Drop)]
+#[derive(Clone, Copy)]
 pub struct ServedMessage {
     pub next: usize,
     pub told: bool,

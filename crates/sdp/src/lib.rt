@@ -1,4 +1,6 @@
 // Our SDP subset (document 02, CR 11; RFC 2327): the reader of a text in the braces of Local or Remote.
+#![tactic(auto)]
+
 ghost use Rattle.std.specs.Prelude.{◌≡◌, ◌+◌, ◌<◌, ◌≤◌, min, length};
 ghost use Rattle.base.specs.Bytes.{text};
 ghost use Rattle.base.specs.Lists.{every, same};

@@ -1,4 +1,6 @@
 // The lines that the listing program takes and prints.
+#![tactic(auto)]
+
 ghost use Rattle.std.specs.Prelude.{◌≡◌, [], ◌∷◌, ◌+◌, ◌<◌, min, length};
 ghost use Rattle.base.specs.Out.{Appended};
 ghost use Rattle.sessions.specs.Lines.{line_end, line_from, line_end_at};

@@ -2,6 +2,8 @@
 // the ephemerals', one over the ephemerals' context words against the map, one over where their speech goes.
 // All but the first go on past a word that is wrong: tables are sound but for rare accidents, and without a way out the compiler takes several
 // words at a time.
+#![tactic(auto)]
+
 ghost use Rattle.std.specs.Prelude.{◌≡◌, true, ◌&&◌, ◌+◌, ◌-◌, ◌*◌, ◌/◌, ◌%◌, ◌^◌, ◌≤◌, ◌<◌, length, get_or, take, drop, leb, eqb};
 ghost use Rattle.base.specs.Pick.{pick};
 ghost use Rattle.base.specs.Lists.{every, same};

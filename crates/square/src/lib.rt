@@ -1,4 +1,6 @@
 // The square of flows of one context: eight rows of eight, member i to member j. Two words hold it, rows 0 to 3 in the first.
+#![tactic(auto)]
+
 ghost use Rattle.std.specs.Prelude.{◌≡◌, Bool, true, false, ◌&&◌, ◌+◌, ◌-◌, ◌*◌, ◌<◌, ◌≤◌, ltb, eqb, get_or, set};
 ghost use Rattle.base.specs.Pick.{pick};
 ghost use Rattle.megaco.specs.Square.{bits, of_bits, square_of, low_of, high_of, flow_at, paired, directed, up_to, joined_row, joined, parted_flow, parted_row, parted};

@@ -1,4 +1,6 @@
 // An action's start: its properties, its tests, and what it sets (document 01, 'Running').
+#![tactic(auto)]
+
 ghost use Rattle.std.specs.Prelude.{◌≡◌, true, false, ◌≤◌};
 ghost use Rattle.megaco.specs.Table.{Sized, apply};
 ghost use Rattle.megaco.specs.Reading.{is_property, word_here};
@@ -11,7 +13,7 @@ use megaco::{Checked, Context, Parsed, Property};
 
 // The properties of an action: whether a priority is over 15, and if not, the record that they make of a new context's and of the
 // one held; else 0 for both.
-#[derive(Drop)]
+#[derive(Clone, Copy)]
 pub struct PropertiesRead {
     pub over: bool,
     pub fresh: u32,
@@ -171,7 +173,7 @@ fn judge_links(s: &[u8], body: usize, table: &[u32], c: Context, topology: bool)
 }
 
 // What an action's start comes to: whether topology is given, and the tests.
-#[derive(Drop)]
+#[derive(Clone, Copy)]
 pub struct Tested {
     pub topology: bool,
     pub checked: Checked,

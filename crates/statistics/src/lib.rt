@@ -1,4 +1,6 @@
 // RTP statistics: a block after a packet (RFC 1889 A.8, integer form), and the 64 blocks in the lent words, four a block.
+#![tactic(auto)]
+
 ghost use Rattle.std.specs.Prelude.{◌≡◌, ◌^◌, ◌≤◌, length};
 ghost use Rattle.megaco.specs.Blocks.{block_at, with_block, cleared, difference, size_of, jitter_after, one_more, updated, reported, block_is_sound, sound_from, blocks_are_sound};
 ghost use Rattle.megaco.specs.Attempt.{renews};

@@ -1,4 +1,6 @@
 // The lent table, whose size tells the lines fitted, read and written by the number of a termination and by the number of a context.
+#![tactic(auto)]
+
 ghost use Rattle.std.specs.Prelude.{◌≡◌, ◌+◌, ◌-◌, ◌*◌, ◌/◌, ◌^◌, ◌<◌, ◌≤◌, min, true, [], ◌++◌, length, get_or, set};
 ghost use Rattle.base.specs.Pick.{pick};
 ghost use Rattle.base.specs.Lists.{count, lowest_absent};
@@ -379,7 +381,7 @@ pub fn members(table: &[u32], c: u32) -> usize
 }
 
 // The members of a context: how many of them have a lower number than one termination, and how many there are.
-#[derive(Drop)]
+#[derive(Clone, Copy)]
 pub struct Counted {
     pub place: usize,
     pub members: usize,

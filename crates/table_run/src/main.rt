@@ -2,9 +2,10 @@
 //     T base k v c ..    a table with the word v at place k: whether it is sound, the members of context c, the free numbers
 //     W n                the first n words of a fresh table
 //     N name             a name
+#![tactic(auto)]
+
 ghost use Rattle.std.specs.Prelude.{◌≡◌, length};
 
-use libc::STDIN_FILENO;
 use megaco::{Name, Range};
 use table::{LINE, NO_LINES};
 
@@ -13,43 +14,43 @@ const WORDS: usize = NO_LINES + 8 * LINE;
 
 const ROOM: usize = WORDS + 1;
 
-fn main() {
+fn main(rt: HostRuntime) {
     let mut room = [0u32; ROOM];
-    let mut input = io::buffer();
-    let n = io::read_full(STDIN_FILENO, &mut input);
-    run(&mut room, &input[..n]);
+    let mut input = [0u8; 4096];
+    let n = program_io::read_full(&mut rt.stdin(), &mut input);
+    run(&rt, &mut room, &input[..n]);
 }
 
 // ---- lines
 
-fn run(room: &mut [u32], s: &[u8])
+fn run(rt: &impl Print, room: &mut [u32], s: &[u8])
     requires { length room.old ≡ 1523 }
 {
     let mut a: usize = 0;
     while a < s.len() {
         let e = a + program_io::line_length(&s[a..]);
-        program_io::print(&s[a..e]);
-        case(room, &s[a..e]);
-        program_io::print(b"\n");
+        program_io::print(rt, &s[a..e]);
+        case(rt, room, &s[a..e]);
+        program_io::print(rt, b"\n");
         a = e + 1;
     }
 }
 
-fn case(room: &mut [u32], line: &[u8])
+fn case(rt: &impl Print, room: &mut [u32], line: &[u8])
     requires { length room.old ≡ 1523 }
 {
     if line.len() < 2 {
         return;
     }
     if line[0] == b'T' {
-        table_case(&mut room[0..WORDS], line);
+        table_case(rt, &mut room[0..WORDS], line);
         return;
     }
     if line[0] == b'W' {
-        length_case(room, number(line, 1));
+        length_case(rt, room, number(line, 1));
         return;
     }
-    name_case(&line[2..]);
+    name_case(rt, &line[2..]);
 }
 
 // The number in field k of a line; the fields stand apart by single spaces.
@@ -81,11 +82,11 @@ fn word(n: u64) -> u32 {
 
 // ---- writing
 
-fn print_sound(t: &[u32]) {
+fn print_sound(rt: &impl Print, t: &[u32]) {
     if sound::is_sound(t) {
-        program_io::print(b": sound");
+        program_io::print(rt, b": sound");
     } else {
-        program_io::print(b": not sound");
+        program_io::print(rt, b": not sound");
     }
 }
 
@@ -155,45 +156,45 @@ fn start(t: &mut [u32], base: u32) {
     }
 }
 
-fn table_case(t: &mut [u32], line: &[u8])
+fn table_case(rt: &impl Print, t: &mut [u32], line: &[u8])
     requires { length t.old ≡ 1522 }
 {
     start(t, number(line, 1));
     table::put_word(t, number(line, 2) as usize, number(line, 3));
-    report(t, number(line, 4));
+    report(rt, t, number(line, 4));
 }
 
-fn report(t: &[u32], c: u32)
+fn report(rt: &impl Print, t: &[u32], c: u32)
     requires { length t.now ≡ 1522 }
 {
-    print_sound(t);
-    program_io::print_number(b", members ", table::members(t, c) as u64);
-    program_io::print_number(b", free context ", table::free_context(t) as u64);
-    program_io::print_number(b", free ephemeral ", table::free_ephemeral(t) as u64);
-    program_io::print_number(b", ephemerals ", table::used_ephemerals(t) as u64);
+    print_sound(rt, t);
+    program_io::print_number(rt, b", members ", table::members(t, c) as u64);
+    program_io::print_number(rt, b", free context ", table::free_context(t) as u64);
+    program_io::print_number(rt, b", free ephemeral ", table::free_ephemeral(t) as u64);
+    program_io::print_number(rt, b", ephemerals ", table::used_ephemerals(t) as u64);
 }
 
-fn length_case(room: &mut [u32], n: u32) {
+fn length_case(rt: &impl Print, room: &mut [u32], n: u32) {
     program_io::put_run(room, 0, 1523, 0);
     let e = n as usize;
     if e <= room.len() {
-        print_sound(&room[0..e]);
+        print_sound(rt, &room[0..e]);
     }
 }
 
 // ---- names
 
 // What a name means; of a wildcard, how many its range takes in.
-fn name_case(n: &[u8]) {
+fn name_case(rt: &impl Print, n: &[u8]) {
     let r = names::name_of(8, n);
     match r {
-        Name::Termination(i) => program_io::print_number(b": termination ", i as u64),
-        Name::Root => program_io::print(b": root"),
-        Name::Chosen => program_io::print(b": chosen"),
-        Name::Unchosen => program_io::print(b": not to be chosen"),
-        Name::Wildcard(w) => program_io::print_number(b": wildcard over ", in_all(w)),
-        Name::Unmatched => program_io::print(b": matches nobody"),
-        Name::Unknown => program_io::print(b": unknown"),
+        Name::Termination(i) => program_io::print_number(rt, b": termination ", i as u64),
+        Name::Root => program_io::print(rt, b": root"),
+        Name::Chosen => program_io::print(rt, b": chosen"),
+        Name::Unchosen => program_io::print(rt, b": not to be chosen"),
+        Name::Wildcard(w) => program_io::print_number(rt, b": wildcard over ", in_all(w)),
+        Name::Unmatched => program_io::print(rt, b": matches nobody"),
+        Name::Unknown => program_io::print(rt, b": unknown"),
     }
 }
 

@@ -1,4 +1,6 @@
 // Whom a command's name means (document 01, test 4).
+#![tactic(auto)]
+
 ghost use Rattle.std.specs.Prelude.{◌≡◌};
 ghost use Rattle.megaco.specs.Table.{Sized};
 ghost use Rattle.targets.specs.Targets.{root_target, free_target, unchosen_target, one_target, target_of};
@@ -6,7 +8,7 @@ ghost use Rattle.targets.specs.Targets.{root_target, free_target, unchosen_targe
 use megaco::{Context, Name, Op, Range};
 
 // Whom a command's name means: nobody, with a code; the gateway itself; one termination; those that a wildcard matches.
-#[derive(Drop)]
+#[derive(Clone, Copy)]
 pub enum Target {
     NoTarget(u32),
     Gateway,

@@ -1,4 +1,6 @@
 // Leaf readers: bytes and their classes, words in any letter case, white space, rows of bytes, given bytes. Keywords are in crate keywords.
+#![tactic(auto)]
+
 ghost use Rattle.std.specs.Prelude.{◌≡◌, ◌<◌, ◌&&◌, not, eqb};
 ghost use Rattle.base.specs.Lists.{is_at, same};
 ghost use Rattle.megaco.specs.Bytes.{right_brace, is_letter, is_digit, is_white, is_line_end, is_comment, capital, capitals};

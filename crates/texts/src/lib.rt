@@ -1,5 +1,7 @@
 // The texts in the braces of Local and Remote, for the RTP card (document 02, CR 11): the reader hands back the part of the message that holds one, whether
 // it is Local's or Remote's, and the name of its command's termination as written.
+#![tactic(auto)]
+
 ghost use Rattle.std.specs.Prelude.{◌≡◌, ◌+◌, ◌-◌, ◌*◌, ◌≤◌};
 ghost use Rattle.read_command.specs.Pieces.{Holds};
 ghost use Rattle.read_command.specs.Places.{media_item_at, media_at, top_item_at, top_at, command_at, commands_at, action_at, actions_at, acks_at};
@@ -13,21 +15,21 @@ use read_command::{Piece, Verdict};
 const LONGEST: usize = 4096;
 
 // Who holds a text: where the command begins, and where Local or Remote does.
-#[derive(Drop)]
+#[derive(Clone, Copy)]
 pub struct Holder {
     pub command: usize,
     pub item: usize,
 }
 
 // What a search for a text finds: who holds it; or that it stands behind these parts, which end here, so many texts further on.
-#[derive(Drop)]
+#[derive(Clone, Copy)]
 pub enum Sought {
     Here(Holder),
     Behind { left: usize, end: usize },
 }
 
 // Who holds the text that is wanted, if there is one.
-#[derive(Drop)]
+#[derive(Clone, Copy)]
 pub enum Wanted {
     Held(Holder),
     NoText,

@@ -1,4 +1,6 @@
 // Words, numbers, values, names and the message identifier: readers of one token at a place.
+#![tactic(auto)]
+
 ghost use Rattle.std.specs.Prelude.{◌≡◌, ◌<◌, ◌≤◌, length, get_or};
 ghost use Rattle.megaco.specs.Bytes.{is_digit};
 ghost use Rattle.megaco.specs.White.{after};

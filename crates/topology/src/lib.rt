@@ -1,4 +1,6 @@
 // An action's topology: whom the names of its triples mean, whether one of them is refused, and the flows that they set.
+#![tactic(auto)]
+
 ghost use Rattle.std.specs.Prelude.{◌≡◌, [], ◌∷◌, eqb};
 ghost use Rattle.base.specs.Lists.{same};
 ghost use Rattle.megaco.specs.Bytes.{capital, capitals};
@@ -15,7 +17,7 @@ ghost use Rattle.topology.specs.Links.{link_from, Links, is_topology, flows_afte
 use megaco::{Checked, Direction, Name, Parsed, Party, Property};
 
 // A triple with its names looked up, and the place behind it.
-#[derive(Drop)]
+#[derive(Clone, Copy)]
 pub struct Looked {
     pub twice: bool,
     pub one: Party,

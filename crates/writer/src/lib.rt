@@ -1,4 +1,6 @@
 // Writers into a lent buffer. None goes past the buffer's end: a position at the end says that the buffer is full.
+#![tactic(auto)]
+
 ghost use Rattle.std.specs.Prelude.{◌≡◌, [], ◌∷◌, ◌+◌, ◌<◌};
 ghost use Rattle.base.specs.Bytes.{decimal};
 ghost use Rattle.base.specs.Out.{Appended, Digits};

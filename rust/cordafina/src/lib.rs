@@ -131,7 +131,7 @@
 //! # Ok::<(), cordafina::Refusal>(())
 //! ```
 //!
-//! The archive that is linked is the one that `rt staticlib cordafina` writes,
+//! The archive that is linked is the one that `rt lib` writes in crates/cordafina,
 //! or the one that the variable `CORDAFINA_LIB` names when this crate is built
 //! (from the top folder of the repository on, if the path is not absolute).
 //! Without one, `cargo check` and `cargo doc` work and warn; what is linked fails.

@@ -6,10 +6,10 @@ use borrow.Author.Rules.{rules}
 use Rattle.action_places.proofs.actions_end.Statement.{statement}
 use Rattle.action_places.proofs.actions_end.Tie as tie
 
-abbrev invariant-loop : tie.invariant-loop
+abbrev invariant-loop : tie.invariant-loop-left
 invariant-loop s most at i₀ left₀ i left = (list_p (action_at s) s most at).end ≡ (list_p (action_at s) s left i).end
 
-abbrev decreases-loop : tie.decreases-loop
+abbrev decreases-loop : tie.decreases-loop-left
 decreases-loop s most at i₀ left₀ i left = left
 
 pub actions_end_spec : {M : Type 1} → statement M

@@ -8,10 +8,10 @@ use borrow.Author.Rules.{rules}
 use Rattle.action_places.proofs.rest_of.Statement.{statement}
 use Rattle.action_places.proofs.rest_of.Tie as tie
 
-abbrev invariant-loop : tie.invariant-loop
+abbrev invariant-loop : tie.invariant-loop-n
 invariant-loop s at i₀ n₀ i n = rest_of (unlimited s) s at ≡ rest_of (length s + 1 - n) s i
 
-abbrev decreases-loop : tie.decreases-loop
+abbrev decreases-loop : tie.decreases-loop-n
 decreases-loop s at i₀ n₀ i n = length s + 1 - n
 
 pub rest_of_spec : {M : Type 1} → statement M

@@ -9,10 +9,10 @@ use borrow.Author.Rules.{rules}
 use Rattle.action_places.proofs.triples_end.Statement.{statement}
 use Rattle.action_places.proofs.triples_end.Tie as tie
 
-abbrev invariant-loop : tie.invariant-loop
+abbrev invariant-loop : tie.invariant-loop-n
 invariant-loop s at i₀ n₀ i n = (triples_at s at).end ≡ list_end (λ j. (triple_at s j).end) s (length s + 1 - n) i
 
-abbrev decreases-loop : tie.decreases-loop
+abbrev decreases-loop : tie.decreases-loop-n
 decreases-loop s at i₀ n₀ i n = length s + 1 - n
 
 pub triples_end_spec : {M : Type 1} → statement M

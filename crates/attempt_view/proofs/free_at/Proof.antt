@@ -11,7 +11,10 @@ use Rattle.attempt_view.proofs.free_at.Tie as tie
 
 free_by : (at : Context) (t : List ℕ) → free_at at t ≡ pick (is_choose at) (free_context t) 0
 unfolding free_at is_choose pick
-free_by at t = elim at [ Null ↦ refl | Numbered c ↦ refl | Choose ↦ refl | All ↦ refl ]
+free_by Null t = refl
+free_by (Numbered c) t = refl
+free_by Choose t = refl
+free_by All t = refl
 
 pub free_at_spec : {M : Type 1} → statement M
 free_at_spec =

@@ -10,4 +10,4 @@ is_match_spec =
     (λ c κs. search rules)
     (λ c κs. search rules)
     (λ c κs. search rules)
-    (λ c. unfold is_match in rw (c.before.before.in_range.ensures, c.before.exists.ensures, c.is-wanted.ensures)))
+    (λ c. unfold is_match in rw (c.in_range.ensures, c.exists.ensures, c.is_wanted.ensures)))

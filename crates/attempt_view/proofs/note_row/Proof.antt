@@ -6,10 +6,10 @@ use Rattle.attempt_view.proofs.ViewLaws.{Noting, noting_start, noting_on, noting
 use Rattle.attempt_view.proofs.note_row.Statement.{statement}
 use Rattle.attempt_view.proofs.note_row.Tie as tie
 
-abbrev invariant-loop : tie.invariant-loop
+abbrev invariant-loop : tie.invariant-loop-i
 invariant-loop lines row op c r out₀ n₀ i₀ out n i = Noting (matches_from lines op c r 0 row) out₀ (matches_from lines op c r i (drop i row)) out n i
 
-abbrev decreases-loop : tie.decreases-loop
+abbrev decreases-loop : tie.decreases-loop-i
 decreases-loop lines row op c r out₀ n₀ i₀ out n i = length row - i
 
 pub note_row_spec : {M : Type 1} → statement M
@@ -26,6 +26,6 @@ note_row_spec =
     (λ c κs. search rules)
     (λ c. search rules)
     (λ c. search rules)
-    (λ c. let k = c.before.before.before.before.before.before.before in noting_on _ _ _ _ k.before.before.before.args.row.now _ _ _ _ _ k.loop.invariant _ _ _ c.before.before.before.before.before.before.loop-test.true c.before.before.before.is-match.ensures c.before.before.note.ensures)
+    (λ c. noting_on _ _ _ _ c.args.row.now _ _ _ _ _ c.loop-i.invariant _ _ _ c.loop-i-test.true c.is_match.ensures c.note-n.ensures)
     (λ c. search rules)
     (λ c. search noting_end))

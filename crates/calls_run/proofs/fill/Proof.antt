@@ -5,10 +5,10 @@ use lib.ListN.{length}
 use Rattle.calls_run.proofs.fill.Statement.{statement}
 use Rattle.calls_run.proofs.fill.Tie as tie
 
-abbrev invariant-loop : tie.invariant-loop
+abbrev invariant-loop : tie.invariant-loop-i
 invariant-loop reply₀ n v i₀ reply i = length reply ≡ length reply₀
 
-abbrev decreases-loop : tie.decreases-loop
+abbrev decreases-loop : tie.decreases-loop-i
 decreases-loop reply₀ n v i₀ reply i = n - i
 
 pub fill_spec : {M : Type 1} → statement M

@@ -4,10 +4,10 @@ use lib.ListN.{length}
 use Rattle.calls_run.proofs.sum_bytes.Statement.{statement}
 use Rattle.calls_run.proofs.sum_bytes.Tie as tie
 
-abbrev invariant-loop : tie.invariant-loop
+abbrev invariant-loop : tie.invariant-loop-i
 invariant-loop reply sum₀ i₀ sum i = i ≤ length reply
 
-abbrev decreases-loop : tie.decreases-loop
+abbrev decreases-loop : tie.decreases-loop-i
 decreases-loop reply sum₀ i₀ sum i = length reply - i
 
 pub sum_bytes_spec : {M : Type 1} → statement M

@@ -41,10 +41,10 @@ items_end_at t = and 1 items-end-kinds.ps (is 1 items-end-kinds.ps μ-items-end 
 abbrev items_end_below : ℕ → In 1 items-end-kinds.ps
 items_end_below t = and 1 items-end-kinds.ps (falls 1 items-end-kinds.ps ◌<◌ μ-items-end t) items-end.Pre
 
-abbrev invariant-loop : items-end-lts.invariant-loop
+abbrev invariant-loop : items-end-lts.invariant-loop-n
 invariant-loop s left at i₀ n₀ i n = (items_at left s at).end ≡ list_end (λ j. (item_at (left - 1) (items_at (left - 1) s) s j).end) s (length s + 1 - n) i
 
-abbrev decreases-loop : items-end-lts.decreases-loop
+abbrev decreases-loop : items-end-lts.decreases-loop-n
 decreases-loop s left at i₀ n₀ i n = length s + 1 - n
 
 pub +item_end_items_end_spec : {M : Type 1} → statement M

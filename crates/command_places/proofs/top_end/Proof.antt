@@ -8,10 +8,10 @@ use borrow.Author.Rules.{rules}
 use Rattle.command_places.proofs.top_end.Statement.{statement}
 use Rattle.command_places.proofs.top_end.Tie as tie
 
-abbrev invariant-loop : tie.invariant-loop
+abbrev invariant-loop : tie.invariant-loop-n
 invariant-loop s at i₀ n₀ i n = (top_at s at).end ≡ list_end (λ j. (top_item_at s j).end) s (length s + 1 - n) i
 
-abbrev decreases-loop : tie.decreases-loop
+abbrev decreases-loop : tie.decreases-loop-n
 decreases-loop s at i₀ n₀ i n = length s + 1 - n
 
 pub top_end_spec : {M : Type 1} → statement M

@@ -9,4 +9,4 @@ forbidden_in_null_spec =
     (tie.spec
     (λ c κs. search rules)
     (λ c κs. search rules)
-    (λ c. unfold forbidden_in_null in rw (c.before.is-null.ensures, c.in_place.ensures)))
+    (λ c. unfold forbidden_in_null in rw (c.is_null.ensures, c.in_place.ensures)))

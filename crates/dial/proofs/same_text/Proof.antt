@@ -7,10 +7,10 @@ use borrow.Author.Rules.{rules}
 use Rattle.dial.proofs.same_text.Statement.{statement}
 use Rattle.dial.proofs.same_text.Tie as tie
 
-abbrev invariant-loop : tie.invariant-loop
+abbrev invariant-loop : tie.invariant-loop-i
 invariant-loop s form i₀ i = same s form ≡ same (drop i s) (drop i form)
 
-abbrev decreases-loop : tie.decreases-loop
+abbrev decreases-loop : tie.decreases-loop-i
 decreases-loop s form i₀ i = length s - i
 
 pub same_text_spec : {M : Type 1} → statement M

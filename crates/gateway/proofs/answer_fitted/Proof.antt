@@ -16,7 +16,7 @@ answer_fitted_spec =
     (λ c. search rules)
     (λ c. search rules)
     (λ c. search unfit_message)
-    (λ c κs. (sound_by _ _ _ _ c.before.before.before.before.before.before.before.before.before.before.before.before.before.state-fits.ensures c.before.before.before.before.before.before.before.before.before.before.before.before.if2.true, room_by _ _ _ c.before.before.before.before.before.before.before.before.before.is-sound.ensures c.before.before.before.before.before.before.before.before.if3.true, own_by _ _ c.before.before.before.before.before.before.before.is-mid.ensures c.before.before.before.before.before.before.if4.true, search rules))
+    (λ c κs. (sound_by _ _ _ _ c.state_fits.ensures c.if-state_fits.true, room_by _ _ _ c.is_sound.ensures c.if-is_sound.true, own_by _ _ c.is_mid.ensures c.if-is_mid.true, search rules))
     (λ c. search rules)
     (λ c. search rules)
     (λ c. search rules)

@@ -47,8 +47,8 @@ pub +take_groups_spec : {M : Type 1} → statement M
     (λ c. search more_nothing)
     (λ c. search more_padded)
     (λ c.
-    let b : Bytes c.before.before.before.before.before.before.before.before.before.before.before.args.s.now = bytes _ c.before.before.before.before.before.before.before.before.shared-slice-known2.given in
-    let f : Fits w32 (c.before.before.before.before.before.before.before.wide.result - 128 + 128 * c.before.before.rest.given.0.0) = search more_fits in
+    let b : Bytes c.args.s.now = bytes _ c.shared_slice_known-2-1.given in
+    let f : Fits w32 (c.wide-b.result - 128 + 128 * c.in-Got.v) = search more_fits in
     record { fits = omega (arith, f.fits) })
-    (λ c. let b : Bytes c.before.before.before.before.before.before.before.before.before.before.before.args.s.now = bytes _ c.before.before.before.before.before.before.before.before.shared-slice-known2.given in search more_fits)
+    (λ c. let b : Bytes c.args.s.now = bytes _ c.shared_slice_known-2-1.given in search more_fits)
     (λ c. search more_is)

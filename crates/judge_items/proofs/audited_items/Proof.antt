@@ -13,12 +13,12 @@ use Rattle.command_places.proofs.EndLaws.{all_end_none, all_end_last, all_end_mo
 use Rattle.judge_items.proofs.audited_items.Statement.{statement}
 use Rattle.judge_items.proofs.audited_items.Tie as tie
 
-abbrev invariant-loop : tie.invariant-loop
+abbrev invariant-loop : tie.invariant-loop-n
 invariant-loop s at i₀ n₀ seen₀ vs₀ i n seen vs =
     (audited_items (items_at 7 s at).tree false vs₀ ≡ judge_all audited_items stands (level_left 6 s n i) seen vs)
     × ((items_at 7 s at).end ≡ list_end (λ j. (item_at 6 (items_at 6 s) s j).end) s (length s + 1 - n) i)
 
-abbrev decreases-loop : tie.decreases-loop
+abbrev decreases-loop : tie.decreases-loop-n
 decreases-loop s at i₀ n₀ seen₀ vs₀ i n seen vs = length s + 1 - n
 
 pub audited_items_spec : {M : Type 1} → statement M

@@ -13,12 +13,12 @@ use borrow.Author.Rules.{rules}
 use Rattle.judge_items.proofs.media_items.Statement.{statement}
 use Rattle.judge_items.proofs.media_items.Tie as tie
 
-abbrev invariant-loop : tie.invariant-loop
+abbrev invariant-loop : tie.invariant-loop-n
 invariant-loop s at i₀ n₀ stood₀ vs₀ i n stood vs =
     (media_items (media_at s at).tree no_descriptors vs₀ ≡ judge_all media_items stood_next (media_left s n i) stood vs)
     × ((media_at s at).end ≡ list_end (λ j. (media_item_at s j).end) s (length s + 1 - n) i)
 
-abbrev decreases-loop : tie.decreases-loop
+abbrev decreases-loop : tie.decreases-loop-n
 decreases-loop s at i₀ n₀ stood₀ vs₀ i n stood vs = length s + 1 - n
 
 pub media_items_spec : {M : Type 1} → statement M

@@ -9,5 +9,5 @@ property_token_spec =
     (tie.spec
     (λ c. search rules)
     (λ c. search rules)
-    (λ c. unfold property_token in rw c.enum_told.given.1)
-    (λ c. unfold property_token in rw c.enum-told2.given.1))
+    (λ c. unfold property_token in rw c.in-InControl.is)
+    (λ c. unfold property_token in rw c.in-InState.is))

@@ -13,12 +13,12 @@ use Rattle.command_places.proofs.EndLaws.{all_end_none, all_end_last, all_end_mo
 use Rattle.judge_items.proofs.top_items.Statement.{statement}
 use Rattle.judge_items.proofs.top_items.Tie as tie
 
-abbrev invariant-loop : tie.invariant-loop
+abbrev invariant-loop : tie.invariant-loop-n
 invariant-loop s at i₀ n₀ seen₀ vs₀ i n seen vs =
     (top_items (top_at s at).tree false vs₀ ≡ judge_all top_items stands (top_left s n i) seen vs)
     × ((top_at s at).end ≡ list_end (λ j. (top_item_at s j).end) s (length s + 1 - n) i)
 
-abbrev decreases-loop : tie.decreases-loop
+abbrev decreases-loop : tie.decreases-loop-n
 decreases-loop s at i₀ n₀ seen₀ vs₀ i n seen vs = length s + 1 - n
 
 pub top_items_spec : {M : Type 1} → statement M

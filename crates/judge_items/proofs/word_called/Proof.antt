@@ -11,4 +11,4 @@ word_called_spec =
     (λ c κs. search rules)
     (λ c κs. search rules)
     (λ c κs. search rules)
-    (λ c. unfold called_in called in rw (c.before.before.before.spells.ensures, c.before.before.spells2.ensures, c.before.spells3.ensures, c.spells4.ensures)))
+    (λ c. unfold called_in called in rw (c.spells-control.ensures, c.spells-state.ensures, c.spells-local.ensures, c.spells-remote.ensures)))

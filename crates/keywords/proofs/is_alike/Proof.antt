@@ -15,5 +15,5 @@ is_alike_spec =
     (λ c κs. search rules)
     (λ c.
     unfold alike in
-    let d = c.before.before.before in
-    rw (d.before.before.front.ensures, d.before.front2.ensures, d.middle.ensures, c.before.before.middle2.ensures, c.before.back.ensures, c.back2.ensures)))
+    let d = c.before in
+    rw (d.front.ensures, d.front-2.ensures, d.middle.ensures, c.middle-2.ensures, c.back.ensures, c.back-2.ensures)))

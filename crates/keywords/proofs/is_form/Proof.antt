@@ -15,4 +15,4 @@ is_form_spec =
     (λ c κs. search rules)
     (λ c. search one_same)
     (λ c κs. search rules)
-    (λ c. let d = c.before.before.before.before.before in alike_same d.args.w.now d.args.f.now _ (λ i. omega (arith, c.before.before.before.before.shared-slice-known.given i)) (search rules) (search rules) (search rules) c.is-alike.ensures))
+    (λ c. let d = c.before in alike_same d.args.w.now d.args.f.now _ (λ i. omega (arith, c.shared_slice_known-1.given i)) (search rules) (search rules) (search rules) c.is_alike.ensures))

@@ -7,10 +7,10 @@ use Rattle.names.proofs.NameLaws.{has_on, has_here, has_end}
 use Rattle.names.proofs.has_byte.Statement.{statement}
 use Rattle.names.proofs.has_byte.Tie as tie
 
-abbrev invariant-loop : tie.invariant-loop
+abbrev invariant-loop : tie.invariant-loop-i
 invariant-loop n b i₀ i = has b n ≡ has b (drop i n)
 
-abbrev decreases-loop : tie.decreases-loop
+abbrev decreases-loop : tie.decreases-loop-i
 decreases-loop n b i₀ i = length n - i
 
 pub has_byte_spec : {M : Type 1} → statement M

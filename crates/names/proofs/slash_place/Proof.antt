@@ -9,10 +9,10 @@ use Rattle.names.proofs.NameLaws.{before_on, before_here, before_end}
 use Rattle.names.proofs.slash_place.Statement.{statement}
 use Rattle.names.proofs.slash_place.Tie as tie
 
-abbrev invariant-loop : tie.invariant-loop
+abbrev invariant-loop : tie.invariant-loop-i
 invariant-loop n i₀ i = (i ≤ length n) × (length (before slash n) ≡ i + length (before slash (drop i n)))
 
-abbrev decreases-loop : tie.decreases-loop
+abbrev decreases-loop : tie.decreases-loop-i
 decreases-loop n i₀ i = length n - i
 
 pub slash_place_spec : {M : Type 1} → statement M

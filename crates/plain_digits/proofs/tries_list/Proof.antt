@@ -4,10 +4,10 @@ use borrow.Author.Rules.{rules}
 use Rattle.plain_digits.proofs.tries_list.Statement.{statement}
 use Rattle.plain_digits.proofs.tries_list.Tie as tie
 
-abbrev invariant-loop : tie.invariant-loop
+abbrev invariant-loop : tie.invariant-loop-left
 invariant-loop s string matched₀ longer₀ i₀ left₀ matched longer i left = TriesHere s (symbols_of string) i left matched longer
 
-abbrev decreases-loop : tie.decreases-loop
+abbrev decreases-loop : tie.decreases-loop-left
 decreases-loop s string matched₀ longer₀ i₀ left₀ matched longer i left = left
 
 pub tries_list_spec : {M : Type 1} → statement M

@@ -9,4 +9,4 @@ line_length_spec =
     tie.close
     (tie.spec
     (λ c κs. search rules)
-    (λ c. (omega arith, omega (arith, length_before 10 c.before.before.args.s.now))))
+    (λ c. (omega arith, omega (arith, length_before 10 c.args.s.now))))

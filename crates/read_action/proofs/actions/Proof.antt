@@ -6,10 +6,10 @@ use borrow.Author.Rules.{rules}
 use Rattle.read_action.proofs.actions.Statement.{statement}
 use Rattle.read_action.proofs.actions.Tie as tie
 
-abbrev invariant-loop : tie.invariant-loop
+abbrev invariant-loop : tie.invariant-loop-left
 invariant-loop s at i₀ left₀ i left = (actions_at s at).place ≡ list_at (λ j. (action_at s j).place) s left i
 
-abbrev decreases-loop : tie.decreases-loop
+abbrev decreases-loop : tie.decreases-loop-left
 decreases-loop s at i₀ left₀ i left = left
 
 pub actions_spec : {M : Type 1} → statement M

@@ -7,10 +7,10 @@ use borrow.Author.Rules.{rules}
 use Rattle.read_action.proofs.body.Statement.{statement}
 use Rattle.read_action.proofs.body.Tie as tie
 
-abbrev invariant-loop : tie.invariant-loop
+abbrev invariant-loop : tie.invariant-loop-f
 invariant-loop s at i₀ i = Goes (body_at (unlimited s) s at).place s i
 
-abbrev decreases-loop : tie.decreases-loop
+abbrev decreases-loop : tie.decreases-loop-f
 decreases-loop s at i₀ i = length s - i
 
 pub body_spec : {M : Type 1} → statement M

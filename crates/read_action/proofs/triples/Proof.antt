@@ -7,10 +7,10 @@ use borrow.Author.Rules.{rules}
 use Rattle.read_action.proofs.triples.Statement.{statement}
 use Rattle.read_action.proofs.triples.Tie as tie
 
-abbrev invariant-loop : tie.invariant-loop
+abbrev invariant-loop : tie.invariant-loop-q
 invariant-loop s at i₀ i = Goes (triples_at s at).place (λ j. (triple_at s j).place) s i
 
-abbrev decreases-loop : tie.decreases-loop
+abbrev decreases-loop : tie.decreases-loop-q
 decreases-loop s at i₀ i = length s - i
 
 pub triples_spec : {M : Type 1} → statement M

@@ -54,10 +54,10 @@ items_at_lem t = and 1 items-kinds.ps (is 1 items-kinds.ps μ-items t) items.Pre
 abbrev items_below : ℕ → In 1 items-kinds.ps
 items_below t = and 1 items-kinds.ps (falls 1 items-kinds.ps ◌<◌ μ-items t) items.Pre
 
-abbrev invariant-loop : items-lts.invariant-loop
+abbrev invariant-loop : items-lts.invariant-loop-q
 invariant-loop s left at i₀ i = (at ≤ i) × GoesOn (items_at (suc left) s at).place left s i
 
-abbrev decreases-loop : items-lts.decreases-loop
+abbrev decreases-loop : items-lts.decreases-loop-q
 decreases-loop s left at i₀ i = length s - i
 
 pub +braced_items_item_items_spec : {M : Type 1} → statement M

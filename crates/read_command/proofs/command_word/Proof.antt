@@ -8,4 +8,4 @@ command_word_spec =
     (tie.spec
     (λ c κs. search rules)
     (λ c κs. search rules)
-    (λ c. rw (← c.before.order-start.ensures) (search rules)))
+    (λ c. rw (← c.order_start-o.ensures) (search rules)))

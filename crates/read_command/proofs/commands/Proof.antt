@@ -6,10 +6,10 @@ use borrow.Author.Rules.{rules}
 use Rattle.read_command.proofs.commands.Statement.{statement}
 use Rattle.read_command.proofs.commands.Tie as tie
 
-abbrev invariant-loop : tie.invariant-loop
+abbrev invariant-loop : tie.invariant-loop-left
 invariant-loop s at i₀ left₀ i left = (commands_at s at).place ≡ list_at (λ j. (command_at s j).place) s left i
 
-abbrev decreases-loop : tie.decreases-loop
+abbrev decreases-loop : tie.decreases-loop-left
 decreases-loop s at i₀ left₀ i left = left
 
 pub commands_spec : {M : Type 1} → statement M

@@ -10,4 +10,4 @@ is_property_spec =
     (λ c κs. search rules)
     (λ c κs. search rules)
     (λ c κs. search rules)
-    (λ c. unfold is_property in rw (c.before.before.spells.ensures, c.before.spells2.ensures, c.spells3.ensures)))
+    (λ c. unfold is_property in rw (c.spells.ensures, c.spells-2.ensures, c.spells-3.ensures)))

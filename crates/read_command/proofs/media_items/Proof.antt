@@ -7,10 +7,10 @@ use borrow.Author.Rules.{rules}
 use Rattle.read_command.proofs.media_items.Statement.{statement}
 use Rattle.read_command.proofs.media_items.Tie as tie
 
-abbrev invariant-loop : tie.invariant-loop
+abbrev invariant-loop : tie.invariant-loop-q
 invariant-loop s at i₀ i = MediaGoes (media_at s at).place s i
 
-abbrev decreases-loop : tie.decreases-loop
+abbrev decreases-loop : tie.decreases-loop-q
 decreases-loop s at i₀ i = length s - i
 
 pub media_items_spec : {M : Type 1} → statement M

@@ -10,4 +10,4 @@ order_start_spec =
     (tie.spec
     (λ c κs. search rules)
     (λ c κs. search rules)
-    (λ c. unfold order_start in rw (← c.before.prefix-end.ensures) (search steps)))
+    (λ c. unfold order_start in rw (← c.prefix_end-o.ensures) (search steps)))

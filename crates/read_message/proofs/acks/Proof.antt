@@ -7,10 +7,10 @@ use borrow.Author.Rules.{rules}
 use Rattle.read_message.proofs.acks.Statement.{statement}
 use Rattle.read_message.proofs.acks.Tie as tie
 
-abbrev invariant-loop : tie.invariant-loop
+abbrev invariant-loop : tie.invariant-loop-q
 invariant-loop s at i₀ i = Goes (acks_at s at).place (λ j. (ack_at s j).place) s i
 
-abbrev decreases-loop : tie.decreases-loop
+abbrev decreases-loop : tie.decreases-loop-q
 decreases-loop s at i₀ i = length s - i
 
 pub acks_spec : {M : Type 1} → statement M

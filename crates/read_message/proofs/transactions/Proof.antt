@@ -5,10 +5,10 @@ use borrow.Author.Rules.{rules}
 use Rattle.read_message.proofs.transactions.Statement.{statement}
 use Rattle.read_message.proofs.transactions.Tie as tie
 
-abbrev invariant-loop : tie.invariant-loop
+abbrev invariant-loop : tie.invariant-loop-left
 invariant-loop s at i₀ left₀ i left = (transactions_at 8 s at).verdict ≡ (transactions_at left s i).verdict
 
-abbrev decreases-loop : tie.decreases-loop
+abbrev decreases-loop : tie.decreases-loop-left
 decreases-loop s at i₀ left₀ i left = left
 
 pub transactions_spec : {M : Type 1} → statement M

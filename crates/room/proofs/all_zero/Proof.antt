@@ -9,10 +9,10 @@ use Rattle.room.proofs.RoomLaws.{zero_on, zero_end}
 use Rattle.room.proofs.all_zero.Statement.{statement}
 use Rattle.room.proofs.all_zero.Tie as tie
 
-abbrev invariant-loop : tie.invariant-loop
+abbrev invariant-loop : tie.invariant-loop-i
 invariant-loop row good₀ i₀ good i = every is_zero row ≡ (good && every is_zero (drop i row))
 
-abbrev decreases-loop : tie.decreases-loop
+abbrev decreases-loop : tie.decreases-loop-i
 decreases-loop row good₀ i₀ good i = length row - i
 
 pub all_zero_spec : {M : Type 1} → statement M

@@ -8,10 +8,10 @@ use Rattle.room.proofs.KeepLaws.{Cut, cut_begin, range_out, range_in, range_stop
 use Rattle.room.proofs.drop_range.Statement.{statement}
 use Rattle.room.proofs.drop_range.Tie as tie
 
-abbrev invariant-loop : tie.invariant-loop
+abbrev invariant-loop : tie.invariant-loop-i
 invariant-loop words₀ bytes mid first last p₀ i₀ words p i = (length words ≡ length words₀) × Cut (room words₀ bytes) (acked mid first last) words p i
 
-abbrev decreases-loop : tie.decreases-loop
+abbrev decreases-loop : tie.decreases-loop-i
 decreases-loop words₀ bytes mid first last p₀ i₀ words p i = 16 - i
 
 pub drop_range_spec : {M : Type 1} → statement M
@@ -28,11 +28,11 @@ drop_range_spec =
     (λ c κs. search rules)
     (λ c. search rules)
     (λ c. search rules)
-    (λ c. (search rules, let k = c.before.before.before.before in let g = k.before.before.before in range_out _ _ _ _ _ _ _ _ g.loop.invariant.1 k.before.before.loop-test.true _ k.word_at.ensures c.before.before.before.if1.false _ c.before.is-acked.ensures c.if2.true))
+    (λ c. (search rules, range_out _ _ _ _ _ _ _ _ c.loop-i.invariant.1 c.loop-i-test.true _ c.word_at-n.ensures c.if-n-eq0.false _ c.is_acked.ensures c.if-is_acked.true))
     (λ c κs. search rules)
     (λ c. search rules)
     (λ c. search rules)
-    (λ c. (search rules, let a = c.before.before in let d = a.before.before in let k = d.before.before.before.before in let g = k.before.before.before in range_in _ _ _ _ _ _ _ _ g.loop.invariant.1 k.before.before.loop-test.true _ k.word_at.ensures d.before.before.before.if1.false _ d.before.is-acked.ensures d.if2.false _ _ a.put_word.ensures))
+    (λ c. (search rules, range_in _ _ _ _ _ _ _ _ c.loop-i.invariant.1 c.loop-i-test.true _ c.word_at-n.ensures c.if-n-eq0.false _ c.is_acked.ensures c.if-is_acked.false _ _ c.put_word-p.ensures))
     (λ c κs. search rules)
     (λ c. search rules)
     (λ c. search range_end))

@@ -8,10 +8,10 @@ use Rattle.room.proofs.RoomLaws.{has_on, has_end}
 use Rattle.room.proofs.has_word.Statement.{statement}
 use Rattle.room.proofs.has_word.Tie as tie
 
-abbrev invariant-loop : tie.invariant-loop
+abbrev invariant-loop : tie.invariant-loop-i
 invariant-loop row n found₀ i₀ found i = has n row ≡ (found || has n (drop i row))
 
-abbrev decreases-loop : tie.decreases-loop
+abbrev decreases-loop : tie.decreases-loop-i
 decreases-loop row n found₀ i₀ found i = length row - i
 
 pub has_word_spec : {M : Type 1} → statement M

@@ -9,10 +9,10 @@ use Rattle.room.proofs.RoomLaws.{ids_begin, ids_on, ids_end}
 use Rattle.room.proofs.put_ids.Statement.{statement}
 use Rattle.room.proofs.put_ids.Tie as tie
 
-abbrev invariant-loop : tie.invariant-loop
+abbrev invariant-loop : tie.invariant-loop-i
 invariant-loop row words bytes out₀ p₀ i₀ out p i = Appended out₀ 0 (take i (map (slot_id (room words bytes)) row)) out p
 
-abbrev decreases-loop : tie.decreases-loop
+abbrev decreases-loop : tie.decreases-loop-i
 decreases-loop row words bytes out₀ p₀ i₀ out p i = length row - i
 
 pub put_ids_spec : {M : Type 1} → statement M

@@ -8,10 +8,10 @@ use Rattle.room.proofs.RoomLaws.{whole_begin, whole_on}
 use Rattle.room.proofs.put_whole.Statement.{statement}
 use Rattle.room.proofs.put_whole.Tie as tie
 
-abbrev invariant-loop : tie.invariant-loop
+abbrev invariant-loop : tie.invariant-loop-i
 invariant-loop out₀ at s i₀ out i = (length out ≡ length out₀) × (i ≤ length s) × Appended out₀ at (take i s) out (at + i)
 
-abbrev decreases-loop : tie.decreases-loop
+abbrev decreases-loop : tie.decreases-loop-i
 decreases-loop out₀ at s i₀ out i = length s - i
 
 pub put_whole_spec : {M : Type 1} → statement M

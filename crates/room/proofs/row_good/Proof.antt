@@ -7,10 +7,10 @@ use Rattle.room.proofs.RoomLaws.{row_zero, row_bad, row_on, row_end, ids_behind}
 use Rattle.room.proofs.row_good.Statement.{statement}
 use Rattle.room.proofs.row_good.Tie as tie
 
-abbrev invariant-loop : tie.invariant-loop
+abbrev invariant-loop : tie.invariant-loop-i
 invariant-loop row ids words bytes i₀ i = row_good (room words bytes) row ≡ row_good (room words bytes) (drop i row)
 
-abbrev decreases-loop : tie.decreases-loop
+abbrev decreases-loop : tie.decreases-loop-i
 decreases-loop row ids words bytes i₀ i = length row - i
 
 pub row_good_spec : {M : Type 1} → statement M

@@ -11,4 +11,4 @@ slot_fits_spec =
     (λ c κs. search rules)
     (λ c. search rules)
     (λ c κs. search rules)
-    (λ c. unfold slot_fits in rw (c.before.word_at.ensures, c.word-at2.ensures)))
+    (λ c. unfold slot_fits in rw (c.word_at.ensures, c.word_at-2.ensures)))

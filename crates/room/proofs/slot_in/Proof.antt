@@ -7,10 +7,10 @@ use Rattle.room.proofs.RoomLaws.{find_none, find_here, find_on, find_end}
 use Rattle.room.proofs.slot_in.Statement.{statement}
 use Rattle.room.proofs.slot_in.Tie as tie
 
-abbrev invariant-loop : tie.invariant-loop
+abbrev invariant-loop : tie.invariant-loop-i
 invariant-loop row words bytes mid id i₀ i = slot_in (room words bytes) mid id row ≡ slot_in (room words bytes) mid id (drop i row)
 
-abbrev decreases-loop : tie.decreases-loop
+abbrev decreases-loop : tie.decreases-loop-i
 decreases-loop row words bytes mid id i₀ i = length row - i
 
 pub slot_in_spec : {M : Type 1} → statement M

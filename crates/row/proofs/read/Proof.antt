@@ -16,6 +16,6 @@ read_spec =
     (λ c. search (read_size, not-false))
     (λ c κs. (search (count_lines, not-false), search rules))
     (λ c. search rules)
-    (λ c. let b : Bytes c.before.before.before.before.before.before.before.before.before.before.before.args.row.now = bytes _ c.before.before.before.before.before.before.before.before.before.before.shared-slice-known.given in search (read_row, not-false))
+    (λ c. let b : Bytes c.args.row.now = bytes _ c.shared_slice_known-1.given in search (read_row, not-false))
     (λ c. search rules)
     (λ c. search (read_none, not-false)))

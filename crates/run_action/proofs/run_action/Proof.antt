@@ -20,4 +20,4 @@ run_action_spec =
     (λ c. search rules)
     (λ c. search rules)
     (λ c. search rules)
-    (λ c. (action_acts _ _ _ _ _ _ _ _ _ _ _ _ _ _ _ c.before.before.before.before.before.before.before.before.before.before.before.before.before.before.before.before.before.action-places.ensures c.before.before.before.before.before.before.before.before.before.before.before.before.before.before.before.before.rest_of.ensures refl c.before.before.before.before.before.before.before.before.before.before.before.before.run-inner.ensures.0 c.before.before.before.put-action.ensures c.before.before.before.before.before.before.before.before.before.before.before.before.before.before.before.before.before.before.before.before.before.before.requires.1, search action_ends)))
+    (λ c. (action_acts _ _ _ _ _ _ _ _ _ _ _ _ _ _ _ c.action_places-a.ensures c.rest_of-rest.ensures refl c.run_inner-x.ensures.0 c.put_action-q.ensures c.requires.1, search action_ends)))

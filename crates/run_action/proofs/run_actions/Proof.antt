@@ -12,12 +12,12 @@ use Rattle.run_action.proofs.ActsLaws.{Leads, begins, acts_sound, actions_none, 
 use Rattle.run_action.proofs.run_actions.Statement.{statement}
 use Rattle.run_action.proofs.run_actions.Tie as tie
 
-abbrev invariant-loop : tie.invariant-loop
+abbrev invariant-loop : tie.invariant-loop-left
 invariant-loop s from table₀ blocks₀ out₀ p i₀ left₀ q₀ f₀ table blocks out i left q f =
     (length table ≡ length table₀) × (length blocks ≡ length blocks₀) × (length out ≡ length out₀) × (sound table ≡ true) × ((actions_at s from).end ≡ (list_p (action_at s) s left i).end)
     × Leads (run_actions (actions_at s from).tree true (state table₀ blocks₀)) out₀ p (run_actions (list_p (action_at s) s left i).tree f (state table blocks)) out q
 
-abbrev decreases-loop : tie.decreases-loop
+abbrev decreases-loop : tie.decreases-loop-left
 decreases-loop s from table₀ blocks₀ out₀ p i₀ left₀ q₀ f₀ table blocks out i left q f = left
 
 pub run_actions_spec : {M : Type 1} → statement M

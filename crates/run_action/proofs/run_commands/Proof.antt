@@ -13,13 +13,13 @@ use Rattle.run_action.proofs.RunLaws.{loop-none, loop-stop, loop-last, loop-more
 use Rattle.run_action.proofs.run_commands.Statement.{statement}
 use Rattle.run_action.proofs.run_commands.Tie as tie
 
-abbrev invariant-loop : tie.invariant-loop
+abbrev invariant-loop : tie.invariant-loop-left
 invariant-loop s from table₀ blocks₀ out₀ i₀ left₀ here₀ table blocks out i left here =
     (length table ≡ length table₀) × (length blocks ≡ length blocks₀) × (length out ≡ length out₀) × ((commands_at s from).end ≡ (list_p (command_at s) s left i).end)
     × Leads (run_commands (commands_at s from).tree here₀.given here₀.at (state table₀ blocks₀)) here₀.first out₀ here₀.next true
     (run_commands (list_p (command_at s) s left i).tree here.given here.at (state table blocks)) here.first out here.next
 
-abbrev decreases-loop : tie.decreases-loop
+abbrev decreases-loop : tie.decreases-loop-left
 decreases-loop s from table₀ blocks₀ out₀ i₀ left₀ here₀ table blocks out i left here = left
 
 pub run_commands_spec : {M : Type 1} → statement M

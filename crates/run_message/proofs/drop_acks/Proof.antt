@@ -9,11 +9,11 @@ use Rattle.run_message.proofs.ServeLaws.{Dropping, drop_begins, none_dropped, no
 use Rattle.run_message.proofs.drop_acks.Statement.{statement}
 use Rattle.run_message.proofs.drop_acks.Tie as tie
 
-abbrev invariant-loop : tie.invariant-loop
+abbrev invariant-loop : tie.invariant-loop-n
 invariant-loop s at mid words₀ bytes i₀ n₀ words i n =
     (length words ≡ length words₀) × Dropping (drop_all mid (acks_at s at).tree (room words₀ bytes)) (acks_at s at).end mid s n i (room words bytes)
 
-abbrev decreases-loop : tie.decreases-loop
+abbrev decreases-loop : tie.decreases-loop-n
 decreases-loop s at mid words₀ bytes i₀ n₀ words i n = length s + 1 - n
 
 pub drop_acks_spec : {M : Type 1} → statement M

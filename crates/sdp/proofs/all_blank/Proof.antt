@@ -8,10 +8,10 @@ use borrow.Author.Rules.{rules}
 use Rattle.sdp.proofs.all_blank.Statement.{statement}
 use Rattle.sdp.proofs.all_blank.Tie as tie
 
-abbrev invariant-loop : tie.invariant-loop
+abbrev invariant-loop : tie.invariant-loop-i
 invariant-loop l i₀ i = every is_blank l ≡ every is_blank (drop i l)
 
-abbrev decreases-loop : tie.decreases-loop
+abbrev decreases-loop : tie.decreases-loop-i
 decreases-loop l i₀ i = length l - i
 
 pub all_blank_spec : {M : Type 1} → statement M

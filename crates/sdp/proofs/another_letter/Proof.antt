@@ -12,4 +12,4 @@ another_letter_spec =
     (λ c κs. search rules)
     (λ c κs. search rules)
     (λ c κs. search rules)
-    (λ c. unfold another_letter in let d = c.before.before.before.before in rw (d.letter_at.ensures, c.before.before.before.is_at.ensures, c.before.before.is-at2.ensures, c.before.is-at3.ensures, c.is-at4.ensures)))
+    (λ c. unfold another_letter in rw (c.letter_at.ensures, c.is_at.ensures, c.is_at-2.ensures, c.is_at-3.ensures, c.is_at-4.ensures)))

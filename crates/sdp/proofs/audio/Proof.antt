@@ -9,7 +9,6 @@ pub audio_spec : {M : Type 1} → statement M
 audio_spec =
     tie.close
     (tie.spec
-    (λ c. search rules)
     (λ c κs. search rules)
     (λ c κs. search rules)
     (λ c κs. search rules)

@@ -9,7 +9,6 @@ pub connection_spec : {M : Type 1} → statement M
 connection_spec =
     tie.close
     (tie.spec
-    (λ c. search rules)
     (λ c κs. search rules)
     (λ c κs. search rules)
     (λ c. search rules)

@@ -7,10 +7,10 @@ use borrow.Author.Rules.{rules}
 use Rattle.sdp.proofs.given.Statement.{statement}
 use Rattle.sdp.proofs.given.Tie as tie
 
-abbrev invariant-loop : tie.invariant-loop
+abbrev invariant-loop : tie.invariant-loop-j
 invariant-loop s at form i₀ j₀ i j = given_at form s at ≡ begins (drop j form) (drop i s)
 
-abbrev decreases-loop : tie.decreases-loop
+abbrev decreases-loop : tie.decreases-loop-j
 decreases-loop s at form i₀ j₀ i j = length form - j
 
 pub given_spec : {M : Type 1} → statement M

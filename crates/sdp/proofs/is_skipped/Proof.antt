@@ -9,4 +9,4 @@ is_skipped_spec =
     (tie.spec
     (λ c κs. search rules)
     (λ c κs. search rules)
-    (λ c. unfold is_skipped in rw (c.before.all-blank.ensures, c.another-letter.ensures)))
+    (λ c. unfold is_skipped in rw (c.all_blank.ensures, c.another_letter.ensures)))

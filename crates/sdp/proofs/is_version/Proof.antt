@@ -7,6 +7,5 @@ pub is_version_spec : {M : Type 1} → statement M
 is_version_spec =
     tie.close
     (tie.spec
-    (λ c. search rules)
     (λ c κs. search rules)
     (λ c. search version_by))

@@ -7,10 +7,10 @@ use borrow.Author.Rules.{rules}
 use Rattle.sdp.proofs.line_end.Statement.{statement}
 use Rattle.sdp.proofs.line_end.Tie as tie
 
-abbrev invariant-loop : tie.invariant-loop
+abbrev invariant-loop : tie.invariant-loop-i
 invariant-loop s at i₀ i = line_end s at ≡ line_end s i
 
-abbrev decreases-loop : tie.decreases-loop
+abbrev decreases-loop : tie.decreases-loop-i
 decreases-loop s at i₀ i = length s - i
 
 pub line_end_spec : {M : Type 1} → statement M

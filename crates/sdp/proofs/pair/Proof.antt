@@ -13,7 +13,6 @@ pair_spec =
     (λ c. search rules)
     (λ c. search rules)
     (λ c. unfold dotted_pair_at in search joined_none)
-    (λ c. search rules)
     (λ c κs. search rules)
     (λ c. search (given_fits, lit<))
     (λ c κs. search rules)

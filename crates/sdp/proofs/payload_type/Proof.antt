@@ -11,7 +11,6 @@ payload_type_spec =
     (λ c. search rules)
     (λ c. search rules)
     (λ c. search type_bad)
-    (λ c. search rules)
     (λ c κs. search rules)
     (λ c. search (given_fits, lit<))
     (λ c κs. search rules)

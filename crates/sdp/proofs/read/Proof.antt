@@ -5,10 +5,10 @@ use borrow.Author.Rules.{rules}
 use Rattle.sdp.proofs.read.Statement.{statement}
 use Rattle.sdp.proofs.read.Tie as tie
 
-abbrev invariant-loop : tie.invariant-loop
+abbrev invariant-loop : tie.invariant-loop-i
 invariant-loop s seen₀ i₀ seen i = Reads s i seen
 
-abbrev decreases-loop : tie.decreases-loop
+abbrev decreases-loop : tie.decreases-loop-i
 decreases-loop s seen₀ i₀ seen i = length s - i
 
 pub read_spec : {M : Type 1} → statement M

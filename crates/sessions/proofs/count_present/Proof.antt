@@ -11,10 +11,10 @@ use Rattle.sessions.proofs.EachLaws.{present_on, present_end}
 use Rattle.sessions.proofs.count_present.Statement.{statement}
 use Rattle.sessions.proofs.count_present.Tie as tie
 
-abbrev invariant-loop : tie.invariant-loop
+abbrev invariant-loop : tie.invariant-loop-i
 invariant-loop records n₀ i₀ n i = (n ≤ i) × (present records ≡ n + present (drop i records))
 
-abbrev decreases-loop : tie.decreases-loop
+abbrev decreases-loop : tie.decreases-loop-i
 decreases-loop records n₀ i₀ n i = length records - i
 
 pub count_present_spec : {M : Type 1} → statement M
@@ -27,8 +27,8 @@ count_present_spec =
     (λ c. search rules)
     (λ c. search rules)
     (λ c. search rules)
-    (λ c. let k = c.before.before in omega (arith, bit_small (not (eqb (get_or k.before.args.records.now k.loop.i 0) 0))))
+    (λ c. omega (arith, bit_small (not (eqb (get_or c.args.records.now c.loop-i.i 0) 0))))
     (λ c. search rules)
     (λ c. search rules)
-    (λ c. let k = c.before.before in (omega (arith, bit_small (not (eqb (get_or k.before.args.records.now k.loop.i 0) 0))), search present_on))
+    (λ c. (omega (arith, bit_small (not (eqb (get_or c.args.records.now c.loop-i.i 0) 0))), search present_on))
     (λ c. search present_end))

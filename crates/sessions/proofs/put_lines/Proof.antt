@@ -6,10 +6,10 @@ use Rattle.sessions.proofs.EachLaws.{Leads, begin, each_on, each_end}
 use Rattle.sessions.proofs.put_lines.Statement.{statement}
 use Rattle.sessions.proofs.put_lines.Tie as tie
 
-abbrev invariant-loop : tie.invariant-loop
+abbrev invariant-loop : tie.invariant-loop-i
 invariant-loop out₀ at lines row records p₀ i₀ out p i = Leads out₀ at (context_lines lines row records) out p (each (context_line lines row) (i + 1) (drop i records))
 
-abbrev decreases-loop : tie.decreases-loop
+abbrev decreases-loop : tie.decreases-loop-i
 decreases-loop out₀ at lines row records p₀ i₀ out p i = length records - i
 
 pub put_lines_spec : {M : Type 1} → statement M

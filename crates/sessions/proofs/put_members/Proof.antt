@@ -6,10 +6,10 @@ use Rattle.sessions.proofs.EachLaws.{Leads, begin, each_on, each_end}
 use Rattle.sessions.proofs.put_members.Statement.{statement}
 use Rattle.sessions.proofs.put_members.Tie as tie
 
-abbrev invariant-loop : tie.invariant-loop
+abbrev invariant-loop : tie.invariant-loop-i
 invariant-loop out₀ at lines c row p₀ i₀ out p i = Leads out₀ at (members_text lines c row) out p (each (member_text lines c) i (drop i row))
 
-abbrev decreases-loop : tie.decreases-loop
+abbrev decreases-loop : tie.decreases-loop-i
 decreases-loop out₀ at lines c row p₀ i₀ out p i = length row - i
 
 pub put_members_spec : {M : Type 1} → statement M

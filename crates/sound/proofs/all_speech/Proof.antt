@@ -8,10 +8,10 @@ use borrow.Author.Rules.{rules}
 use Rattle.sound.proofs.all_speech.Statement.{statement}
 use Rattle.sound.proofs.all_speech.Tie as tie
 
-abbrev invariant-loop : tie.invariant-loop
+abbrev invariant-loop : tie.invariant-loop-b
 invariant-loop row speech good₀ b₀ good b = speech_is_sound row speech ≡ (good && speech_is_sound (drop (16 * b) row) (drop (128 * b) speech))
 
-abbrev decreases-loop : tie.decreases-loop
+abbrev decreases-loop : tie.decreases-loop-b
 decreases-loop row speech good₀ b₀ good b = 4 - b
 
 pub all_speech_spec : {M : Type 1} → statement M

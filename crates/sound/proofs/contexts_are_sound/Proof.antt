@@ -6,10 +6,10 @@ use Rattle.sound.proofs.SoundLaws.{Counting, counting_start, counting_on, counti
 use Rattle.sound.proofs.contexts_are_sound.Statement.{statement}
 use Rattle.sound.proofs.contexts_are_sound.Tie as tie
 
-abbrev invariant-loop : tie.invariant-loop
+abbrev invariant-loop : tie.invariant-loop-i
 invariant-loop row records flows counters₀ i₀ counters i = Counting row counters i
 
-abbrev decreases-loop : tie.decreases-loop
+abbrev decreases-loop : tie.decreases-loop-i
 decreases-loop row records flows counters₀ i₀ counters i = length row - i
 
 pub contexts_are_sound_spec : {M : Type 1} → statement M
@@ -34,6 +34,6 @@ contexts_are_sound_spec =
     (λ c κs. search rules)
     (λ c. search rules)
     (λ c. search counting_nulls)
-    (λ c. sym c.before.before.loop.invariant.long)
+    (λ c. sym c.loop-i.invariant.long)
     (λ c κs. search rules)
     (λ c. search counting_end))

@@ -8,10 +8,10 @@ use borrow.Author.Rules.{rules}
 use Rattle.sound.proofs.each_fits.Statement.{statement}
 use Rattle.sound.proofs.each_fits.Tie as tie
 
-abbrev invariant-loop : tie.invariant-loop
+abbrev invariant-loop : tie.invariant-loop-k
 invariant-loop counters i flows good₀ k₀ good k = flows_fit counters (i + 1) flows ≡ (good && flows_fit counters (i + k + 1) (drop (2 * k) flows))
 
-abbrev decreases-loop : tie.decreases-loop
+abbrev decreases-loop : tie.decreases-loop-k
 decreases-loop counters i flows good₀ k₀ good k = 16 - k
 
 pub each_fits_spec : {M : Type 1} → statement M

@@ -8,10 +8,10 @@ use borrow.Author.Rules.{rules}
 use Rattle.sound.proofs.each_speech.Statement.{statement}
 use Rattle.sound.proofs.each_speech.Tie as tie
 
-abbrev invariant-loop : tie.invariant-loop
+abbrev invariant-loop : tie.invariant-loop-k
 invariant-loop row speech good₀ k₀ good k = speech_is_sound row speech ≡ (good && speech_is_sound (drop k row) (drop (8 * k) speech))
 
-abbrev decreases-loop : tie.decreases-loop
+abbrev decreases-loop : tie.decreases-loop-k
 decreases-loop row speech good₀ k₀ good k = 16 - k
 
 pub each_speech_spec : {M : Type 1} → statement M

@@ -8,4 +8,4 @@ ephemeral_is_sound_spec =
     tie.close
     (tie.spec
     (λ c κs. search rules)
-    (λ c. unfold ephemeral_is_sound in rw c.is-property-word.ensures))
+    (λ c. unfold ephemeral_is_sound in rw c.is_property_word.ensures))

@@ -9,11 +9,11 @@ use Rattle.sound.proofs.SoundLaws.{pair_on, pair_end}
 use Rattle.sound.proofs.ephemerals_are_sound.Statement.{statement}
 use Rattle.sound.proofs.ephemerals_are_sound.Tie as tie
 
-abbrev invariant-loop : tie.invariant-loop
+abbrev invariant-loop : tie.invariant-loop-i
 invariant-loop row properties good₀ i₀ good i =
     (every is_property_word properties && absent_are_zero row properties) ≡ (good && (every is_property_word (drop i properties) && absent_are_zero (drop i row) (drop i properties)))
 
-abbrev decreases-loop : tie.decreases-loop
+abbrev decreases-loop : tie.decreases-loop-i
 decreases-loop row properties good₀ i₀ good i = length row - i
 
 pub ephemerals_are_sound_spec : {M : Type 1} → statement M

@@ -8,4 +8,4 @@ fits_spec =
     (tie.spec
     (λ c κs. search rules)
     (λ c κs. search rules)
-    (λ c. rw (c.flows-fit.ensures, c.before.records-fit.ensures)))
+    (λ c. rw (c.flows_fit.ensures, c.records_fit.ensures)))

@@ -8,10 +8,10 @@ use borrow.Author.Rules.{rules}
 use Rattle.sound.proofs.flows_fit.Statement.{statement}
 use Rattle.sound.proofs.flows_fit.Tie as tie
 
-abbrev invariant-loop : tie.invariant-loop
+abbrev invariant-loop : tie.invariant-loop-b
 invariant-loop counters flows good₀ b₀ good b = flows_fit counters 1 flows ≡ (good && flows_fit counters (16 * b + 1) (drop (32 * b) flows))
 
-abbrev decreases-loop : tie.decreases-loop
+abbrev decreases-loop : tie.decreases-loop-b
 decreases-loop counters flows good₀ b₀ good b = 8 - b
 
 pub flows_fit_spec : {M : Type 1} → statement M

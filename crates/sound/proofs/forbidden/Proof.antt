@@ -1,6 +1,7 @@
 use Rattle.megaco.specs.Square.{bits, may_flow}
 use Rattle.sound.specs.Parts.{forbidden_bits, forbidden_rows, forbidden_row}
 use Rattle.sound.proofs.FlowLaws.{forbidden_rest}
+use borrow.Author.Rules.{rules}
 use Rattle.sound.proofs.forbidden.Statement.{statement}
 use Rattle.sound.proofs.forbidden.Tie as tie
 
@@ -9,12 +10,12 @@ unfolding bits forbidden_bits forbidden_rows forbidden_row may_flow
 forbidden_spec =
     tie.close
     (tie.spec
-    (λ c. rw c.match.keys1)
-    (λ c. rw c.match.keys2)
-    (λ c. rw c.match.keys3)
-    (λ c. rw c.match.keys4)
-    (λ c. rw c.match.keys5)
-    (λ c. rw c.match.keys6)
-    (λ c. rw c.match.keys7)
-    (λ c. rw c.match.keys8)
-    (λ c. forbidden_rest _ c.match.rest))
+    (λ c. rw c.in-0.is)
+    (λ c. rw c.in-1.is)
+    (λ c. rw c.in-2.is)
+    (λ c. rw c.in-3.is)
+    (λ c. rw c.in-4.is)
+    (λ c. rw c.in-5.is)
+    (λ c. rw c.in-6.is)
+    (λ c. rw c.in-7.is)
+    (λ c. forbidden_rest c.args.members (search rules)))

@@ -9,10 +9,10 @@ use Rattle.sound.proofs.SoundLaws.{half_start, half_on, half_end}
 use Rattle.sound.proofs.half_is_sound.Statement.{statement}
 use Rattle.sound.proofs.half_is_sound.Tie as tie
 
-abbrev invariant-loop : tie.invariant-loop
+abbrev invariant-loop : tie.invariant-loop-i
 invariant-loop row word good₀ i₀ good i = same (digits 32 word) (marks row) ≡ (good && same (digits (32 - i) (word / 2 ^ i)) (marks (drop i row)))
 
-abbrev decreases-loop : tie.decreases-loop
+abbrev decreases-loop : tie.decreases-loop-i
 decreases-loop row word good₀ i₀ good i = length row - i
 
 pub half_is_sound_spec : {M : Type 1} → statement M

@@ -9,10 +9,10 @@ use Rattle.sound.proofs.SoundLaws.{every_on, every_end}
 use Rattle.sound.proofs.is_zero.Statement.{statement}
 use Rattle.sound.proofs.is_zero.Tie as tie
 
-abbrev invariant-loop : tie.invariant-loop
+abbrev invariant-loop : tie.invariant-loop-i
 invariant-loop row good₀ i₀ good i = every (λ (w : ℕ). eqb w 0) row ≡ (good && every (λ (w : ℕ). eqb w 0) (drop i row))
 
-abbrev decreases-loop : tie.decreases-loop
+abbrev decreases-loop : tie.decreases-loop-i
 decreases-loop row good₀ i₀ good i = length row - i
 
 pub is_zero_spec : {M : Type 1} → statement M

@@ -9,10 +9,10 @@ use Rattle.sound.proofs.SoundLaws.{every_on, every_end}
 use Rattle.sound.proofs.lines_are_sound.Statement.{statement}
 use Rattle.sound.proofs.lines_are_sound.Tie as tie
 
-abbrev invariant-loop : tie.invariant-loop
+abbrev invariant-loop : tie.invariant-loop-i
 invariant-loop properties good₀ i₀ good i = every is_property_word properties ≡ (good && every is_property_word (drop i properties))
 
-abbrev decreases-loop : tie.decreases-loop
+abbrev decreases-loop : tie.decreases-loop-i
 decreases-loop properties good₀ i₀ good i = length properties - i
 
 pub lines_are_sound_spec : {M : Type 1} → statement M

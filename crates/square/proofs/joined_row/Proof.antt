@@ -15,5 +15,5 @@ joined_row_spec =
     (λ c κs. search rules)
     (λ c κs. search rules)
     (λ c κs. search rules)
-    (λ c. search (joined_else, c.before.before.before.before.before.if2.false))
+    (λ c. search (joined_else, c.if-i-k.false))
     (λ c. search joined_none))

@@ -8,10 +8,10 @@ use borrow.Author.Rules.{rules}
 use Rattle.start_action.proofs.has_topology.Statement.{statement}
 use Rattle.start_action.proofs.has_topology.Tie as tie
 
-abbrev invariant-loop : tie.invariant-loop
+abbrev invariant-loop : tie.invariant-loop-n
 invariant-loop s at i₀ n₀ i n = any_topology (properties_in s at) ≡ topology_from s n i
 
-abbrev decreases-loop : tie.decreases-loop
+abbrev decreases-loop : tie.decreases-loop-n
 decreases-loop s at i₀ n₀ i n = length s + 1 - n
 
 pub has_topology_spec : {M : Type 1} → statement M

@@ -7,10 +7,10 @@ use borrow.Author.Rules.{rules}
 use Rattle.start_action.proofs.read_properties.Statement.{statement}
 use Rattle.start_action.proofs.read_properties.Tie as tie
 
-abbrev invariant-loop : tie.invariant-loop
+abbrev invariant-loop : tie.invariant-loop-n
 invariant-loop s at held i₀ n₀ a₀ b₀ i n a b = Leads (properties_in s at) (properties_of (length s + 1 - n) s i) held a b × (a ≤ 32) × (b ≤ 32)
 
-abbrev decreases-loop : tie.decreases-loop
+abbrev decreases-loop : tie.decreases-loop-n
 decreases-loop s at held i₀ n₀ a₀ b₀ i n a b = length s + 1 - n
 
 pub read_properties_spec : {M : Type 1} → statement M

@@ -10,10 +10,10 @@ set_one_spec =
     tie.close
     (tie.spec
     (λ c. search rules)
-    (λ c. let z : c.before.x.given.0.0 ≤ 15 = search priority_small in omega (arith, z))
+    (λ c. let z : c.in-Priority.n ≤ 15 = search priority_small in omega (arith, z))
     (λ c κs. search rules)
     (λ c. search rules)
-    (λ c. let z : c.before.before.x.given.0.0 ≤ 15 = search priority_small in omega (arith, z))
+    (λ c. let z : c.in-Priority.n ≤ 15 = search priority_small in omega (arith, z))
     (λ c. search rules)
     (λ c κs. search rules)
     (λ c. search rules)

@@ -5,10 +5,10 @@ use Rattle.statistics.proofs.BlockLaws.{sixteen_begins, sixteen_quiet, sound_on,
 use Rattle.statistics.proofs.are_sound.Statement.{statement}
 use Rattle.statistics.proofs.are_sound.Tie as tie
 
-abbrev invariant-loop : tie.invariant-loop
+abbrev invariant-loop : tie.invariant-loop-i
 invariant-loop blocks k a first second i₀ i = sound_from 16 k blocks ≡ sound_from (16 - i) (k + i) blocks
 
-abbrev decreases-loop : tie.decreases-loop
+abbrev decreases-loop : tie.decreases-loop-i
 decreases-loop blocks k a first second i₀ i = 16 - i
 
 pub are_sound_spec : {M : Type 1} → statement M

@@ -4,10 +4,10 @@ use Rattle.statistics.proofs.BlockLaws.{wrong_size, sound_begins, sixteen_on, si
 use Rattle.statistics.proofs.is_sound.Statement.{statement}
 use Rattle.statistics.proofs.is_sound.Tie as tie
 
-abbrev invariant-loop : tie.invariant-loop
+abbrev invariant-loop : tie.invariant-loop-g
 invariant-loop blocks g₀ g = blocks_are_sound blocks ≡ sound_from (64 - 16 * g) (16 * g) blocks
 
-abbrev decreases-loop : tie.decreases-loop
+abbrev decreases-loop : tie.decreases-loop-g
 decreases-loop blocks g₀ g = 4 - g
 
 pub is_sound_spec : {M : Type 1} → statement M

@@ -21,5 +21,5 @@ put_block_spec =
     (λ c. search rules)
     (λ c κs. search rules)
     (λ c. search rules)
-    (λ c. block_put _ _ _ _ _ _ _ c.before.before.before.before.before.before.before.before.before.before.before.before.before.before.before.before.put_word.ensures c.before.before.before.before.before.before.before.before.before.before.before.before.put-word2.ensures c.before.before.before.before.before.before.before.put-word3.ensures c.before.before.put-word4.ensures)
+    (λ c. block_put c.args.k c.args.x _ _ _ _ _ c.put_word.ensures c.put_word-then-k-blocks.ensures c.put_word-then-k-blocks-2.ensures c.put_word-then-k-blocks-3.ensures)
     (λ c. search block_beyond))

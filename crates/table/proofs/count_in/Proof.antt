@@ -10,10 +10,10 @@ use native.Mathlib.Omega.{arith}
 use Rattle.table.proofs.count_in.Statement.{statement}
 use Rattle.table.proofs.count_in.Tie as tie
 
-abbrev invariant-loop : tie.invariant-loop
+abbrev invariant-loop : tie.invariant-loop-i
 invariant-loop row c n₀ i₀ n i = (n ≤ i) × (count c row ≡ n + count c (drop i row))
 
-abbrev decreases-loop : tie.decreases-loop
+abbrev decreases-loop : tie.decreases-loop-i
 decreases-loop row c n₀ i₀ n i = length row - i
 
 pub count_in_spec : {M : Type 1} → statement M
@@ -26,8 +26,8 @@ count_in_spec =
     (λ c. search rules)
     (λ c. search rules)
     (λ c. search rules)
-    (λ c. let k = c.before.before in omega (arith, bit_small (eqb (get_or k.before.args.row.now k.loop.i 0) k.before.args.c)))
+    (λ c. let k = c.before in omega (arith, bit_small (eqb (get_or k.before.args.row.now k.loop-i.i 0) k.before.args.c)))
     (λ c. search rules)
     (λ c. search rules)
-    (λ c. let k = c.before.before in (omega (arith, bit_small (eqb (get_or k.before.args.row.now k.loop.i 0) k.before.args.c)), search count_on))
+    (λ c. let k = c.before in (omega (arith, bit_small (eqb (get_or k.before.args.row.now k.loop-i.i 0) k.before.args.c)), search count_on))
     (λ c. search count_end))

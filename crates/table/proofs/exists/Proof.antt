@@ -8,4 +8,4 @@ exists_spec =
     tie.close
     (tie.spec
     (λ c κs. search rules)
-    (λ c. unfold exists is_ephemeral in rw c.line-terminations.ensures))
+    (λ c. unfold exists is_ephemeral in rw c.line_terminations.ensures))

@@ -8,4 +8,4 @@ is_ephemeral_spec =
     tie.close
     (tie.spec
     (λ c κs. search rules)
-    (λ c. unfold is_ephemeral in rw c.line-terminations.ensures))
+    (λ c. unfold is_ephemeral in rw c.line_terminations.ensures))

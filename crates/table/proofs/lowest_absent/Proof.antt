@@ -7,10 +7,10 @@ use borrow.Author.Rules.{rules}
 use Rattle.table.proofs.lowest_absent.Statement.{statement}
 use Rattle.table.proofs.lowest_absent.Tie as tie
 
-abbrev invariant-loop : tie.invariant-loop
+abbrev invariant-loop : tie.invariant-loop-i
 invariant-loop row i₀ i = lowest_absent 1 row ≡ lowest_absent (i + 1) (drop i row)
 
-abbrev decreases-loop : tie.decreases-loop
+abbrev decreases-loop : tie.decreases-loop-i
 decreases-loop row i₀ i = length row - i
 
 pub lowest_absent_spec : {M : Type 1} → statement M

@@ -16,4 +16,4 @@ set_side_spec =
     (λ c. search rules)
     (λ c κs. search rules)
     (λ c. search rules)
-    (λ c. side_put _ _ _ _ _ _ _ _ _ _ _ _ c.before.before.before.before.before.before.before.before.before.before.before.before.before.before.before.before.before.before.before.requires c.before.before.before.before.before.before.before.before.before.before.before.before.before.before.before.before.side-place.ensures.0 c.before.before.before.before.before.before.before.before.before.before.before.before.before.before.put_word.ensures c.before.before.before.before.before.before.before.before.before.before.put-word2.ensures c.before.before.before.before.before.before.put-word3.ensures c.before.before.put-word4.ensures))
+    (λ c. side_put _ _ _ _ _ _ _ _ _ _ _ _ c.requires c.side_place-k.ensures.0 c.put_word.ensures c.put_word-2.ensures c.put_word-3.ensures c.put_word-4.ensures))

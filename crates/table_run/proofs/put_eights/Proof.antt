@@ -2,10 +2,10 @@ use Rattle.std.proofs.Common.{◌≡◌, ◌-◌, ◌≤◌, length, rules}
 use Rattle.table_run.proofs.put_eights.Statement.{statement}
 use Rattle.table_run.proofs.put_eights.Tie as tie
 
-abbrev invariant-loop : tie.invariant-loop
+abbrev invariant-loop : tie.invariant-loop-i
 invariant-loop t₀ from i₀ t i = (from ≤ i) × (length t ≡ length t₀)
 
-abbrev decreases-loop : tie.decreases-loop
+abbrev decreases-loop : tie.decreases-loop-i
 decreases-loop t₀ from i₀ t i = 312 - i
 
 pub put_eights_spec : {M : Type 1} → statement M

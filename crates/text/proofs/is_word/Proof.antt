@@ -8,10 +8,10 @@ use Rattle.text.proofs.WordLaws.{unequal, word_on, word_no, word_end}
 use Rattle.text.proofs.is_word.Statement.{statement}
 use Rattle.text.proofs.is_word.Tie as tie
 
-abbrev invariant-loop : tie.invariant-loop
+abbrev invariant-loop : tie.invariant-loop-i
 invariant-loop w form i₀ i = same (capitals w) form ≡ same (capitals (drop i w)) (drop i form)
 
-abbrev decreases-loop : tie.decreases-loop
+abbrev decreases-loop : tie.decreases-loop-i
 decreases-loop w form i₀ i = length w - i
 
 pub is_word_spec : {M : Type 1} → statement M

@@ -8,10 +8,10 @@ use borrow.Author.Rules.{rules}
 use Rattle.text.proofs.octets.Statement.{statement}
 use Rattle.text.proofs.octets.Tie as tie
 
-abbrev invariant-loop : tie.invariant-loop
+abbrev invariant-loop : tie.invariant-loop-i
 invariant-loop s at i₀ escaped₀ i escaped = octets_at s at ≡ octets_from (drop i s) i escaped
 
-abbrev decreases-loop : tie.decreases-loop
+abbrev decreases-loop : tie.decreases-loop-i
 decreases-loop s at i₀ escaped₀ i escaped = length s - i
 
 pub octets_spec : {M : Type 1} → statement M

@@ -5,10 +5,10 @@ use Rattle.text.proofs.TextLaws.{RowHere, row_starts, row_on, row_stop, row_end}
 use Rattle.text.proofs.row.Statement.{statement}
 use Rattle.text.proofs.row.Tie as tie
 
-abbrev invariant-loop : tie.invariant-loop
+abbrev invariant-loop : tie.invariant-loop-i
 invariant-loop s at low high i₀ i = RowHere low high s at i
 
-abbrev decreases-loop : tie.decreases-loop
+abbrev decreases-loop : tie.decreases-loop-i
 decreases-loop s at low high i₀ i = length s - i
 
 pub row_spec : {M : Type 1} → statement M

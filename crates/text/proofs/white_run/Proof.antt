@@ -7,10 +7,10 @@ use Rattle.text.proofs.TextLaws.{white_on, white_stop, white_end}
 use Rattle.text.proofs.white_run.Statement.{statement}
 use Rattle.text.proofs.white_run.Tie as tie
 
-abbrev invariant-loop : tie.invariant-loop
+abbrev invariant-loop : tie.invariant-loop-i
 invariant-loop s at i₀ inside₀ i inside = white_at s at ≡ white_from (drop i s) i inside
 
-abbrev decreases-loop : tie.decreases-loop
+abbrev decreases-loop : tie.decreases-loop-i
 decreases-loop s at i₀ inside₀ i inside = length s - i
 
 pub white_run_spec : {M : Type 1} → statement M

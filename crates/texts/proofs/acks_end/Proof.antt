@@ -9,10 +9,10 @@ use borrow.Author.Rules.{rules}
 use Rattle.texts.proofs.acks_end.Statement.{statement}
 use Rattle.texts.proofs.acks_end.Tie as tie
 
-abbrev invariant-loop : tie.invariant-loop
+abbrev invariant-loop : tie.invariant-loop-n
 invariant-loop s at i₀ n₀ i n = (acks_at s at).end ≡ list_end (λ j. (ack_at s j).end) s (length s + 1 - n) i
 
-abbrev decreases-loop : tie.decreases-loop
+abbrev decreases-loop : tie.decreases-loop-n
 decreases-loop s at i₀ n₀ i n = length s + 1 - n
 
 pub acks_end_spec : {M : Type 1} → statement M

@@ -7,11 +7,11 @@ use borrow.Author.Rules.{rules}
 use Rattle.texts.proofs.actions.Statement.{statement}
 use Rattle.texts.proofs.actions.Tie as tie
 
-abbrev invariant-loop : tie.invariant-loop
+abbrev invariant-loop : tie.invariant-loop-most
 invariant-loop s at k i₀ most₀ left₀ i most left =
     sought (actions_holders s at) (actions_at s at).end k ≡ sought (holders_in (action_holders s) (λ j. (action_at s j).end) s most i) (list_end (λ j. (action_at s j).end) s most i) left
 
-abbrev decreases-loop : tie.decreases-loop
+abbrev decreases-loop : tie.decreases-loop-most
 decreases-loop s at k i₀ most₀ left₀ i most left = most
 
 pub actions_spec : {M : Type 1} → statement M

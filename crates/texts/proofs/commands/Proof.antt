@@ -7,11 +7,11 @@ use borrow.Author.Rules.{rules}
 use Rattle.texts.proofs.commands.Statement.{statement}
 use Rattle.texts.proofs.commands.Tie as tie
 
-abbrev invariant-loop : tie.invariant-loop
+abbrev invariant-loop : tie.invariant-loop-most
 invariant-loop s at k i₀ most₀ left₀ i most left =
     sought (commands_holders s at) (commands_at s at).end k ≡ sought (holders_in (command_holders s) (λ j. (command_at s j).end) s most i) (list_end (λ j. (command_at s j).end) s most i) left
 
-abbrev decreases-loop : tie.decreases-loop
+abbrev decreases-loop : tie.decreases-loop-most
 decreases-loop s at k i₀ most₀ left₀ i most left = most
 
 pub commands_spec : {M : Type 1} → statement M

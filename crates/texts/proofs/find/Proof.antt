@@ -5,10 +5,10 @@ use borrow.Author.Rules.{rules}
 use Rattle.texts.proofs.find.Statement.{statement}
 use Rattle.texts.proofs.find.Tie as tie
 
-abbrev invariant-loop : tie.invariant-loop
+abbrev invariant-loop : tie.invariant-loop-most
 invariant-loop s k i₀ most₀ left₀ i most left = message_sought s k ≡ found_in (sought (transactions_holders most s i) 0 left)
 
-abbrev decreases-loop : tie.decreases-loop
+abbrev decreases-loop : tie.decreases-loop-most
 decreases-loop s k i₀ most₀ left₀ i most left = most
 
 pub find_spec : {M : Type 1} → statement M

@@ -9,11 +9,11 @@ use borrow.Author.Rules.{rules}
 use Rattle.texts.proofs.media.Statement.{statement}
 use Rattle.texts.proofs.media.Tie as tie
 
-abbrev invariant-loop : tie.invariant-loop
+abbrev invariant-loop : tie.invariant-loop-n
 invariant-loop s command at k i₀ n₀ left₀ i n left =
     sought (media_holders s command at) (media_at s at).end k ≡ sought (holders_in (media_item_holders s command) (λ j. (media_item_at s j).end) s (length s + 1 - n) i) (list_end (λ j. (media_item_at s j).end) s (length s + 1 - n) i) left
 
-abbrev decreases-loop : tie.decreases-loop
+abbrev decreases-loop : tie.decreases-loop-n
 decreases-loop s command at k i₀ n₀ left₀ i n left = length s + 1 - n
 
 pub media_spec : {M : Type 1} → statement M

@@ -9,11 +9,11 @@ use borrow.Author.Rules.{rules}
 use Rattle.texts.proofs.top.Statement.{statement}
 use Rattle.texts.proofs.top.Tie as tie
 
-abbrev invariant-loop : tie.invariant-loop
+abbrev invariant-loop : tie.invariant-loop-n
 invariant-loop s command at k i₀ n₀ left₀ i n left =
     sought (top_holders s command at) (top_at s at).end k ≡ sought (holders_in (top_item_holders s command) (λ j. (top_item_at s j).end) s (length s + 1 - n) i) (list_end (λ j. (top_item_at s j).end) s (length s + 1 - n) i) left
 
-abbrev decreases-loop : tie.decreases-loop
+abbrev decreases-loop : tie.decreases-loop-n
 decreases-loop s command at k i₀ n₀ left₀ i n left = length s + 1 - n
 
 pub top_spec : {M : Type 1} → statement M

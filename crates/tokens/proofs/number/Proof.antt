@@ -7,10 +7,10 @@ use Rattle.tokens.proofs.NumberLaws.{on, long, big, below, above, end}
 use Rattle.tokens.proofs.number.Statement.{statement}
 use Rattle.tokens.proofs.number.Tie as tie
 
-abbrev invariant-loop : tie.invariant-loop
+abbrev invariant-loop : tie.invariant-loop-i
 invariant-loop s at most limit i₀ v₀ top i v = (at ≤ i) × (v ≤ limit) × (number_at s at most limit ≡ number_from at most limit (drop i s) i v)
 
-abbrev decreases-loop : tie.decreases-loop
+abbrev decreases-loop : tie.decreases-loop-i
 decreases-loop s at most limit i₀ v₀ top i v = length s - i
 
 pub number_spec : {M : Type 1} → statement M

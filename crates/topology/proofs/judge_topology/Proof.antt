@@ -8,10 +8,10 @@ use borrow.Author.Rules.{rules}
 use Rattle.topology.proofs.judge_topology.Statement.{statement}
 use Rattle.topology.proofs.judge_topology.Tie as tie
 
-abbrev invariant-loop : tie.invariant-loop
+abbrev invariant-loop : tie.invariant-loop-n
 invariant-loop s at table c i₀ n₀ i n = judged_by c table (of_action s at) ≡ judged_by c table (of_properties s n i)
 
-abbrev decreases-loop : tie.decreases-loop
+abbrev decreases-loop : tie.decreases-loop-n
 decreases-loop s at table c i₀ n₀ i n = length s + 1 - n
 
 pub judge_topology_spec : {M : Type 1} → statement M

@@ -8,10 +8,10 @@ use borrow.Author.Rules.{rules}
 use Rattle.topology.proofs.judge_triples.Statement.{statement}
 use Rattle.topology.proofs.judge_triples.Tie as tie
 
-abbrev invariant-loop : tie.invariant-loop
+abbrev invariant-loop : tie.invariant-loop-n
 invariant-loop s at table c i₀ n₀ i n = judged_by c table (triples_at s at).tree ≡ judged_by c table (triples_from s n i)
 
-abbrev decreases-loop : tie.decreases-loop
+abbrev decreases-loop : tie.decreases-loop-n
 decreases-loop s at table c i₀ n₀ i n = length s + 1 - n
 
 pub judge_triples_spec : {M : Type 1} → statement M

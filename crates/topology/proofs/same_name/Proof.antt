@@ -8,10 +8,10 @@ use borrow.Author.Rules.{rules}
 use Rattle.topology.proofs.same_name.Statement.{statement}
 use Rattle.topology.proofs.same_name.Tie as tie
 
-abbrev invariant-loop : tie.invariant-loop
+abbrev invariant-loop : tie.invariant-loop-i
 invariant-loop a b i₀ i = same (capitals a) (capitals b) ≡ same (capitals (drop i a)) (capitals (drop i b))
 
-abbrev decreases-loop : tie.decreases-loop
+abbrev decreases-loop : tie.decreases-loop-i
 decreases-loop a b i₀ i = length a - i
 
 pub same_name_spec : {M : Type 1} → statement M

@@ -8,10 +8,10 @@ use borrow.Author.Rules.{rules}
 use Rattle.topology.proofs.set_triples.Statement.{statement}
 use Rattle.topology.proofs.set_triples.Tie as tie
 
-abbrev invariant-loop : tie.invariant-loop
+abbrev invariant-loop : tie.invariant-loop-n
 invariant-loop s at table c i₀ n₀ q₀ i n q = set_by c table (triples_at s at).tree q₀ ≡ set_by c table (triples_from s n i) q
 
-abbrev decreases-loop : tie.decreases-loop
+abbrev decreases-loop : tie.decreases-loop-n
 decreases-loop s at table c i₀ n₀ q₀ i n q = length s + 1 - n
 
 pub set_triples_spec : {M : Type 1} → statement M

@@ -6,10 +6,10 @@ use Rattle.base.proofs.OutLaws.{none, more, all, same_length_by}
 use Rattle.writer.proofs.put_bytes.Statement.{statement}
 use Rattle.writer.proofs.put_bytes.Tie as tie
 
-abbrev invariant-loop : tie.invariant-loop
+abbrev invariant-loop : tie.invariant-loop-i
 invariant-loop out₀ at s p₀ i₀ out p i = Appended out₀ at (take i s) out p
 
-abbrev decreases-loop : tie.decreases-loop
+abbrev decreases-loop : tie.decreases-loop-i
 decreases-loop out₀ at s p₀ i₀ out p i = length s - i
 
 pub put_bytes_spec : {M : Type 1} → statement M

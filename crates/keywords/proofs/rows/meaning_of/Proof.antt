@@ -42,4 +42,4 @@ meaning_of_spec =
     (λ c. search at_length)
     (λ c κs. search rules)
     (λ c. search at_length)
-    (λ c. no_length (1 ∷ 2 ∷ 3 ∷ 4 ∷ 5 ∷ 6 ∷ 7 ∷ 8 ∷ 9 ∷ 10 ∷ 11 ∷ 12 ∷ 13 ∷ 16 ∷ 22 ∷ []) _ (unfold lengths_in spellings_of has pick in refl) (c.before.before.before.before.before.before.before.before.before.before.before.before.before.before.if1.false, (c.before.before.before.before.before.before.before.before.before.before.before.before.before.if2.false, (c.before.before.before.before.before.before.before.before.before.before.before.before.if3.false, (c.before.before.before.before.before.before.before.before.before.before.before.if4.false, (c.before.before.before.before.before.before.before.before.before.before.if5.false, (c.before.before.before.before.before.before.before.before.before.if6.false, (c.before.before.before.before.before.before.before.before.if7.false, (c.before.before.before.before.before.before.before.if8.false, (c.before.before.before.before.before.before.if9.false, (c.before.before.before.before.before.if10.false, (c.before.before.before.before.if11.false, (c.before.before.before.if12.false, (c.before.before.if13.false, (c.before.if14.false, (c.if15.false, tt)))))))))))))))))
+    (λ c. no_length (1 ∷ 2 ∷ 3 ∷ 4 ∷ 5 ∷ 6 ∷ 7 ∷ 8 ∷ 9 ∷ 10 ∷ 11 ∷ 12 ∷ 13 ∷ 16 ∷ 22 ∷ []) _ (unfold lengths_in spellings_of has pick in refl) (c.if-n-eq1.false, (c.if-n-eq2.false, (c.if-n-eq3.false, (c.if-n-eq4.false, (c.if-n-eq5.false, (c.if-n-eq6.false, (c.if-n-eq7.false, (c.if-n-eq8.false, (c.if-n-eq9.false, (c.if-n-eq10.false, (c.if-n-eq11.false, (c.if-n-eq12.false, (c.if-n-eq13.false, (c.if-n-eq16.false, (c.if-n-eq22.false, tt)))))))))))))))))

@@ -7,10 +7,10 @@ use Rattle.row.proofs.ReadLaws.{fill_start, fill_on, fill_unfit, fill_end}
 use Rattle.row.proofs.reading.fill.Statement.{statement}
 use Rattle.row.proofs.reading.fill.Tie as tie
 
-abbrev invariant-loop : tie.invariant-loop
+abbrev invariant-loop : tie.invariant-loop-j
 invariant-loop row first lines table₀ n at₀ j₀ table at j = (length table ≡ length table₀) × (fill_from lines row (items lines) 0 first table₀ ≡ fill_from lines row (items lines - j) j at table)
 
-abbrev decreases-loop : tie.decreases-loop
+abbrev decreases-loop : tie.decreases-loop-j
 decreases-loop row first lines table₀ n at₀ j₀ table at j = n - j
 
 pub fill_spec : {M : Type 1} → statement M

@@ -7,10 +7,10 @@ use Rattle.row.proofs.WordLaws.{map_start_lem, map_next, map_fits, double_fits, 
 use Rattle.row.proofs.words.map_word.Statement.{statement}
 use Rattle.row.proofs.words.map_word.Tie as tie
 
-abbrev invariant-loop : tie.invariant-loop
+abbrev invariant-loop : tie.invariant-loop-i
 invariant-loop row w₀ i₀ w i = (i ≤ length row) × (w ≡ map_word (drop i row))
 
-abbrev decreases-loop : tie.decreases-loop
+abbrev decreases-loop : tie.decreases-loop-i
 decreases-loop row w₀ i₀ w i = i
 
 pub map_word_spec : {M : Type 1} → statement M
@@ -19,7 +19,7 @@ map_word_spec =
     (tie.spec
     invariant-loop
     decreases-loop
-    (λ c. (search rules, map_start_lem c.before.args.row.now))
+    (λ c. (search rules, map_start_lem c.args.row.now))
     (λ c. search rules)
     (λ c. search rules)
     (λ c. search rules)
