@@ -40,7 +40,7 @@ def commands(readme):
 
 def is_command(span):
     first, *rest = span.split()
-    return bool(rest and shutil.which(first)) or bool(re.search(r"^\(cd$|^crates/\w+/out/|\.(sh|py)$", first))
+    return bool(rest and shutil.which(first)) or bool(re.search(r"^\(cd$|^crates/\w+/out/\w+$|\.(sh|py)$", first))
 
 
 def expected(readme):

@@ -91,29 +91,29 @@ def main():
     os.makedirs(f'{work}/crates/rows/src', exist_ok=True)
     os.makedirs(f'{work}/crates/rows/specs', exist_ok=True)
     for crate in ('base', 'megaco'):
-        shutil.rmtree(f'{work}/crates/{crate}', ignore_errors=True)
-        shutil.copytree(f'{ROOT}/crates/{crate}', f'{work}/crates/{crate}')
-        shutil.rmtree(f'{work}/crates/{crate}/must-fail', ignore_errors=True)
+        for part in ('src', 'specs', 'proofs'):
+            shutil.rmtree(f'{work}/crates/{crate}/{part}', ignore_errors=True)
+        shutil.copytree(f'{ROOT}/crates/{crate}', f'{work}/crates/{crate}', ignore=shutil.ignore_patterns('must-fail', 'out'), dirs_exist_ok=True)
     open(f'{work}/crates.txt', 'w').write('base:\nmegaco: base\nrows: megaco base\n')
-    open(f'{work}/crates/rows/src/lib.rt', 'w').write('// Rows.\n')
-    head = '''use Prim.Native.Nat.{ℕ, _-_}
-use mathlib.Core.Path.{_≡_, refl}
-use mathlib.Core.Bool.{Bool, true, false, _&&_}
-use mathlib.Core.List.{List, [], _∷_, _++_}
+    open(f'{work}/crates/rows/src/lib.rt', 'w').write('// Rows.\n#![tactic(auto)]\n')
+    head = '''use Prim.Native.Nat.{ℕ, ◌-◌}
+use mathlib.Core.Path.{◌≡◌, refl}
+use mathlib.Core.Bool.{Bool, true, false, ◌&&◌}
+use mathlib.Core.List.{List, [], ◌∷◌, ◌++◌}
 use lib.ListN.{length, replicate, set}
 use lib.Dec.{eqb}
-use Rattle·base.specs.Lists.{same}
-use Rattle·megaco.specs.State.{state}
-use Rattle·megaco.specs.Kept.{under, find, youngest, acked}
-use Rattle·megaco.specs.Room.{Room, room, slotPlace, slotId, slotSender, slotReply, heldIn, keptOf, slotIn, foundIn, slotFits, slotGood, isZero, rowGood, roomSound, lowestFree, slotFor, lined, noted, stored, keepAt, keepIn, left, closed, dropIn}
-use Rattle·megaco.specs.Call.{Called, call}
-use Rattle·megaco.proofs.Opened.{opened}
+use Rattle.base.specs.Lists.{same}
+use Rattle.megaco.specs.State.{state}
+use Rattle.megaco.specs.Kept.{under, find, youngest, acked}
+use Rattle.megaco.specs.Room.{Room, room, slot_place, slot_id, slot_sender, slot_reply, held_in, kept_of, slot_in, found_in, slot_fits, slot_good, is_zero, row_good, room_sound, lowest_free, slot_for, lined, noted, stored, keep_at, keep_in, left, closed, drop_in}
+use Rattle.megaco.specs.Call.{Called, call}
+use Rattle.megaco.proofs.Opened.{opened}
 
 abbrev fits : Called → ℕ → ℕ → List ℕ → List ℕ → Room → List ℕ → Bool
-fits c b n a u r f = eqb (c .refusal) n && eqb (c .size) (length a) && same (c .reply) (a ++ replicate (b - length a) 170) && same (c .state .table) u && same (c .state .blocks) f && same (c .room .words) (r .words) && same (c .room .bytes) (r .bytes)
+fits c b n a u r f = eqb c.refusal n && eqb c.size (length a) && same c.reply (a ++ replicate (b - length a) 170) && same c.state.table u && same c.state.blocks f && same c.room.words r.words && same c.room.bytes r.bytes
 
 unfoldable holds : ℕ → List ℕ → List ℕ → Room → List ℕ → List ℕ → ℕ → ℕ → List ℕ → List ℕ → Room → List ℕ → Bool
-unfolding opened under find youngest acked slotPlace slotId slotSender slotReply heldIn keptOf slotIn foundIn slotFits slotGood isZero rowGood roomSound lowestFree slotFor lined noted stored keepAt keepIn left closed dropIn
+unfolding opened under find youngest acked slot_place slot_id slot_sender slot_reply held_in kept_of slot_in found_in slot_fits slot_good is_zero row_good room_sound lowest_free slot_for lined noted stored keep_at keep_in left closed drop_in
 holds l m t r f own b n a u s g = fits (call l m (state t f) r own (replicate b 170)) b n a u s g
 
 '''
@@ -137,7 +137,7 @@ row{k + i} = refl
           '; refusals:', ' '.join(sorted(str(c) for k, c in shown if k == 'refusal')),
           '; lines:', ' '.join(map(str, sorted(c for k, c in shown if k == 'lines'))),
           '; rooms:', ', '.join(sorted(c for k, c in shown if k == 'room')))
-    out = subprocess.run(['rt', 'dev', 'rows'], cwd=work, env=dict(os.environ, RT_CUT='0'), capture_output=True, text=True)
+    out = subprocess.run(['rt', 'check'], cwd=f'{work}/crates/rows', capture_output=True, text=True)
     text = out.stdout + out.stderr
     bad = sorted(set(re.findall(r'error: `(row\d+)`', text) + re.findall(r'in `(row\d+)`', text)), key=lambda s: int(s[3:]))
     limit = set(re.findall(r'in `(row\d+)`[^\n]*step limit', text) + re.findall(r'`(row\d+)`[^\n]*stopped at the step limit', text))

@@ -21,18 +21,20 @@ def of_readme():
 
 
 def run(command, messages):
-    """What the listing program prints, as it is run by rt in its folder; rt's own lines come on standard error."""
+    """What a command prints in the listing program's folder, with messages as its input."""
     done = subprocess.run(command, cwd=os.path.join(TOP, 'crates/listing'), input=messages.encode(), capture_output=True)
     return done.returncode, done.stdout.decode('latin-1'), done.stderr.decode(errors='replace')
 
 
 def proved(messages):
-    """By crates/listing/out/listing, which `rt run` proves and makes if it is not up to date, and then runs."""
-    status, output, told = run(['rt', 'run'], messages)
+    """By crates/listing/out/listing, which `rt run` proves and makes if it is not up to date; what that prints is no reply."""
+    status, output, told = run(['rt', 'run'], '')
     if status:
-        raise SystemExit(f'{told}quick start: FAILED, the listing program is not proved')
-    # rt's own line, that it runs the program
-    return ''.join(line for line in output.splitlines(True) if not line.startswith('rt: '))
+        raise SystemExit(f'{output[-2000:]}{told}quick start: FAILED, the listing program is not proved')
+    status, output, told = run([os.path.join(TOP, 'crates/listing/out/listing')], messages)
+    if status:
+        raise SystemExit(f'{told}quick start: FAILED, the listing program ended with status {status}')
+    return output
 
 
 def tried(messages):

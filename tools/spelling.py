@@ -1,5 +1,5 @@
 #!/usr/bin/env python3
-"""Spells the names that this repository's own definitions, lemmas, fields and constructors declare in snake case: `rowFrom` and `row-from` become `row_from`.
+"""Spells the names that this repository's own definitions, lemmas, fields and constructors declare in snake case, from camel case or with dashes.
 
 Run once, after the kit's port.py (docs/PORT.md). Types, facts and modules keep their capital; names of src/, strings, and names of the libraries stay.
 It prints a line for each name that would fall together with another, and fails then. Without --write it writes nothing.

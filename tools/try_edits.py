@@ -18,7 +18,8 @@ sys.dont_write_bytecode = True
 import command
 import prover
 
-SAID = re.compile(r"^rt: must-fail (\w+)/(\S+)\.edit: (refused, as it must be(?: \(.*?\))?(?:: |$)|)(.*)", re.M)
+# (a refusal by a limit of the prover alone says that there was no verdict, and is no refusal here)
+SAID = re.compile(r"^rt: must-fail (\w+)/(\S+)\.edit: (refused, as it must be(?: \((?!only by a limit).*?\))?(?:: |$)|)(.*)", re.M)
 
 
 def crate_of(edit):

@@ -94,7 +94,7 @@ reports_of f [] = []
 reports_of f (i ∷ is) = f i ∷ reports_of f is
 
 -- what a wildcard's audit reports: those covered, each once, in ascending number, each with what the table holds; 431 where there is none.
--- Whether the reply has room for them, or is 533, is `Reply.transactionText`'s; the reports are these
+-- Whether the reply has room for them, or is 533, is `Reply.transaction_text`'s; the reports are these
 pub record Wild (r : Range) (vs : Values) (name : List ℕ) (at : Context) (t : List ℕ) (rs : List Report) : Type 0 where
   pub matched : List ℕ
   pub exactly : (i : ℕ) → i ∈ matched ↔ Covered r at t i

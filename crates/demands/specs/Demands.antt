@@ -1,5 +1,5 @@
 -- The maintainer's three demands, sentence by sentence, each one statement about calls of `gateway::answer` through its promise.
--- Proved in proofs/Theorems.antt: `demand-1`, `demand-2`, `demand-3`; of packets and of repeats, which document 02 adds, `packets`, `repeated`.
+-- Proved in proofs/Theorems.antt: `demand_1`, `demand_2`, `demand_3`; of packets and of repeats, which document 02 adds, `packets`, `repeated`.
 use Rattle.std.specs.Prelude.{ℕ, ◌+◌, ◌*◌, ◌≤◌, ◌≡◌, ◌↔◌, ◌≢◌, ◌⊎◌, true, List, [], ◌∷◌, ◌++◌, length, take, drop}
 use Rattle.base.specs.Pick.{pick}
 use Rattle.megaco.specs.Tree.{Transaction, Part, request, well_formed, fault400, fault403, fault406}
@@ -287,7 +287,7 @@ pub record Alike {n : ℕ} {m k : List ℕ} {st : State} {r : Room} {own o₁ o�
   pub buffer_two : o₂ ≡ o₃ → b.buffer ≡ c.buffer
 
 pub record Orders (st : State) (ks : List Kept) (s t : List ℕ) (x y : Transaction) : Type 0 where
-  -- "running one after the other from that table ends alike in both orders": `runTransaction`'s states and `P=id{..}`, 533 included
+  -- "running one after the other from that table ends alike in both orders": `run_transaction`'s states and `P=id{..}`, 533 included
   pub transactions : EitherOrder st x y
   -- "Table and replies are those that demand 2 defines": four calls, whatever the buffers hold. "The second starts from the table the first left"
   pub calls : (n : ℕ) (r : Room) → kept_of r ≡ ks → (own m k : List ℕ) → Sent n st r own m k s t x y

@@ -94,6 +94,7 @@ fn read_settings(s: &[u8]) -> Settings
 
 // ---- lines printed
 
+#[tactic(auto, unfolding(crate::specs::Words::progress_text))]
 fn put_progress(out: &mut [u8], at: usize, p: Progress) -> usize
     ensures { Appended out.old at (progress_text p) out.new result }
 {
@@ -105,6 +106,7 @@ fn put_progress(out: &mut [u8], at: usize, p: Progress) -> usize
     }
 }
 
+#[tactic(auto, unfolding(crate::specs::Words::timer_text))]
 fn put_timer(out: &mut [u8], at: usize, t: Timer) -> usize
     ensures { Appended out.old at (timer_text t) out.new result }
 {
@@ -125,6 +127,7 @@ fn put_shown(out: &mut [u8], at: usize, p: Progress, t: Timer) -> usize
     put_timer(out, b, t)
 }
 
+#[tactic(auto, unfolding(crate::specs::Words::answer_text))]
 fn put_answer(out: &mut [u8], at: usize, d: Dialled) -> usize
     ensures { Appended out.old at (answer_text d) out.new result }
 {

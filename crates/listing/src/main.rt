@@ -87,7 +87,7 @@ fn take_turn(
 ) -> ChunkTurn
     requires from_in_bounds { from < length chunk.now }
     requires holds_line { HoldsLine line.old held }
-    requires answer_room_in_bounds { answer_room ≤ length out.old }
+    requires answer_fits { answer_room ≤ length out.old }
     ensures { Turned chunk.now from line.old held (lent table.old blocks.old words.old bytes.old) out.old line.new (lent table.new blocks.new words.new bytes.new) out.new result.next result.held result.size }
 {
     let e = sessions::line_end(chunk, from);
@@ -120,9 +120,9 @@ fn take_chunk(
     out: &mut [u8],
 ) -> usize
     requires holds_line { HoldsLine line.old held }
-    requires answer_room_in_bounds { answer_room ≤ length out.old }
-    ensures holds_line_2 { HoldsLine line.new result }
-    ensures chunk_value { taken_in (take held line.old) (lent table.old blocks.old words.old bytes.old) chunk.now ≡ between (take result line.new) (lent table.new blocks.new words.new bytes.new) }
+    requires answer_fits { answer_room ≤ length out.old }
+    ensures still_holds_line { HoldsLine line.new result }
+    ensures takes_chunk { taken_in (take held line.old) (lent table.old blocks.old words.old bytes.old) chunk.now ≡ between (take result line.new) (lent table.new blocks.new words.new bytes.new) }
 {
     let mut h = held;
     let mut from = 0;
@@ -149,8 +149,8 @@ fn take_some<R: Read>(
     out: &mut [u8],
 ) -> Progress
     requires holds_line { HoldsLine line.old held }
-    requires answer_room_in_bounds { answer_room ≤ length out.old }
-    ensures holds_line_2 { HoldsLine line.new result.held }
+    requires answer_fits { answer_room ≤ length out.old }
+    ensures still_holds_line { HoldsLine line.new result.held }
     ensures took { Took line.old held (lent table.old blocks.old words.old bytes.old) line.new (lent table.new blocks.new words.new bytes.new) result.more result.held }
 {
     let mut chunk = [0u8; 65536];
@@ -188,8 +188,8 @@ fn take_input<R: Read>(
     out: &mut [u8],
 ) -> usize
     requires holds_line { HoldsLine line.old 0 }
-    requires answer_room_in_bounds { answer_room ≤ length out.old }
-    ensures holds_line_2 { HoldsLine line.new result }
+    requires answer_fits { answer_room ≤ length out.old }
+    ensures still_holds_line { HoldsLine line.new result }
     ensures input { Input (lent table.old blocks.old words.old bytes.old) line.new (lent table.new blocks.new words.new bytes.new) result }
 {
     let mut h: usize = 0;
@@ -216,7 +216,7 @@ fn finish_line(
     out: &mut [u8],
 ) -> usize
     requires holds_line { HoldsLine line.now held }
-    requires answer_room_in_bounds { answer_room ≤ length out.old }
+    requires answer_fits { answer_room ≤ length out.old }
     ensures { Finished line.now held (lent table.old blocks.old words.old bytes.old) out.old (lent table.new blocks.new words.new bytes.new) out.new result }
 {
     if held == 0 {

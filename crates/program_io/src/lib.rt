@@ -11,7 +11,7 @@ use std::io::Read;
 // ---- reading
 
 // Reads once: how many bytes stand at the buffer's start. A read that fails gives none.
-pub fn read_some<R: Read>(input: &mut R, buf: &mut [u8]) -> usize
+fn read_some<R: Read>(input: &mut R, buf: &mut [u8]) -> usize
     ensures in_bounds { result ≤ length buf.new }
     ensures prefix_length { result ≡ length (take result buf.new) }
     ensures bytes { Consumes (R.remaining input.old) (R.remaining input.new) (take result buf.new) }

@@ -1,5 +1,5 @@
 -- What reading a text of Local or Remote has to do with the subset's grammar (document 02, CR 11: "Take our SDP subset"). Proved in
--- proofs/Statements.antt: `subset-read`.
+-- proofs/Statements.antt: `subset_read`.
 use Rattle.std.specs.Prelude.{ℕ, ◌^◌, ◌≤◌, ◌<◌, ◌≡◌, ◌≢◌, ◌↔◌, List, []}
 use Rattle.std.proofs.Math.Option.{some}
 use Rattle.megaco.specs.Tree.{octets}
