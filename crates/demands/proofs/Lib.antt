@@ -1,3 +1,4 @@
+pub mod Refusing
 pub mod Turning
 pub mod Genuine
 pub mod ByReply
