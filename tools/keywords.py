@@ -99,7 +99,7 @@ ghost use Rattle.megaco.specs.Bytes.{capitals};
 ghost use Rattle.megaco.specs.Keywords.{page, forms_of, spells, meaning_of};
 ghost use Rattle.keywords.specs.Page.{row_of, rows_of, token_at, long_of, short_of, token_of, meaning_later};
 
-use crate::{KEYWORDS, Meaning, Row};
+use crate::{KEYWORDS, Row};
 use megaco::Token;
 
 // ---- rows
@@ -162,32 +162,32 @@ pub fn spells(k: Token, w: &[u8]) -> bool
 }
 
 // What a row's keyword means.
-fn of(i: usize) -> Meaning
+fn of(i: usize) -> Option<Token>
     ensures { token_of result ≡ some (token_at i) }
 {
     let r = row_at(i);
     let m = r.0;
-    Meaning::Of(m)
+    Some(m)
 }
 
 // ---- words by their length
 
 """
     for n, j, fs, more in reversed(list(pieces(rows))):
-        out += "fn %s(w: &[u8]) -> Meaning\n" % name(n, j)
+        out += "fn %s(w: &[u8]) -> Option<Token>\n" % name(n, j)
         out += "    ensures { token_of result ≡ meaning_later %d %d w.now }\n{\n" % (n, j)
         for i, kind in fs:
             out += "    if is_%s(w, %d, %d) {\n        return of(%d);\n    }\n" % (kind, i, n, i)
-        out += "    %s\n}\n\n" % ("%s(w)" % name(n, j + MOST) if more else "Meaning::Nothing")
+        out += "    %s\n}\n\n" % ("%s(w)" % name(n, j + MOST) if more else "None")
     out += """// The meaning of the row that spells the word, letter case aside, or none.
-pub fn meaning_of(w: &[u8]) -> Meaning
+pub fn meaning_of(w: &[u8]) -> Option<Token>
     ensures { token_of result ≡ meaning_of w.now }
 {
     let n = w.len();
 """
     for n, _ in forms(rows):
         out += "    if n == %d {\n        return %s(w);\n    }\n" % (n, name(n, 0))
-    return out + "    Meaning::Nothing\n}\n"
+    return out + "    None\n}\n"
 
 
 def laws(rows):

@@ -1,5 +1,5 @@
 #!/usr/bin/env python3
-"""Whether what the documents name is there: each name in backquotes in docs/*.md and README.md (docs/changes and docs/PORT.md are history, and left out) that has the
+"""Whether what the documents name is there: each name in backquotes in docs/*.md and README.md (docs/changes, docs/PORT.md and docs/DESIGN-PASS.md are history, and left out) that has the
 form of a file, a definition, a theorem or a function of the tree.
 
     crates/gateway/src/lib.rt     a path from a top folder, with or without backquotes: a file or folder; NAME, f and `*` stand for any name
@@ -112,7 +112,7 @@ def main():
     words.add_argument("files", metavar="FILE", nargs="*", help="documents; none: docs/*.md and README.md")
     files = [os.path.abspath(path) for path in words.parse_args().files]
     os.chdir(command.TOP)
-    texts = {path: command.text(path) for path in files or sorted({*glob.glob("docs/*.md")} - {"docs/PORT.md"}) + ["README.md"]}
+    texts = {path: command.text(path) for path in files or sorted({*glob.glob("docs/*.md")} - {"docs/PORT.md", "docs/DESIGN-PASS.md"}) + ["README.md"]}
     tree = Tree()
     looked = bad = 0
     for path, text in texts.items():

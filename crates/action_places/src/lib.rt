@@ -10,7 +10,7 @@ ghost use Rattle.read_command.specs.Messages.{closing_end, transaction_end, head
 ghost use Rattle.read_command.specs.Pieces.{Holds};
 ghost use Rattle.action_places.specs.ActionPlaces.{context_places, action_places, OfTriple, property_places, transaction_places, ack_places, sender_start, sender_end};
 
-use megaco::{Ack, Class, Context, Direction, Number, Parsed, Property, Token};
+use megaco::{Ack, Class, Context, Direction, Property, Token};
 use read_command::{Piece, Rest};
 
 // A context, and the place behind it.
@@ -57,26 +57,17 @@ pub struct AckPlaces {
     pub end: usize,
 }
 
-fn value_in(n: Number) -> u32
-    ensures { result ≡ value_in n }
+// A number that was read, and the place behind it.
+#[tactic(auto, unfolding(read_command::specs::Production::value_in, read_command::specs::Production::next_in))]
+fn number_in(n: Option<(u32, usize)>) -> (u32, usize)
+    ensures { (result.0 ≡ value_in n) × (result.1 ≡ next_in n) }
 {
-    match n {
-        Number::Got { value, next: _ } => value,
-        Number::Bad => 0,
-    }
-}
-
-fn next_in(n: Number) -> usize
-    ensures { result ≡ next_in n }
-{
-    match n {
-        Number::Got { value: _, next } => next,
-        Number::Bad => 0,
-    }
+    n.unwrap_or((0, 0))
 }
 
 // ---- actions
 
+#[tactic(auto, using(text::proofs::TextLaws::next_fits), unfolding(crate::specs::ActionPlaces::context_places, read_command::specs::Places::context_at, base::specs::Pick::pick))]
 fn context_places(s: &[u8], at: usize) -> ContextPlaces
     ensures { result ≡ context_places s.now at }
 {
@@ -98,37 +89,35 @@ fn context_places(s: &[u8], at: usize) -> ContextPlaces
             end: at + 1,
         };
     }
-    let n = tokens::number(s, at, 10, 4294967295);
+    let (n, end) = number_in(tokens::number(s, at, 10, 4294967295));
     ContextPlaces {
-        context: Context::Numbered(value_in(n)),
-        end: next_in(n),
+        context: Context::Numbered(n),
+        end,
     }
 }
 
 // An action.
+#[tactic(auto, unfolding(crate::specs::ActionPlaces::action_places, crate::specs::ActionPlaces::context_places, read_command::specs::Places::body_start, read_command::specs::Places::context_start))]
 pub fn action_places(s: &[u8], at: usize) -> ActionPlaces
     ensures { result ≡ action_places s.now at }
 {
     let p = command_places::end_of(read_action::key(s, at, Token::CtxToken));
     let x = context_places(s, p);
-    let c = x.context;
-    let e = x.end;
     ActionPlaces {
-        context: c,
-        body: command_places::past_opening(s, command_places::past_white(s, e)),
+        context: x.context,
+        body: command_places::past_opening(s, command_places::past_white(s, x.end)),
     }
 }
 
 // ---- topology
 
 // The direction whose word stands here.
+#[tactic(auto, using(crate::proofs::ActionPlaceLaws::direction_found), unfolding(base::specs::Lists::part))]
 fn direction_here(s: &[u8], at: usize) -> Direction
     ensures { result ≡ (direction_at s.now at).tree }
 {
     let w = read_command::piece_of(s, at, text::row(s, at, Class::WordByte));
-    let a = w.from;
-    let e = w.to;
-    read_action::direction_of(&s[a..e])
+    read_action::direction_of(&s[w.from..w.to])
 }
 
 // A triple.
@@ -141,42 +130,32 @@ pub fn triple_places(s: &[u8], at: usize) -> TriplePlaces
     let b = command_places::end_of(tokens::termination(s, q));
     let two = read_command::piece_of(s, q, b);
     let u = command_places::past_comma(s, command_places::past_white(s, b));
-    let d = direction_here(s, u);
-    let end = command_places::past_white(s, text::row(s, u, Class::WordByte));
     TriplePlaces {
-        one: one,
-        two: two,
-        direction: d,
-        end: end,
+        one,
+        two,
+        direction: direction_here(s, u),
+        end: command_places::past_white(s, text::row(s, u, Class::WordByte)),
     }
 }
 
 fn triple_end(s: &[u8], at: usize) -> usize
     ensures { result ≡ (triple_at s.now at).end }
 {
-    let p = triple_places(s, at);
-    p.end
+    triple_places(s, at).end
 }
 
 // The end of the triples that begin here.
 pub fn triples_end(s: &[u8], at: usize) -> usize
     ensures { result ≡ (triples_at s.now at).end }
 {
-    let mut i = at;
-    let mut n = 0;
-    while n <= s.len() {
-        let e = triple_end(s, i);
-        let x = command_places::next_part(s, e);
-        let Parsed::Next(u) = x else {
-            return e;
-        };
-        i = u;
-        n += 1;
-    }
-    i
+    let end = |i: usize| -> usize
+        ensures { result ≡ (triple_at s.entry.now i).end }
+    { triple_end(s, i) };
+    command_places::list_end(s, s.len() + 1, at, end)
 }
 
 // Where the triples of the topology that stands here begin.
+#[tactic(auto, unfolding(read_command::specs::Places::triples_start, read_command::specs::Production::word_end))]
 pub fn triples_start(s: &[u8], at: usize) -> usize
     ensures { result ≡ triples_start s.now at }
 {
@@ -186,6 +165,7 @@ pub fn triples_start(s: &[u8], at: usize) -> usize
     )
 }
 
+#[tactic(auto, unfolding(read_command::specs::Places::topology_at, read_command::specs::Places::triples_start))]
 fn topology_end(s: &[u8], at: usize) -> usize
     ensures { result ≡ (topology_at s.now at).end }
 {
@@ -195,27 +175,26 @@ fn topology_end(s: &[u8], at: usize) -> usize
 // ---- properties
 
 // A property.
+#[tactic(auto, unfolding(crate::specs::ActionPlaces::property_places, crate::specs::ActionPlaces::kind_of, read_command::specs::Places::property_at, read_command::specs::Places::topology_at, read_command::specs::Production::word_end, base::specs::Pick::pick))]
 pub fn property_places(s: &[u8], at: usize) -> PropertyPlaces
     ensures { result ≡ property_places s.now at }
 {
     if read_action::here_spells(s, at, Token::EmergencyToken) {
-        let e = text::row(s, at, Class::WordByte);
         return PropertyPlaces {
             property: Property::Emergency,
-            end: command_places::past_white(s, e),
+            end: command_places::past_white(s, text::row(s, at, Class::WordByte)),
         };
     }
     if read_action::here_spells(s, at, Token::TopologyToken) {
-        let e = topology_end(s, at);
         return PropertyPlaces {
             property: Property::Topology,
-            end: e,
+            end: topology_end(s, at),
         };
     }
-    let n = read_action::priority(s, at);
+    let (n, e) = number_in(read_action::priority(s, at));
     PropertyPlaces {
-        property: Property::Priority(value_in(n)),
-        end: command_places::past_white(s, next_in(n)),
+        property: Property::Priority(n),
+        end: command_places::past_white(s, e),
     }
 }
 
@@ -224,25 +203,22 @@ pub fn rest_of(s: &[u8], at: usize) -> Rest
     ensures { result ≡ rest_of (unlimited s.now) s.now at }
 {
     let mut i = at;
-    let mut n = 0;
-    while n <= s.len() {
-        if read_action::property_here(s, i) {
-            let p = property_places(s, i);
-            let e = p.end;
-            let x = command_places::next_part(s, e);
-            let Parsed::Next(u) = x else {
-                return Rest {
-                    commands: false,
-                    at: e,
-                };
-            };
-            i = u;
-            n += 1;
-        } else {
+    for n in 0..s.len() + 1 {
+        if !read_action::property_here(s, i) {
             return Rest {
                 commands: true,
                 at: i,
             };
+        }
+        let end = property_places(s, i).end;
+        match command_places::next_part(s, end) {
+            Some(u) => i = u,
+            None => {
+                return Rest {
+                    commands: false,
+                    at: end,
+                };
+            }
         }
     }
     Rest {
@@ -253,105 +229,92 @@ pub fn rest_of(s: &[u8], at: usize) -> Rest
 
 // ---- ends
 
+#[tactic(auto, using(command_places::proofs::PlaceLaws::command_ends))]
 fn command_end(s: &[u8], at: usize) -> usize
     ensures { result ≡ (command_at s.now at).end }
 {
-    let p = command_places::command_places(s, at);
-    command_places::command_end(s, p)
+    command_places::command_end(s, command_places::command_places(s, at))
 }
 
 // The end of the commands, at most so many, that begin here.
 fn commands_end(s: &[u8], most: usize, at: usize) -> usize
     ensures { result ≡ (list_p (command_at s.now) s.now most at).end }
 {
-    let mut i = at;
-    let mut left = most;
-    while 0 < left {
-        let e = command_end(s, i);
-        let x = command_places::next_part(s, e);
-        let Parsed::Next(u) = x else {
-            return e;
-        };
-        i = u;
-        left -= 1;
-    }
-    i
+    let end = |i: usize| -> usize
+        ensures { result ≡ (command_at s.entry.now i).end }
+    { command_end(s, i) };
+    command_places::list_end(s, most, at, end)
 }
 
 // The end of the commands of which one ends here, and at most so many follow.
+#[tactic(auto, using(command_places::proofs::EndLaws::after_none))]
 pub fn commands_after(s: &[u8], most: usize, e: usize) -> usize
     ensures { result ≡ list_after (λ j. (command_at s.now j).end) s.now most e }
 {
-    let x = command_places::next_part(s, e);
-    let Parsed::Next(u) = x else {
-        return e;
-    };
-    commands_end(s, most, u)
+    match command_places::next_part(s, e) {
+        Some(u) => commands_end(s, most, u),
+        None => e,
+    }
 }
 
 // The end of what stands in an action's braces, behind its properties.
+#[tactic(auto, unfolding(read_command::specs::Places::body_end, read_command::specs::Places::commands_at, base::specs::Pick::pick))]
 pub fn body_end(s: &[u8], r: Rest) -> usize
     ensures { result ≡ body_end s.now r }
 {
-    let at = r.at;
     if r.commands {
-        return commands_end(s, 64, at);
+        return commands_end(s, 64, r.at);
     }
-    at
+    r.at
 }
 
+#[tactic(auto, using(crate::proofs::ActionPlaceLaws::action_ends))]
 fn action_end(s: &[u8], at: usize) -> usize
     ensures { result ≡ (action_at s.now at).end }
 {
-    let a = action_places(s, at);
-    let b = a.body;
-    command_places::past_closing(s, body_end(s, rest_of(s, b)))
+    let body = action_places(s, at).body;
+    command_places::past_closing(s, body_end(s, rest_of(s, body)))
 }
 
 // The end of the actions, at most so many, that begin here.
 fn actions_end(s: &[u8], most: usize, at: usize) -> usize
     ensures { result ≡ (list_p (action_at s.now) s.now most at).end }
 {
-    let mut i = at;
-    let mut left = most;
-    while 0 < left {
-        let e = action_end(s, i);
-        let x = command_places::next_part(s, e);
-        let Parsed::Next(u) = x else {
-            return e;
-        };
-        i = u;
-        left -= 1;
-    }
-    i
+    let end = |i: usize| -> usize
+        ensures { result ≡ (action_at s.entry.now i).end }
+    { action_end(s, i) };
+    command_places::list_end(s, most, at, end)
 }
 
 // The end of the actions of which one ends here, and at most so many follow.
+// As `commands_after`: one for both, with a closure, would leave each four lines of closure and call in place of these four.
+#[tactic(auto, using(command_places::proofs::EndLaws::after_none))]
 pub fn actions_after(s: &[u8], most: usize, e: usize) -> usize
     ensures { result ≡ list_after (λ j. (action_at s.now j).end) s.now most e }
 {
-    let x = command_places::next_part(s, e);
-    let Parsed::Next(u) = x else {
-        return e;
-    };
-    actions_end(s, most, u)
+    match command_places::next_part(s, e) {
+        Some(u) => actions_end(s, most, u),
+        None => e,
+    }
 }
 
 // ---- transactions
 
 // A transaction.
+#[tactic(auto, unfolding(crate::specs::ActionPlaces::transaction_places, read_command::specs::Messages::actions_start))]
 pub fn transaction_places(s: &[u8], at: usize) -> TransactionPlaces
     ensures { result ≡ transaction_places s.now at }
 {
-    let n = read_message::identifier(s, at);
-    let b = command_places::end_of(read_message::brace(s, next_in(n)));
+    let (id, e) = number_in(read_message::identifier(s, at));
+    let b = command_places::end_of(read_message::brace(s, e));
     TransactionPlaces {
-        id: value_in(n),
+        id,
         body: command_places::past_white(s, b),
     }
 }
 
 // The end of the transaction whose actions end here, and white space.
+#[tactic(auto, unfolding(read_command::specs::Messages::closing_end))]
 pub fn closing_end(s: &[u8], at: usize) -> usize
     ensures { result ≡ closing_end s.now at }
 {
@@ -359,17 +322,18 @@ pub fn closing_end(s: &[u8], at: usize) -> usize
 }
 
 // The end of a transaction that is passed over.
+#[tactic(auto, unfolding(read_command::specs::Messages::transaction_end, crate::specs::ActionPlaces::transaction_places, read_command::specs::Places::actions_at))]
 pub fn transaction_end(s: &[u8], at: usize) -> usize
     ensures { result ≡ transaction_end s.now at }
 {
-    let a = transaction_places(s, at);
-    let b = a.body;
-    closing_end(s, actions_end(s, 16, b))
+    let body = transaction_places(s, at).body;
+    closing_end(s, actions_end(s, 16, body))
 }
 
 // ---- acknowledgements
 
 // Whether an acknowledgement stands here, and no transaction.
+#[tactic(auto, unfolding(read_command::specs::Messages::is_acknowledgement))]
 pub fn is_acknowledgement(s: &[u8], at: usize) -> bool
     ensures { result ≡ is_acknowledgement s.now at }
 {
@@ -377,6 +341,7 @@ pub fn is_acknowledgement(s: &[u8], at: usize) -> bool
 }
 
 // Where what it names begins.
+#[tactic(auto, unfolding(read_command::specs::Places::acks_start, read_command::specs::Production::word_end))]
 pub fn acks_start(s: &[u8], at: usize) -> usize
     ensures { result ≡ acks_start s.now at }
 {
@@ -387,24 +352,20 @@ pub fn acks_start(s: &[u8], at: usize) -> usize
 }
 
 // An identifier, or a first and a last.
+#[tactic(auto, using(read_command::proofs::ListLaws::steps), unfolding(crate::specs::ActionPlaces::ack_places, read_command::specs::Places::ack_at, read_command::specs::Places::range_at, base::specs::Pick::pick))]
 pub fn ack_places(s: &[u8], at: usize) -> AckPlaces
     ensures { result ≡ ack_places s.now at }
 {
-    let n = read_message::identifier_from(s, at, 1);
-    let v = value_in(n);
-    let p = next_in(n);
+    let (first, p) = number_in(read_message::identifier_from(s, at, 1));
     if text::is_at(s, p, b'-') {
-        let m = read_message::identifier_from(s, p + 1, v);
+        let (last, e) = number_in(read_message::identifier_from(s, p + 1, first));
         return AckPlaces {
-            ack: Ack {
-                first: v,
-                last: value_in(m),
-            },
-            end: command_places::past_white(s, next_in(m)),
+            ack: Ack { first, last },
+            end: command_places::past_white(s, e),
         };
     }
     AckPlaces {
-        ack: Ack { first: v, last: v },
+        ack: Ack { first, last: first },
         end: command_places::past_white(s, p),
     }
 }
@@ -412,18 +373,20 @@ pub fn ack_places(s: &[u8], at: usize) -> AckPlaces
 // ---- the header
 
 // The sender's mId.
+#[tactic(auto, unfolding(crate::specs::ActionPlaces::sender_start, crate::specs::ActionPlaces::sender_end))]
 pub fn sender_piece(s: &[u8]) -> Piece
     ensures { Holds s.now (sender_start s.now) (sender_end s.now) result }
 {
-    let v = read_message::version(s);
-    let a = command_places::end_of(text::sep(s, next_in(v)));
+    let (_, e) = number_in(read_message::version(s));
+    let a = command_places::end_of(text::sep(s, e));
     read_command::piece_of(s, a, command_places::end_of(tokens::mid(s, a)))
 }
 
 // Where the transactions begin.
+#[tactic(auto, unfolding(read_command::specs::Messages::header_end))]
 pub fn header_end(s: &[u8]) -> usize
     ensures { result ≡ header_end s.now }
 {
-    let v = read_message::version(s);
-    command_places::end_of(read_message::sender(s, next_in(v)))
+    let (_, e) = number_in(read_message::version(s));
+    command_places::end_of(read_message::sender(s, e))
 }

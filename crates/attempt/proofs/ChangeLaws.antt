@@ -1,4 +1,5 @@
 -- What the changes of an attempt do to a table, write by write; and that property words fit.
+use Rattle.std.specs.Prelude.{Some, None}
 use Prim.Native.Nat.{ℕ, zero, suc, ◌+◌, ◌*◌, ◌/◌, ◌%◌, ◌<◌, ◌≤◌, max}
 use mathlib.Core.Path.{◌≡◌, refl, sym, ap, ◌∙◌}
 use mathlib.Core.List.{List, [], ◌∷◌}
@@ -8,21 +9,22 @@ use mir.Syntax.{w32}
 use mir.Val.{Fits}
 use lib.Dec.{ltb, eqb}
 use borrow.Author.Tests.{le-leb, lt-leb, lt-ltb, ltb-true, ltb-false, eqb-true}
+use lib.ListN.{get_or}
 use Rattle.base.specs.Pick.{pick}
 use Rattle.base.proofs.TestLaws.{and_both}
 use Rattle.megaco.specs.Square.{Square, square_of, of_bits, of_rows, low_of, high_of, up_to, joined_flow, joined_row, joined, parted}
 use Rattle.megaco.specs.Table.{Write, write, ctx, cell, prop, rec, used, flow, low_flow, high_flow, most, is_ephemeral, store, apply}
 use Rattle.megaco.specs.Items.{update}
 use Rattle.megaco.specs.Attempt.{number_of, is_choose, target, speaks, flows_of, flowing, joining, leaving, placed, marking, added, subtracted, side_writes, speaking, spoken, forgetting, changes}
-use Rattle.protocol.specs.Types.{Op, Add, Modify, Subtract, Move, AuditValue, Context, Given, Keep, To, Speech, Kept, Released, Session, Values, Seen, View}
+use Rattle.protocol.specs.Types.{Op, Add, Modify, Subtract, Move, AuditValue, Context, Given, Speech, Kept, Released, Session, Values, Seen, View}
 use Rattle.protocol.specs.Ranges.{InRange}
 use Rattle.attempt.specs.Judging.{value_or}
 
 -- ---- property words
 
 value_small : (g : Given) (x m : ℕ) → value_or g 0 ≤ m → value_or g x ≤ max x m
-value_small Keep x m h = omega arith
-value_small (To y) x m h = omega arith
+value_small None x m h = omega arith
+value_small (Some y) x m h = omega arith
 
 module _ (vs : Values) (word a b : ℕ) (f : InRange vs) (e : a ≡ value_or vs.mode (word % 8)) (d : b ≡ value_or vs.state (word / 8)) where
   pub state_fits_lem : word < 4294967296 → Fits w32 (8 * b)
@@ -49,10 +51,10 @@ unfolding apply pick flowing
 first_writes true w c q ws t = refl
 first_writes false w c q ws t = refl
 
-pub flows_put : (c low high : ℕ) (q : Square) (t t₁ t₂ : List ℕ) → low ≡ low_of q → t₁ ≡ store (write (cell (flow (low_flow c))) low) t → high ≡ high_of q
-    → t₂ ≡ store (write (cell (flow (high_flow c))) high) t₁ → t₂ ≡ apply (flowing c q []) t
-unfolding flowing apply
-flows_put c low high q t t₁ t₂ e p f r = r ∙ rw (p, e, f)
+pub flows_put : (c : ℕ) (words : List ℕ) (q : Square) (t u : List ℕ) → words ≡ (low_of q ∷ high_of q ∷ [])
+    → u ≡ apply (write (cell (flow (low_flow c))) (get_or words 0 0) ∷ write (cell (flow (high_flow c))) (get_or words 1 0) ∷ []) t → u ≡ apply (flowing c q []) t
+unfolding flowing
+flows_put c words q t u e p = p ∙ rw e
 
 -- more members than eight leave no place unused
 joined_full : (q : Square) (m k : ℕ) → 8 ≤ m → joined q 8 k ≡ joined q (m + 1) k
@@ -86,16 +88,10 @@ two_flow q zero h = refl
 two_flow q (suc zero) h = refl
 two_flow q (suc (suc k)) h = absurd (omega arith)
 
-pub two_put : (c : ℕ) (t t₁ t₂ : List ℕ) → t₁ ≡ store (write (cell (flow (low_flow c))) 258) t → t₂ ≡ store (write (cell (flow (high_flow c))) 0) t₁
-    → t₂ ≡ apply (flowing c (joined [] 2 0) []) t
+pub two_put : (c : ℕ) (t u : List ℕ) → u ≡ apply (write (cell (flow (low_flow c))) 258 ∷ write (cell (flow (high_flow c))) 0 ∷ []) t
+    → u ≡ apply (flowing c (joined [] 2 0) []) t
 unfolding joined joined_row joined_flow up_to pick low_of high_of of_rows of_bits
-two_put c t t₁ t₂ e f = flows_put c 258 0 (joined [] 2 0) t t₁ t₂ low e high f
-  where
-    low : 258 ≡ low_of (joined [] 2 0)
-    low = refl
-
-    high : 0 ≡ high_of (joined [] 2 0)
-    high = refl
+two_put c t u e = flows_put c (258 ∷ 0 ∷ []) (joined [] 2 0) t u refl e
 
 pub join_two : (c k : ℕ) (s : Seen) (t t' : List ℕ) → (eqb s.members 1 && ltb k 2) ≡ true → t' ≡ apply (flowing c (joined [] 2 0) []) t
     → t' ≡ apply (flowing c (joined (flows_of s) (s.members + 1) k) []) t

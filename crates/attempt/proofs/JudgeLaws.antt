@@ -1,4 +1,5 @@
 -- The laws by which `search tests` follows the tests of the code, and what tests that are passed tell.
+use Rattle.std.specs.Prelude.{Ok, Err}
 use Prim.Native.Nat.{ℕ}
 use mathlib.Core.Path.{◌≡◌, refl, sym, ◌∙◌}
 use mathlib.Core.List.{List, [], ◌∷◌}
@@ -9,11 +10,11 @@ use borrow.Author.Tests.{eq-eqb, ne_eqb, le-leb, lt-leb}
 use Rattle.base.specs.Pick.{pick}
 use Rattle.megaco.specs.Table.{state_of, is_ephemeral}
 use Rattle.megaco.specs.Attempt.{Check, check, judge, number_of, speaks, on_line, room_checks, checks}
-use Rattle.protocol.specs.Types.{Op, Add, Modify, Subtract, Move, AuditValue, Context, Checked, Passes, Fails, Speech, Kept, Released, Session, Values, View}
+use Rattle.protocol.specs.Types.{Op, Add, Modify, Subtract, Move, AuditValue, Context, Checked, Speech, Kept, Released, Session, Values, View}
 
 -- ---- the tests in turn
 
-pub fails_here : (b : Bool) (code : ℕ) (cs : List Check) → b ≡ true → Fails code ≡ judge (check b code ∷ cs)
+pub fails_here : (b : Bool) (code : ℕ) (cs : List Check) → b ≡ true → Err code ≡ judge (check b code ∷ cs)
 unfolding judge pick
 fails_here b code cs e = rw e
 
@@ -21,7 +22,7 @@ pub next_test : (b : Bool) (code : ℕ) (r : Checked) (cs : List Check) → b �
 unfolding judge pick
 next_test b code r cs e p = rw e p
 
-pub no_test : Passes ≡ judge []
+pub no_test : (Ok tt) ≡ judge []
 unfolding judge
 no_test = refl
 
@@ -32,7 +33,7 @@ pub not_no : (a b : ℕ) → a ≡ b → not (eqb a b) ≡ false
 not_no a b e = rw (eq-eqb a b e)
 
 -- the first test is passed where all are
-pub passed_first : (b : Bool) (code : ℕ) (cs : List Check) → judge (check b code ∷ cs) ≡ Passes → (b ≡ false) × (judge cs ≡ Passes)
+pub passed_first : (b : Bool) (code : ℕ) (cs : List Check) → judge (check b code ∷ cs) ≡ Ok tt → (b ≡ false) × (judge cs ≡ Ok tt)
 unfolding judge pick
 passed_first true code cs e = absurd (let z : ◌≡◌ {A = ℕ} 0 1 = cc in omega arith)
 passed_first false code cs e = (refl, e)

@@ -1,4 +1,5 @@
 // One attempt: judged by what it saw, and what it changes.
+// A code stays a number: the definitions tell it so (`Attempt.judge`, `Items.judge_items`), and the reply writes its digits.
 #![tactic(auto)]
 
 ghost use Rattle.std.specs.Prelude.{◌≡◌, [], ◌+◌, ◌<◌, ltb};
@@ -8,9 +9,10 @@ ghost use Rattle.megaco.specs.Table.{most, apply};
 ghost use Rattle.megaco.specs.Items.{update};
 ghost use Rattle.megaco.specs.Attempt.{judge, target, speaks, on_line, room_checks, checks, flows_of, flowing, joining, leaving, placed, marking, added, subtracted, speaking, spoken, forgetting, changes, settled};
 ghost use Rattle.protocol.specs.Ranges.{InRange};
+ghost use Rattle.table.specs.Sides.{side_number};
 ghost use Rattle.attempt.specs.Judging.{value_or};
 
-use megaco::{Checked, Context, Given, Op, Seen, Speech, Values, View};
+use megaco::{Context, Op, Seen, Side, Speech, Values, View};
 
 // ---- judging
 
@@ -18,19 +20,20 @@ use megaco::{Checked, Context, Given, Op, Seen, Speech, Values, View};
 const OUT_OF_SERVICE: u32 = 1;
 
 // 412 and 434.
-fn judge_room(at: Context, view: View) -> Checked
+fn judge_room(at: Context, view: View) -> Result<(), u32>
     ensures { result ≡ judge (room_checks at view) }
 {
     let there = view.there;
     if at.is_choose() & (view.free == 0) {
-        return Checked::Fails(412);
+        return Err(412);
     }
     if table::MOST <= there.members {
-        return Checked::Fails(434);
+        return Err(434);
     }
-    Checked::Passes
+    Ok(())
 }
 
+#[tactic(auto, using(crate::proofs::JudgeLaws::speaks_kept, crate::proofs::JudgeLaws::speaks_released, crate::proofs::JudgeLaws::speaks_session))]
 fn speaks(s: Speech) -> bool
     ensures { result ≡ speaks s }
 {
@@ -42,6 +45,7 @@ fn speaks(s: Speech) -> bool
 }
 
 // Whether Local or Remote is given to a line.
+#[tactic(auto, using(crate::proofs::JudgeLaws::on_line_by))]
 fn on_line(lines: u32, i: usize, values: Values) -> bool
     ensures { result ≡ on_line lines i values }
 {
@@ -51,60 +55,61 @@ fn on_line(lines: u32, i: usize, values: Values) -> bool
 }
 
 // Tests 5 and 6.
-pub fn judge_attempt(op: Op, at: Context, i: usize, values: Values, view: View) -> Checked
+pub fn judge_attempt(op: Op, at: Context, i: usize, values: Values, view: View) -> Result<(), u32>
     ensures { result ≡ judge (checks op at i values view) }
 {
     let c = at.number();
     match op {
         Op::Add => {
             if view.here != 0 {
-                return Checked::Fails(433);
+                return Err(433);
             }
             if on_line(view.lines, i, values) {
-                return Checked::Fails(447);
+                return Err(447);
             }
             judge_room(at, view)
         }
         Op::Modify => {
             if view.here != c {
-                return Checked::Fails(435);
+                return Err(435);
             }
             if on_line(view.lines, i, values) {
-                return Checked::Fails(447);
+                return Err(447);
             }
-            Checked::Passes
+            Ok(())
         }
         Op::Subtract => {
             if view.here != c {
-                return Checked::Fails(435);
+                return Err(435);
             }
-            Checked::Passes
+            Ok(())
         }
         Op::Move => {
             if view.here == 0 {
-                return Checked::Fails(435);
+                return Err(435);
             }
             if view.here == c {
-                return Checked::Fails(433);
+                return Err(433);
             }
             if view.word / 8 == OUT_OF_SERVICE {
-                return Checked::Fails(503);
+                return Err(503);
             }
             if on_line(view.lines, i, values) {
-                return Checked::Fails(447);
+                return Err(447);
             }
             judge_room(at, view)
         }
         Op::AuditValue => {
             if view.here != c {
-                return Checked::Fails(435);
+                return Err(435);
             }
-            Checked::Passes
+            Ok(())
         }
     }
 }
 
 // The number of the context that an attempt means.
+#[tactic(auto, unfolding(base::specs::Pick::pick, megaco::specs::Attempt::target))]
 fn target(at: Context, view: View) -> u32
     ensures { result ≡ target at view }
 {
@@ -116,6 +121,7 @@ fn target(at: Context, view: View) -> u32
 }
 
 // The action's context after an attempt that is done.
+#[tactic(auto, unfolding(base::specs::Pick::pick, megaco::specs::Attempt::settled))]
 pub fn settled(at: Context, view: View) -> Context
     ensures { result ≡ settled at view }
 {
@@ -128,12 +134,12 @@ pub fn settled(at: Context, view: View) -> Context
 
 // ---- property words
 
-fn value_or(g: Given, x: u32) -> u32
+fn value_or(g: Option<u32>, x: u32) -> u32
     ensures { result ≡ value_or g x }
 {
     match g {
-        Given::Keep => x,
-        Given::To(y) => y,
+        None => x,
+        Some(y) => y,
     }
 }
 
@@ -148,6 +154,7 @@ fn update(values: Values, word: u32) -> u32
 }
 
 // The property word that Add starts from.
+#[tactic(auto, unfolding(base::specs::Pick::pick, megaco::specs::Attempt::added))]
 fn added(lines: u32, i: usize, word: u32) -> u32
     ensures { result ≡ added lines i word }
 {
@@ -159,6 +166,7 @@ fn added(lines: u32, i: usize, word: u32) -> u32
 }
 
 // The property word that Subtract leaves.
+#[tactic(auto, unfolding(base::specs::Pick::pick, megaco::specs::Attempt::subtracted))]
 fn subtracted(lines: u32, i: usize, word: u32) -> u32
     ensures { result ≡ subtracted lines i word }
 {
@@ -175,11 +183,11 @@ fn subtracted(lines: u32, i: usize, word: u32) -> u32
 pub fn put_flows(table: &mut [u32], c: u32, q: [[bool; 8]; 8])
     ensures { table.new ≡ apply (flowing c q []) table.old }
 {
-    table::set_low_flow(table, c, square::low_of(q));
-    table::set_high_flow(table, c, square::high_of(q));
+    table::set_flows(table, c, square::pack(&q));
 }
 
 // One member more; past the square's places they are not told apart.
+#[tactic(auto, unfolding(base::specs::Pick::pick))]
 fn one_more(members: usize) -> usize
     ensures { result ≡ pick (ltb members most) (members + 1) most }
 {
@@ -190,18 +198,20 @@ fn one_more(members: usize) -> usize
 }
 
 // The flows of a context that one more has joined.
+#[tactic(auto, using(crate::proofs::ChangeLaws::joined_is))]
 fn joined_by(there: Seen, place: usize) -> [[bool; 8]; 8]
     ensures { result ≡ joined (flows_of there) (there.members + 1) place }
 {
-    let q = square::unpack(there.low, there.high);
+    let q = square::unpack([there.low, there.high]);
     square::join_place(&q, one_more(there.members), place)
 }
 
 // The flows of a context that one has left.
+#[tactic(auto, using(crate::proofs::ChangeLaws::parted_is))]
 fn parted_by(from: Seen, place: usize) -> [[bool; 8]; 8]
     ensures { result ≡ parted (flows_of from) place }
 {
-    let q = square::unpack(from.low, from.high);
+    let q = square::unpack([from.low, from.high]);
     square::part_place(&q, place)
 }
 
@@ -211,11 +221,11 @@ const TWO: u32 = 258;
 fn put_two(table: &mut [u32], c: u32)
     ensures { table.new ≡ apply (flowing c (joined [] 2 0) []) table.old }
 {
-    table::set_low_flow(table, c, TWO);
-    table::set_high_flow(table, c, 0);
+    table::set_flows(table, c, [TWO, 0]);
 }
 
 // The flows of a context that one more joins. Most contexts have two members: the second finds no flows, and the two words are known.
+#[tactic(auto, using(crate::proofs::ChangeLaws::join_two, crate::proofs::ChangeLaws::join_more))]
 fn join_flows(table: &mut [u32], c: u32, there: Seen, place: usize)
     ensures { table.new ≡ apply (flowing c (joined (flows_of there) (there.members + 1) place) []) table.old }
 {
@@ -227,6 +237,7 @@ fn join_flows(table: &mut [u32], c: u32, there: Seen, place: usize)
 }
 
 // `$` comes to be, with the record given; one that joins is bothway with every other.
+#[tactic(auto, using(crate::proofs::ChangeLaws::join_yes, crate::proofs::ChangeLaws::join_no))]
 fn join(table: &mut [u32], at: Context, given: u32, view: View)
     ensures { table.new ≡ apply (joining at given view []) table.old }
 {
@@ -239,6 +250,7 @@ fn join(table: &mut [u32], at: Context, given: u32, view: View)
 }
 
 // A context ends with its last termination; another takes its pairs with it.
+#[tactic(auto, using(crate::proofs::ChangeLaws::leave_yes, crate::proofs::ChangeLaws::leave_no))]
 fn leave(table: &mut [u32], view: View)
     ensures { table.new ≡ apply (leaving view []) table.old }
 {
@@ -251,6 +263,7 @@ fn leave(table: &mut [u32], view: View)
 }
 
 // The map's place of an ephemeral that comes to be or ends.
+#[tactic(auto, using(crate::proofs::ChangeLaws::mark_yes, crate::proofs::ChangeLaws::mark_no))]
 fn mark(table: &mut [u32], lines: u32, i: usize, on: bool)
     ensures { table.new ≡ apply (marking lines i (pick on 1 0) []) table.old }
 {
@@ -260,6 +273,7 @@ fn mark(table: &mut [u32], lines: u32, i: usize, on: bool)
 }
 
 // A termination put into a context, with its property word.
+#[tactic(auto, using(crate::proofs::ChangeLaws::place_by_lem))]
 fn place(table: &mut [u32], i: usize, c: u32, word: u32)
     ensures { table.new ≡ apply (placed i c word) table.old }
 {
@@ -267,44 +281,47 @@ fn place(table: &mut [u32], i: usize, c: u32, word: u32)
     table::set_property(table, i, word);
 }
 
-// What is given for Local, side 0, or Remote, side 1.
-fn speak(table: &mut [u32], i: usize, side: usize, s: Speech)
-    requires { side < 2 }
-    ensures { table.new ≡ apply (speaking i side s []) table.old }
+// What is given for Local or Remote.
+#[tactic(auto, using(crate::proofs::ChangeLaws::speak_kept, crate::proofs::ChangeLaws::speak_released))]
+fn speak(table: &mut [u32], i: usize, side: Side, s: Speech)
+    ensures { table.new ≡ apply (speaking i (side_number side) s []) table.old }
 {
     match s {
         Speech::Kept => {}
         Speech::Released => {
-            table::set_side(table, i, side, 0, 0, 0, 0);
+            table::set_side(table, i, side, [0; 4]);
         }
         Speech::Session(address, port, payload) => {
-            table::set_side(table, i, side, 1, address, port, payload);
+            table::set_side(table, i, side, [1, address, port, payload]);
         }
     }
 }
 
+#[tactic(auto, using(crate::proofs::ChangeLaws::both_spoken, crate::proofs::ChangeLaws::none_spoken))]
 fn speak_both(table: &mut [u32], i: usize, values: Values)
     ensures { table.new ≡ apply (spoken i values []) table.old }
 {
     let local = values.local;
     let remote = values.remote;
     if speaks(local) | speaks(remote) {
-        speak(table, i, 0, local);
-        speak(table, i, 1, remote);
+        speak(table, i, Side::OfLocal, local);
+        speak(table, i, Side::OfRemote, remote);
     }
 }
 
 // An ephemeral that ends: where its speech went is forgotten.
+#[tactic(auto, using(crate::proofs::ChangeLaws::forget_yes, crate::proofs::ChangeLaws::forget_no))]
 fn forget(table: &mut [u32], lines: u32, i: usize)
     ensures { table.new ≡ apply (forgetting lines i []) table.old }
 {
     if table::is_ephemeral(lines, i) {
-        speak(table, i, 0, Speech::Released);
-        speak(table, i, 1, Speech::Released);
+        speak(table, i, Side::OfLocal, Speech::Released);
+        speak(table, i, Side::OfRemote, Speech::Released);
     }
 }
 
 // What an attempt that is done writes.
+#[tactic(auto, using(crate::proofs::ChangeLaws::change_add, crate::proofs::ChangeLaws::change_modify, crate::proofs::ChangeLaws::change_subtract, crate::proofs::ChangeLaws::change_move, crate::proofs::ChangeLaws::change_audit))]
 pub fn change(
     table: &mut [u32],
     op: Op,

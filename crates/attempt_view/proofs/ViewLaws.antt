@@ -21,10 +21,13 @@ use Rattle.attempt_view.specs.Noted.{is_match, Noted, Matched}
 -- ---- contexts
 
 module _ (t : List ℕ) (c i : ℕ) where
-  pub found_known : (r : ContextSeen) → known c ≡ true → r.place ≡ place_in c i t → r.seen.held ≡ get t (cell (rec c)) → r.seen.members ≡ members c t
-      → r.seen.low ≡ get t (cell (flow (low_flow c))) → r.seen.high ≡ get t (cell (flow (high_flow c))) → SeesContext c i t r
+  pub found_known : (r : ContextSeen) (words : List ℕ) → known c ≡ true → r.place ≡ place_in c i t → r.seen.held ≡ get t (cell (rec c)) → r.seen.members ≡ members c t
+      → words ≡ (get t (cell (flow (low_flow c))) ∷ get t (cell (flow (high_flow c))) ∷ []) → r.seen.low ≡ get_or words 0 0 → r.seen.high ≡ get_or words 1 0 → SeesContext c i t r
   unfolding seen pick
-  found_known r h p e m l g = record { context = rw h (λ k. record { held = e k; members = m k; low = l k; high = g k }); order = p }
+  found_known r words h p e m w l g =
+      let a : r.seen.low ≡ get t (cell (flow (low_flow c))) = l ∙ rw w in
+      let b : r.seen.high ≡ get t (cell (flow (high_flow c))) = g ∙ rw w in
+      record { context = rw h (λ k. record { held = e k; members = m k; low = a k; high = b k }); order = p }
 
   pub found_none : (x : Bool) → x ≡ known c → x ≡ false → SeesContext c i t (record { seen = unseen; place = 0 })
   unfolding seen place_in pick

@@ -11,14 +11,15 @@ ghost use Rattle.attempt_view.specs.Noted.{is_match, Noted, Matched};
 use megaco::{Context, Op, Range, Seen, View};
 
 // The lowest number absent, asked in `$` alone.
+#[tactic(auto, unfolding(megaco::specs::Attempt::free_at))]
 fn free_at(table: &[u32], at: Context) -> u32
     requires { Sized table.now }
     ensures { result ≡ free_at at table.now }
 {
-    if at.is_choose() {
-        return table::free_context(table);
+    match at {
+        Context::Choose => table::free_context(table),
+        _ => 0,
     }
-    0
 }
 
 // A context as it is seen, and the place of one termination among its members.
@@ -29,6 +30,7 @@ pub struct ContextSeen {
 }
 
 // A context and the place of termination i in it; nothing where there can be no such context.
+#[tactic(auto, using(crate::proofs::ViewLaws::found_none, table::proofs::TableLaws::known_yes))]
 fn find(table: &[u32], c: u32, i: usize) -> ContextSeen
     requires { Sized table.now }
     ensures { SeesContext c i table.now result }
@@ -51,11 +53,12 @@ fn find_known(table: &[u32], c: u32, i: usize) -> ContextSeen
     ensures { SeesContext c i table.now result }
 {
     let n = table::count_members(table, c, i);
+    let [low, high] = table::flows_of(table, c);
     let s = Seen {
         held: table::record_of(table, c),
         members: n.members,
-        low: table::low_flow(table, c),
-        high: table::high_flow(table, c),
+        low,
+        high,
     };
     ContextSeen {
         seen: s,
@@ -64,6 +67,7 @@ fn find_known(table: &[u32], c: u32, i: usize) -> ContextSeen
 }
 
 // The same of context d, where it is not the one that was found already.
+#[tactic(auto, using(crate::proofs::ViewLaws::found_same))]
 fn find_other(table: &[u32], c: u32, found: ContextSeen, d: u32, i: usize) -> ContextSeen
     requires { (Sized table.now) × (SeesContext c i table.now found) }
     ensures { SeesContext d i table.now result }
@@ -103,18 +107,18 @@ pub fn look(table: &[u32], at: Context, i: usize) -> View
 // ---- wildcards
 
 // Whether a command on context c is for a termination with this context word.
+#[tactic(auto, unfolding(megaco::specs::Command::wanted))]
 fn is_wanted(op: Op, c: u32, word: u32) -> bool
     ensures { result ≡ wanted op c word }
 {
     match op {
         Op::Add => word == 0,
-        Op::Modify => word == c,
-        Op::Subtract => word == c,
+        Op::Modify | Op::Subtract | Op::AuditValue => word == c,
         Op::Move => (word != 0) & (word != c),
-        Op::AuditValue => word == c,
     }
 }
 
+#[tactic(auto, unfolding(crate::specs::Noted::is_match))]
 fn is_match(lines: u32, op: Op, c: u32, r: Range, i: usize, word: u32) -> bool
     ensures { result ≡ is_match lines op c r i word }
 {
@@ -122,6 +126,7 @@ fn is_match(lines: u32, op: Op, c: u32, r: Range, i: usize, word: u32) -> bool
 }
 
 // Notes a number at a place, if it is to be noted, and gives the next place.
+#[tactic(auto, unfolding(base::specs::Pick::pick))]
 fn note(out: &mut [u32], n: usize, i: u32, yes: bool) -> usize
     requires { n < 65536 }
     ensures { Noted out.old n i yes out.new result }
@@ -135,15 +140,14 @@ fn note(out: &mut [u32], n: usize, i: u32, yes: bool) -> usize
 }
 
 // Notes whom a wildcard matches in a row of context words.
+#[tactic(auto, using(crate::proofs::ViewLaws::noting_start))]
 fn note_row(lines: u32, row: &[u32], op: Op, c: u32, r: Range, out: &mut [u32]) -> usize
     requires { length row.now < 65536 }
     ensures { Matched (matches_from lines op c r 0 row.now) out.old out.new result }
 {
     let mut n: usize = 0;
-    let mut i: usize = 0;
-    while i < row.len() {
-        n = note(out, n, i as u32, is_match(lines, op, c, r, i, row[i]));
-        i += 1;
+    for (i, word) in row.iter().enumerate() {
+        n = note(out, n, i as u32, is_match(lines, op, c, r, i, *word));
     }
     n
 }

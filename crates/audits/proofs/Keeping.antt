@@ -1,4 +1,5 @@
 -- An audit leaves the state as it is.
+use Rattle.std.specs.Prelude.{Ok, Err}
 use Prim.Native.Nat.{ℕ, ◌-◌}
 use mathlib.Core.Path.{◌≡◌, refl, sym, ap, ◌∙◌, subst}
 use mathlib.Core.Bool.{Bool, true, false}
@@ -17,7 +18,7 @@ use Rattle.megaco.specs.Attempt.{judge, checks, changes, seen, number_of, look, 
 use Rattle.megaco.specs.Command.{Outcome, attempts, command_error, action_error, Targets, no_target, gateway, targets, run_targets, op_of, forbidden_in_null, no_context, from_test4, from_test2, unless_optional, from_test1, run_command}
 use Rattle.megaco.specs.Action.{start_checks, start_writes, any_given, over15, started_by, started}
 use Rattle.megaco.specs.Transaction.{Step, start, command_step, command_steps, no_commands, steps, Course, course, begin, advance, proceed, step, run, fresh, run_transaction}
-use Rattle.protocol.specs.Types.{Context, Null, Numbered, Choose, All, Op, AuditValue, Judged, Wrong, Right, Checked, Passes, Fails, Values, Seen, View}
+use Rattle.protocol.specs.Types.{Context, Null, Numbered, Choose, All, Op, AuditValue, Judged, Checked, Values, Seen, View}
 use Rattle.audits.specs.Audits.{IsAudit, Stays, Audits, OnlyAudits, TransactionStays, no_more, more}
 
 -- ---- a command
@@ -28,16 +29,16 @@ module _ (wild : Bool) (name : List ℕ) (given : ℕ) (vs : Values) where
   no_writes i at v b = by (judge (checks AuditValue at i vs v))
     where
       by : (x : Checked) → (concluded AuditValue wild name given vs i at v b x).writes ≡ []
-      by Passes = refl
-      by (Fails code) = refl
+      by (Ok tt) = refl
+      by (Err code) = refl
 
   no_blocks : (i : ℕ) (at : Context) (v : View) (b : Block) → (effect AuditValue wild name given vs i at v b).blocks ≡ []
   unfolding effect concluded renews
   no_blocks i at v b = by (judge (checks AuditValue at i vs v))
     where
       by : (x : Checked) → (concluded AuditValue wild name given vs i at v b x).blocks ≡ []
-      by Passes = refl
-      by (Fails code) = refl
+      by (Ok tt) = refl
+      by (Err code) = refl
 
   -- what an attempt comes to, by the view and the block of its termination
   abbrev pub effect_in : ℕ → Context → State → Effect
@@ -61,8 +62,8 @@ targets_keep name given vs (targets wild is) at st = attempts_keep wild name giv
 
 test4_keeps : (name : List ℕ) (given : ℕ) (items : Bool) (j : Judged) (at : Context) (st : State) → (from_test4 AuditValue name given items j at st).state ≡ st
 unfolding from_test4 command_error
-test4_keeps name given items (Wrong code) at st = refl
-test4_keeps name given items (Right vs) at st = targets_keep name given vs _ at st
+test4_keeps name given items (Err code) at st = refl
+test4_keeps name given items (Ok vs) at st = targets_keep name given vs _ at st
 
 test1_keeps : (o : Bool) (name : List ℕ) (items : Items) (given : ℕ) (at : Context) (st : State) → (from_test1 o (some AuditValue) name items given at st).state ≡ st
 unfolding from_test1 action_error unless_optional from_test2 command_error
@@ -88,11 +89,11 @@ unfolding started started_by start_writes any_given pick
 still_start c alone there links = by c (judge (start_checks c [] alone there links))
   where
     by : (d : Context) (x : Checked) → (started_by d [] alone there links x).writes ≡ []
-    by Null Passes = refl
-    by (Numbered n) Passes = refl
-    by Choose Passes = refl
-    by All Passes = refl
-    by d (Fails code) = refl
+    by Null (Ok tt) = refl
+    by (Numbered n) (Ok tt) = refl
+    by Choose (Ok tt) = refl
+    by All (Ok tt) = refl
+    by d (Err code) = refl
 
 start_keeps : (c : Context) (alone : Bool) (st : State) (acts : List Acted) → (proceed (start c [] alone) st acts).state ≡ st
 unfolding proceed begin apply

@@ -1,4 +1,5 @@
 -- What audits report: of each termination what the table holds.
+use Rattle.std.specs.Prelude.{Ok, Err}
 use Prim.Native.Nat.{ℕ, ◌-◌}
 use mathlib.Core.Path.{◌≡◌, refl, sym, ap, ap₂, ◌∙◌, subst}
 use mathlib.Core.Bool.{Bool, true, false, not}
@@ -19,7 +20,7 @@ use Rattle.megaco.specs.Items.{given?, judge_items}
 use Rattle.megaco.specs.Reply.{nothing, Report, done, refused, failed}
 use Rattle.megaco.specs.Attempt.{Check, check, judge, checks, seen, number_of, look, is_choose, settled, detail_of, told_of, concluded, effect, Effect}
 use Rattle.megaco.specs.Command.{Outcome, attempts, command_error, action_error, Targets, no_target, gateway, targets, is_null, is_subtract, in_place, not_for_root, targets_of, run_targets, op_of, forbidden_in_null, no_context, from_test4, from_test2, unless_optional, from_test1, run_command}
-use Rattle.protocol.specs.Types.{Context, Null, Numbered, Choose, All, Op, AuditValue, Name, Termination, Judged, Wrong, Right, Checked, Passes, Fails, Values}
+use Rattle.protocol.specs.Types.{Context, Null, Numbered, Choose, All, Op, AuditValue, Name, Termination, Judged, Checked, Values}
 use Rattle.audits.specs.Audits.{IsAudit, held_report, Honest, of_one, of_root, of_none, of_action_lem, AllHonest, no_more, more, ReportsHeld, ReportsNamed, reports_of}
 use Rattle.audits.proofs.Keeping.{effect_keeps}
 
@@ -42,7 +43,7 @@ module _ (wild : Bool) (name : List ℕ) (given : ℕ) (vs : Values) where
   unfolding effect checks judge look
   effect_reports i at t x = by (eqb (get t (ctx i)) (number_of at))
     where
-      by : (b : Bool) → (concluded AuditValue wild name given vs i at (look at i t) x (pick (not b) (Fails 435) Passes)).report ≡ reported at t i b
+      by : (b : Bool) → (concluded AuditValue wild name given vs i at (look at i t) x (pick (not b) (Err 435) (Ok tt))).report ≡ reported at t i b
       by true = unfold concluded told_of pick in refl
       by false = unfold concluded pick in refl
 
@@ -51,8 +52,8 @@ module _ (wild : Bool) (name : List ℕ) (given : ℕ) (vs : Values) where
   effect_at i at t b n = by (judge (checks AuditValue at i vs (look at i t)))
     where
       by : (x : Checked) → (concluded AuditValue wild name given vs i at (look at i t) b x).at ≡ at
-      by Passes = unfold concluded settled pick in rw n
-      by (Fails code) = unfold concluded in refl
+      by (Ok tt) = unfold concluded settled pick in rw n
+      by (Err code) = unfold concluded in refl
 
   pub attempts_report : (is : List ℕ) (at : Context) (st : State) → is_choose at ≡ false
       → (attempts AuditValue wild name given vs is at st).reports ≡ reports_of (λ i. reported at st.table i (eqb (get st.table (ctx i)) (number_of at))) is
@@ -85,8 +86,8 @@ targets_honest name given vs (targets wild is) at st n =
 
 test4_honest : (name : List ℕ) (given : ℕ) (items : Bool) (j : Judged) (at : Context) (st : State) → is_choose at ≡ false → AllHonest at st.table (from_test4 AuditValue name given items j at st).reports
 unfolding from_test4 command_error
-test4_honest name given items (Wrong code) at st n = more (of_none name code) no_more
-test4_honest name given items (Right vs) at st n = targets_honest name given vs _ at st n
+test4_honest name given items (Err code) at st n = more (of_none name code) no_more
+test4_honest name given items (Ok vs) at st n = targets_honest name given vs _ at st n
 
 test1_honest : (o : Bool) (name : List ℕ) (items : Items) (given : ℕ) (at : Context) (st : State) → AllHonest at st.table (from_test1 o (some AuditValue) name items given at st).reports
 unfolding from_test1 action_error unless_optional from_test2 command_error
@@ -111,7 +112,7 @@ never_421 All = refl
 
 -- tests 1 to 3 passed
 pub targets_run : (o w : Bool) (word name : List ℕ) (items : Items) (vs : Values) (given : ℕ) (at : Context) (st : State) → op_of w word ≡ some AuditValue
-    → no_context AuditValue at (seen (number_of at) st.table).held ≡ false → judge_items AuditValue items ≡ Right vs
+    → no_context AuditValue at (seen (number_of at) st.table).held ≡ false → judge_items AuditValue items ≡ Ok vs
     → (run_command (command o w word name items) given at st).reports
     ≡ (run_targets AuditValue name given vs (targets_of AuditValue at (not_for_root AuditValue (given? items) vs) (name_of (fitted st.table) name) st.table) at st).reports
 unfolding run_command from_test1 from_test2 from_test4 unless_optional pick

@@ -1,5 +1,5 @@
 -- What a controller may rely on when it audits (document 02, request 1: "Let the controller ask what it has"). Proved in proofs/Theorems.antt: `audits`.
-use Rattle.std.specs.Prelude.{ℕ, ◌+◌, ◌≤◌, ◌<◌, ◌≡◌, ◌↔◌, ◌⊎◌, Bool, true, false, List, [], ◌∷◌}
+use Rattle.std.specs.Prelude.{ℕ, ◌+◌, ◌≤◌, ◌<◌, ◌≡◌, ◌↔◌, ◌⊎◌, Bool, true, false, List, [], ◌∷◌, Ok}
 use Rattle.std.proofs.Math.Option.{some}
 use Rattle.base.specs.Bytes.{text}
 use Rattle.megaco.specs.Tree.{Items, Command, command, Action, action, Transaction, transaction, fault400, fault403, fault406}
@@ -14,7 +14,7 @@ use Rattle.megaco.specs.Command.{no_context, matches, op_of, run_command}
 use Rattle.megaco.specs.Transaction.{run_transaction}
 use Rattle.megaco.specs.Room.{Room}
 use Rattle.megaco.specs.Call.{call}
-use Rattle.protocol.specs.Types.{Context, AuditValue, Range, Termination, Wildcard, Right, Values}
+use Rattle.protocol.specs.Types.{Context, AuditValue, Range, Termination, Wildcard, Values}
 use Rattle.laws.specs.Membership.{◌∈◌}
 
 -- a command that is AuditValue, without `W-`
@@ -65,7 +65,7 @@ ReportsHeld = (c : Command) → IsAudit c → (given : ℕ) (at : Context) (st :
 abbrev pub ReportsNamed : Type 0
 ReportsNamed =
     (o w : Bool) (word name : List ℕ) (items : Items) (vs : Values) (given : ℕ) (at : Context) (st : State) (i : ℕ) → op_of w word ≡ some AuditValue
-    → no_context AuditValue at (seen (number_of at) st.table).held ≡ false → judge_items AuditValue items ≡ Right vs → name_of (fitted st.table) name ≡ Termination i
+    → no_context AuditValue at (seen (number_of at) st.table).held ≡ false → judge_items AuditValue items ≡ Ok vs → name_of (fitted st.table) name ≡ Termination i
     → exists (fitted st.table) i (get st.table (ctx i)) ≡ true → get st.table (ctx i) ≡ number_of at
     → (run_command (command o w word name items) given at st).reports ≡ held_report vs st.table i ∷ []
 
@@ -104,7 +104,7 @@ pub record Wild (r : Range) (vs : Values) (name : List ℕ) (at : Context) (t : 
 abbrev pub ReportsWild : Type 0
 ReportsWild =
     (o w : Bool) (word name : List ℕ) (items : Items) (vs : Values) (given : ℕ) (at : Context) (st : State) (r : Range) → sound st.table ≡ true → op_of w word ≡ some AuditValue
-    → no_context AuditValue at (seen (number_of at) st.table).held ≡ false → judge_items AuditValue items ≡ Right vs → name_of (fitted st.table) name ≡ Wildcard r
+    → no_context AuditValue at (seen (number_of at) st.table).held ≡ false → judge_items AuditValue items ≡ Ok vs → name_of (fitted st.table) name ≡ Wildcard r
     → Wild r vs name at st.table (run_command (command o w word name items) given at st).reports
 
 -- ---- (d) the afternoon: after a message that is answered with 400, 403 or 406 any message, and so any audit, is answered as it would have been before it

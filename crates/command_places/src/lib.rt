@@ -2,32 +2,35 @@
 // stands, what is found has no meaning.
 #![tactic(auto)]
 
-ghost use Rattle.std.specs.Prelude.{◌≡◌, ◌+◌, ◌<◌};
-ghost use Rattle.megaco.specs.Bytes.{comma, left_brace, right_brace};
-ghost use Rattle.read_command.specs.Production.{end_of, past_white, past_sign};
+ghost use Rattle.std.specs.Prelude.{◌≡◌, ◌+◌, ◌<◌, ◌^◌, ℕ};
+ghost use Rattle.base.specs.Pick.{pick};
+ghost use Rattle.base.specs.Lists.{is_at};
+ghost use Rattle.megaco.specs.Bytes.{comma, left_brace, right_brace, quote};
+ghost use Rattle.read_command.specs.Pieces.{piece_of};
+ghost use Rattle.command_places.specs.declared.ValuePlace.TheVariants.{Plain, Quoted};
+ghost use Rattle.read_command.specs.Production.{end_of, past_white, past_sign, list_end};
 ghost use Rattle.read_command.specs.Places.{second_at, item_at, items_at, media_item_at, media_at, top_item_at, top_at};
-ghost use Rattle.command_places.specs.Found.{next_at, OfValue, OfItem, OfSpeech, bytes_of, TextWithin, text_at, text_place, marks_of, OfCommand, command_end_from};
+ghost use Rattle.command_places.specs.Found.{next_at, inside_at, OfValue, OfItem, OfSpeech, bytes_of, TextWithin, text_at, text_place, marks_of, OfCommand, command_end_from};
 
-use megaco::{Class, Parsed};
+use megaco::Class;
 use read_command::Piece;
 
-// A value that may stand in an item: whether it does and stands between quotes, its bytes if it is plain, and the place behind it.
+// A value in an item: its bytes, or that it stands between quotes.
 #[derive(Clone, Copy)]
-pub struct ValuePlaces {
-    pub given: bool,
-    pub quoted: bool,
-    pub plain: Piece,
-    pub end: usize,
+pub enum ValuePlace {
+    Plain(Piece),
+    Quoted(Piece),
 }
 
-// An item: its word, whether a second word follows, its value, whether braces follow, and where the items in them begin.
+// An item: its word, whether a second word follows, its value if it has one, the place behind them, and where the items in its braces begin
+// if it has braces.
 #[derive(Clone, Copy)]
 pub struct ItemPlaces {
     pub word: Piece,
     pub second: bool,
-    pub value: ValuePlaces,
-    pub braces: bool,
-    pub inside: usize,
+    pub value: Option<ValuePlace>,
+    pub end: usize,
+    pub inside: Option<usize>,
 }
 
 // Local or Remote with a text in its braces: its word, the text, and the place behind the closing brace.
@@ -46,7 +49,7 @@ pub struct Marks {
     pub at: usize,
 }
 
-// A command: its marks, its word, its name, the place behind them, whether braces follow, and where the items in them begin.
+// A command: its marks, its word, its name, the place behind them, and where the items in its braces begin if it has braces.
 #[derive(Clone, Copy)]
 pub struct CommandPlaces {
     pub optional: bool,
@@ -54,22 +57,20 @@ pub struct CommandPlaces {
     pub word: Piece,
     pub name: Piece,
     pub end: usize,
-    pub braces: bool,
-    pub inside: usize,
+    pub inside: Option<usize>,
 }
 
 // ---- places
 
 // Where a reader stopped.
-pub fn end_of(x: Parsed) -> usize
+#[tactic(auto, unfolding(read_command::specs::Production::end_of))]
+pub fn end_of(x: Option<usize>) -> usize
     ensures { result ≡ end_of x }
 {
-    match x {
-        Parsed::Next(p) => p,
-        Parsed::Fault => 0,
-    }
+    x.unwrap_or(0)
 }
 
+#[tactic(auto, unfolding(read_command::specs::Production::past_white))]
 pub fn past_white(s: &[u8], at: usize) -> usize
     ensures { result ≡ past_white s.now at }
 {
@@ -77,6 +78,7 @@ pub fn past_white(s: &[u8], at: usize) -> usize
 }
 
 // The place past a sign, and white space.
+#[tactic(auto, unfolding(read_command::specs::Production::past_sign))]
 fn past_sign(s: &[u8], at: usize, b: u8) -> usize
     requires { 0 < b }
     ensures { result ≡ past_sign b s.now at }
@@ -103,18 +105,47 @@ pub fn past_closing(s: &[u8], at: usize) -> usize
 }
 
 // Where the next of the parts joined by commas begins, if one follows the part that ends here.
-pub fn next_part(s: &[u8], e: usize) -> Parsed
+#[tactic(auto, unfolding(crate::specs::Found::next_at, base::specs::Pick::pick))]
+pub fn next_part(s: &[u8], e: usize) -> Option<usize>
     ensures { result ≡ next_at s.now e }
 {
     if text::is_at(s, e, b',') {
-        return Parsed::Next(past_comma(s, e));
+        return Some(past_comma(s, e));
     }
-    Parsed::Fault
+    None
+}
+
+// Where what stands in braces begins, if braces follow here.
+#[tactic(auto, unfolding(crate::specs::Found::inside_at, base::specs::Pick::pick))]
+fn inside_of(s: &[u8], e: usize) -> Option<usize>
+    ensures { result ≡ inside_at s.now e }
+{
+    if text::is_at(s, e, b'{') {
+        return Some(past_opening(s, e));
+    }
+    None
+}
+
+// The end of at most so many parts joined by commas, the first of which begins here: `end` tells where one ends.
+pub fn list_end<F: Fn(usize) -> usize>(s: &[u8], most: usize, at: usize, end: F) -> usize
+    requires { F.IsAlwaysCallable end }
+    ensures { (one : ℕ → ℕ) → ((i : ℕ) (r : ℕ) → i < 2 ^ 64 → F.post end i r → r ≡ one i) → result ≡ list_end one s.now most at }
+{
+    let mut i = at;
+    for n in 0..most {
+        let e = end(i);
+        match next_part(s, e) {
+            Some(u) => i = u,
+            None => return e,
+        }
+    }
+    i
 }
 
 // ---- items
 
 // The end of a second word that may stand here.
+#[tactic(auto, using(text::proofs::TextLaws::reads), unfolding(read_command::specs::Places::second_at, read_command::specs::Production::word_end, base::specs::Pick::pick))]
 fn second_end(s: &[u8], at: usize) -> usize
     ensures { result ≡ (second_at s.now at).end }
 {
@@ -124,30 +155,28 @@ fn second_end(s: &[u8], at: usize) -> usize
     at
 }
 
-// A value that may stand here.
-fn value_places(s: &[u8], at: usize) -> ValuePlaces
-    ensures { OfValue s.now at result }
+// The value between these places.
+#[tactic(auto, unfolding(base::specs::Pick::pick))]
+fn value_place(s: &[u8], a: usize, e: usize) -> ValuePlace
+    ensures { result ≡ pick (is_at s.now a quote) (Quoted (piece_of s.now a e)) (Plain (piece_of s.now a e)) }
+{
+    let piece = read_command::piece_of(s, a, e);
+    if text::is_at(s, a, b'"') {
+        return ValuePlace::Quoted(piece);
+    }
+    ValuePlace::Plain(piece)
+}
+
+// A value that may stand here, and the place behind it.
+fn value_places(s: &[u8], at: usize) -> (Option<ValuePlace>, usize)
+    ensures { OfValue s.now at result.0 result.1 }
 {
     if text::is_at(s, at, b'=') {
         let a = past_sign(s, at, b'=');
         let e = end_of(tokens::value(s, a));
-        let q = text::is_at(s, a, b'"');
-        let plain = read_command::piece_of(s, a, e);
-        let end = past_white(s, e);
-        return ValuePlaces {
-            given: true,
-            quoted: q,
-            plain: plain,
-            end: end,
-        };
+        return (Some(value_place(s, a, e)), past_white(s, e));
     }
-    let none = read_command::piece_of(s, 0, 0);
-    ValuePlaces {
-        given: false,
-        quoted: false,
-        plain: none,
-        end: at,
-    }
+    (None, at)
 }
 
 // An item.
@@ -155,36 +184,32 @@ pub fn item_places(s: &[u8], at: usize) -> ItemPlaces
     ensures { OfItem s.now at result }
 {
     let w = text::row(s, at, Class::WordByte);
-    let word = read_command::piece_of(s, at, w);
-    let second = text::is_at(s, w, b'/');
-    let v = value_places(s, past_white(s, second_end(s, w)));
-    let e = v.end;
-    let braces = text::is_at(s, e, b'{');
-    let inside = past_opening(s, e);
+    let (value, end) = value_places(s, past_white(s, second_end(s, w)));
     ItemPlaces {
-        word: word,
-        second: second,
-        value: v,
-        braces: braces,
-        inside: inside,
+        word: read_command::piece_of(s, at, w),
+        second: text::is_at(s, w, b'/'),
+        value,
+        end,
+        inside: inside_of(s, end),
     }
 }
 
 // The end of an item that may hold `left` levels.
 #[cycle(item_end_items_end)]
+#[tactic(auto, using(crate::proofs::PlaceLaws::item_empty, crate::proofs::PlaceLaws::item_braced, crate::proofs::PlaceLaws::item_plain))]
 fn item_end(s: &[u8], left: usize, at: usize) -> usize
     ensures { result ≡ (item_at left (items_at left s.now) s.now at).end }
 {
     let p = item_places(s, at);
-    if p.braces {
-        let inside = p.inside;
-        if read_command::empty_here(s, left, at, inside) {
-            return past_closing(s, inside);
+    match p.inside {
+        Some(inside) => {
+            if read_command::empty_here(s, left, at, inside) {
+                return past_closing(s, inside);
+            }
+            past_closing(s, items_end(s, left, inside))
         }
-        return past_closing(s, items_end(s, left, inside));
+        None => p.end,
     }
-    let v = p.value;
-    v.end
 }
 
 // The end of the items of at most `left` levels that begin here.
@@ -195,18 +220,11 @@ fn items_end(s: &[u8], left: usize, at: usize) -> usize
     if left == 0 {
         return at;
     }
-    let mut i = at;
-    let mut n = 0;
-    while n <= s.len() {
-        let e = item_end(s, left - 1, i);
-        let x = next_part(s, e);
-        let Parsed::Next(u) = x else {
-            return e;
-        };
-        i = u;
-        n += 1;
-    }
-    i
+    let lower = left - 1;
+    let end = |i: usize| -> usize
+        ensures { result ≡ (item_at lower (items_at lower s.entry.now) s.entry.now i).end }
+    { item_end(s, lower, i) };
+    list_end(s, s.len() + 1, at, end)
 }
 
 // ---- Local and Remote in a level 1 Media
@@ -216,28 +234,23 @@ pub fn speech_places(s: &[u8], at: usize) -> SpeechPlaces
     ensures { OfSpeech s.now at result }
 {
     let w = text::row(s, at, Class::WordByte);
-    let word = read_command::piece_of(s, at, w);
     let a = past_opening(s, past_white(s, w));
     let e = end_of(text::octets(s, a));
-    let held = read_command::piece_of(s, a, e);
-    let end = past_closing(s, e);
     SpeechPlaces {
-        word: word,
-        text: held,
-        end: end,
+        word: read_command::piece_of(s, at, w),
+        text: read_command::piece_of(s, a, e),
+        end: past_closing(s, e),
     }
 }
 
 // The text of Local or Remote whose parts are found: the part of the message that holds it, in the message's own memory.
+#[tactic(auto, unfolding(base::specs::Lists::part))]
 pub fn text_of<'a>(s: &'a [u8], p: SpeechPlaces) -> &'a [u8]
     requires { TextWithin s.now p }
     ensures result_value { result.now ≡ bytes_of s.now p.text }
     ensures ref_ptr_value { result.ref_ptr ≡ (s.entry.ref_ptr.0, p.text.from + s.entry.ref_ptr.1) }
 {
-    let held = p.text;
-    let a = held.from;
-    let e = held.to;
-    &s[a..e]
+    &s[p.text.from..p.text.to]
 }
 
 // The same of Local or Remote that begins here, for the RTP card: up to the first brace that has no backslash before it.
@@ -245,17 +258,16 @@ pub fn speech_text<'a>(s: &'a [u8], at: usize) -> &'a [u8]
     ensures result_value { result.now ≡ text_at s.now at }
     ensures ref_ptr_value { result.ref_ptr ≡ (s.entry.ref_ptr.0, text_place s.now at + s.entry.ref_ptr.1) }
 {
-    let p = speech_places(s, at);
-    text_of(s, p)
+    text_of(s, speech_places(s, at))
 }
 
 // The end of what stands in a level 1 Media.
+#[tactic(auto, using(crate::proofs::PlaceLaws::ends_speech, crate::proofs::PlaceLaws::ends_item))]
 pub fn media_item_end(s: &[u8], at: usize) -> usize
     ensures { result ≡ (media_item_at s.now at).end }
 {
     if read_command::speech_here(s, at) {
-        let p = speech_places(s, at);
-        return p.end;
+        return speech_places(s, at).end;
     }
     item_end(s, 6, at)
 }
@@ -263,37 +275,31 @@ pub fn media_item_end(s: &[u8], at: usize) -> usize
 fn media_end(s: &[u8], at: usize) -> usize
     ensures { result ≡ (media_at s.now at).end }
 {
-    let mut i = at;
-    let mut n = 0;
-    while n <= s.len() {
-        let e = media_item_end(s, i);
-        let x = next_part(s, e);
-        let Parsed::Next(u) = x else {
-            return e;
-        };
-        i = u;
-        n += 1;
-    }
-    i
+    let end = |i: usize| -> usize
+        ensures { result ≡ (media_item_at s.entry.now i).end }
+    { media_item_end(s, i) };
+    list_end(s, s.len() + 1, at, end)
 }
 
 // The end of a level 1 Media.
+#[tactic(auto, using(crate::proofs::PlaceLaws::media_empty, crate::proofs::PlaceLaws::media_braced, crate::proofs::PlaceLaws::media_plain))]
 fn whole_media_end(s: &[u8], at: usize) -> usize
     ensures { result ≡ (item_at 7 (media_at s.now) s.now at).end }
 {
     let p = item_places(s, at);
-    if p.braces {
-        let inside = p.inside;
-        if read_command::empty_here(s, 7, at, inside) {
-            return past_closing(s, inside);
+    match p.inside {
+        Some(inside) => {
+            if read_command::empty_here(s, 7, at, inside) {
+                return past_closing(s, inside);
+            }
+            past_closing(s, media_end(s, inside))
         }
-        return past_closing(s, media_end(s, inside));
+        None => p.end,
     }
-    let v = p.value;
-    v.end
 }
 
 // The end of an item of level 1.
+#[tactic(auto, using(crate::proofs::PlaceLaws::ends_media, crate::proofs::PlaceLaws::ends_top))]
 pub fn top_item_end(s: &[u8], at: usize) -> usize
     ensures { result ≡ (top_item_at s.now at).end }
 {
@@ -306,22 +312,15 @@ pub fn top_item_end(s: &[u8], at: usize) -> usize
 fn top_end(s: &[u8], at: usize) -> usize
     ensures { result ≡ (top_at s.now at).end }
 {
-    let mut i = at;
-    let mut n = 0;
-    while n <= s.len() {
-        let e = top_item_end(s, i);
-        let x = next_part(s, e);
-        let Parsed::Next(u) = x else {
-            return e;
-        };
-        i = u;
-        n += 1;
-    }
-    i
+    let end = |i: usize| -> usize
+        ensures { result ≡ (top_item_at s.entry.now i).end }
+    { top_item_end(s, i) };
+    list_end(s, s.len() + 1, at, end)
 }
 
 // ---- commands
 
+#[tactic(auto, using(crate::proofs::PlaceLaws::marks_found))]
 fn prefixes(s: &[u8], at: usize) -> Marks
     ensures { result ≡ marks_of s.now at }
 {
@@ -339,33 +338,27 @@ pub fn command_places(s: &[u8], at: usize) -> CommandPlaces
     ensures { OfCommand s.now at result }
 {
     let m = prefixes(s, at);
-    let w = m.at;
-    let e = text::row(s, w, Class::WordByte);
-    let word = read_command::piece_of(s, w, e);
+    let e = text::row(s, m.at, Class::WordByte);
     let n = past_sign(s, past_white(s, e), b'=');
     let f = end_of(tokens::termination(s, n));
-    let name = read_command::piece_of(s, n, f);
     let end = past_white(s, f);
-    let braces = text::is_at(s, end, b'{');
-    let inside = past_opening(s, end);
     CommandPlaces {
         optional: m.optional,
         wild: m.wild,
-        word: word,
-        name: name,
-        end: end,
-        braces: braces,
-        inside: inside,
+        word: read_command::piece_of(s, m.at, e),
+        name: read_command::piece_of(s, n, f),
+        end,
+        inside: inside_of(s, end),
     }
 }
 
 // The end of a command whose parts are found.
+#[tactic(auto, unfolding(crate::specs::Found::command_end_from, crate::specs::Found::closed_end))]
 pub fn command_end(s: &[u8], p: CommandPlaces) -> usize
     ensures { result ≡ command_end_from s.now p }
 {
-    if p.braces {
-        let inside = p.inside;
-        return past_closing(s, top_end(s, inside));
+    match p.inside {
+        Some(inside) => past_closing(s, top_end(s, inside)),
+        None => p.end,
     }
-    p.end
 }

@@ -1,27 +1,18 @@
 -- A row written and read, for C.
-use Prim.Native.Nat.{ℕ, ◌*◌}
+use Prim.Native.Nat.{ℕ, ◌≤◌}
 use mathlib.Core.Path.{◌≡◌, ap, ◌∙◌}
 use mathlib.Core.List.{List}
-use Rattle.row_laws.specs.Answers.{Wrote, packed, refusal_of, WroteRow}
-use Rattle.row_laws.specs.declared.Answer.{Answer}
-use Rattle.row_laws.specs.declared.Answer.TheVariants.{Done, Refused}
+use native.Mathlib.Omega.{arith}
+use Rattle.row_laws.specs.declared.RowError.{RowError}
+use Rattle.row_laws.specs.declared.RowError.TheVariants.{LinesUnfit, OutputTooShort, TableUnsound, RowUnfit}
+use Rattle.row_laws.specs.Answers.{Answer, number_of, Wrote, packed, WroteRow}
 
-module _ (a : Answer) (k : ℕ) where
-  pub packed_done : a ≡ Done k → k ≡ packed a
-  unfolding packed
-  packed_done e = rw e
-
-  pub packed_refused : a ≡ Refused k → k * 4294967296 ≡ packed a
-  unfolding packed
-  packed_refused e = rw e
-
-  pub refusal_done : a ≡ Done k → 0 ≡ refusal_of a
-  unfolding refusal_of
-  refusal_done e = rw e
-
-  pub refusal_refused : a ≡ Refused k → k ≡ refusal_of a
-  unfolding refusal_of
-  refusal_refused e = rw e
+pub number_small : (e : RowError) → number_of e ≤ 11
+unfolding number_of
+number_small LinesUnfit = omega arith
+number_small OutputTooShort = omega arith
+number_small TableUnsound = omega arith
+number_small RowUnfit = omega arith
 
 pub row_written : (n : ℕ) (t o o' : List ℕ) (a : Answer) (r : ℕ) → Wrote n t o o' a → r ≡ packed a → WroteRow n t o o' r
 row_written n t o o' a r w e = record { answer = e ∙ ap packed w.answer; bytes = w.bytes }

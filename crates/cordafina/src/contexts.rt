@@ -15,7 +15,7 @@ pub extern "C" fn cordafina_contexts(lines: u32, table: &[u32], out: &mut [u8]) 
     8 * 4294967296
 }
 
-// The same with a good count of lines.
+// The same with a good count of lines. No Result: C reads the length and the refusal from one number.
 fn contexts_fitted(lines: u32, table: &[u32], out: &mut [u8]) -> u64
     requires { within lines most_lines ≡ true }
     ensures { Shown (contexts_of lines table.now out.old) out.new result }

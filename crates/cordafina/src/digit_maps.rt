@@ -1,75 +1,36 @@
 // Digit maps (CR 8, CR 9). An answer is one number (digits/specs/Codes).
-ghost use Rattle.std.specs.Prelude.{◌≡◌, ◌≤◌};
+ghost use Rattle.std.specs.Prelude.{◌≡◌, ◌≤◌, IfSome};
 ghost use Rattle.digits.specs.Dialling.{load, dial};
-ghost use Rattle.digits.specs.Codes.{progress_code, timer_code, timer_at, zero_at, packed};
+ghost use Rattle.digits.specs.Codes.{zero_at, packed};
 ghost use Rattle.dialling.specs.Cells.{plan_in};
 ghost use Rattle.cordafina.specs.Heads.{head_of, loaded_at};
 
 use dialling::{CELLS, Loaded};
-use digits::{Dialled, Progress, Timer, ZeroStart};
+use digits::{Answer, DialError, Timer, ZeroStart};
 
 // ---- numbers
 
+// No From: for C any number but 0 says that a start timer of zero runs out.
+#[tactic(auto, unfolding(digits::specs::Codes::zero_at, base::specs::Pick::pick))]
 fn zero_at(n: u32) -> ZeroStart
     ensures { result ≡ zero_at n }
 {
     if n == 0 {
-        return ZeroStart::Waits;
+        ZeroStart::Waits
+    } else {
+        ZeroStart::RunsOut
     }
-    ZeroStart::RunsOut
-}
-
-fn progress_code(p: Progress) -> u32
-    ensures value { result ≡ progress_code p }
-    ensures upper_bound { result ≤ 3 }
-{
-    match p {
-        Progress::NoMatch => 0,
-        Progress::MoreNeeded => 1,
-        Progress::MorePossible => 2,
-        Progress::Closed => 3,
-    }
-}
-
-fn timer_code(t: Timer) -> u32
-    ensures value { result ≡ timer_code t }
-    ensures upper_bound { result ≤ 4 }
-{
-    match t {
-        Timer::NoTimer => 0,
-        Timer::StartTimer => 1,
-        Timer::LongTimer => 2,
-        Timer::ShortTimer => 3,
-        Timer::RunOut => 4,
-    }
-}
-
-fn timer_at(n: u32) -> Timer
-    ensures { result ≡ timer_at n }
-{
-    if n == 1 {
-        return Timer::StartTimer;
-    }
-    if n == 2 {
-        return Timer::LongTimer;
-    }
-    if n == 3 {
-        return Timer::ShortTimer;
-    }
-    if n == 4 {
-        return Timer::RunOut;
-    }
-    Timer::NoTimer
 }
 
 // An answer or a refusal as one number.
-fn packed(d: Dialled) -> u32
+#[tactic(auto, unfolding(digits::specs::Codes::packed, digits::specs::Codes::answer_code, digits::specs::Codes::refusal_of))]
+fn packed(d: Result<Answer, DialError>) -> u32
     ensures { result ≡ packed d }
 {
     match d {
-        Dialled::Answer { progress, timer } => progress_code(progress) + 256 * timer_code(timer),
-        Dialled::BadMap => 65536 * 6,
-        Dialled::BadString => 65536 * 7,
+        Ok(a) => u32::from(a.progress) + 256 * u32::from(a.timer),
+        Err(DialError::BadMap) => 65536 * 6,
+        Err(DialError::BadString) => 65536 * 7,
     }
 }
 
@@ -87,26 +48,28 @@ pub extern "C" fn cordafina_dial(map: &[u8], start: u32, zero: u32, dialled: &[u
 
 // ---- loading and dialling apart
 
-fn head_of(l: Loaded) -> u32
-    requires { l.count ≤ 1040 }
+#[tactic(auto, unfolding(crate::specs::Heads::head_of))]
+fn head_of(l: Option<Loaded>) -> u32
+    requires { IfSome l (λ x. x.count ≤ 1040) }
     ensures { result ≡ head_of l }
 {
-    let good = l.good;
-    if good {
-        let t = l.first;
-        return 1 + 2 * timer_code(t) + 16 * (l.count as u32);
+    match l {
+        Some(map) => 1 + 2 * u32::from(map.first) + 16 * (map.count as u32),
+        None => 0,
     }
-    0
 }
 
-fn loaded_at(n: u32) -> Loaded
+#[tactic(auto, unfolding(crate::specs::Heads::loaded_at, base::specs::Pick::pick), using(crate::proofs::HeadLaws::timer_decoded))]
+fn loaded_at(n: u32) -> Option<Loaded>
     ensures { result ≡ loaded_at n }
 {
-    Loaded {
-        good: n % 2 == 1,
-        first: timer_at(n / 2 % 8),
-        count: (n / 16) as usize,
+    if n % 2 == 0 {
+        return None;
     }
+    Some(Loaded {
+        first: Timer::try_from(n / 2 % 8).unwrap_or(Timer::NoTimer),
+        count: (n / 16) as usize,
+    })
 }
 
 // A map is loaded into lent cells. The number goes with them to each string that is dialled; 0 for a refused map.

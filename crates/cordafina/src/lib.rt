@@ -15,20 +15,16 @@ ghost use Rattle.megaco.specs.Room.{room};
 ghost use Rattle.megaco.specs.Call.{call, packet};
 ghost use Rattle.gateway.specs.Answers.{number_of, Packed, Counted};
 
-use gateway::CallOutcome;
+use gateway::Refusal;
 
 // An answer as one number: the reply's length in the low 32 bits, the number of the refusal in the high 32, 0 for a call that is taken.
-fn number_of(a: CallOutcome) -> u64
+#[tactic(auto, unfolding(gateway::specs::Answers::number_of, gateway::specs::Answers::size_of, gateway::specs::Answers::refusal_of))]
+fn number_of(a: Result<usize, Refusal>) -> u64
     ensures { result ≡ number_of a }
 {
     match a {
-        CallOutcome::Taken(n) => n as u64,
-        CallOutcome::ReplyTooShort => 3 * 4294967296,
-        CallOutcome::TableUnsound => 2 * 4294967296,
-        CallOutcome::RoomUnsound => 5 * 4294967296,
-        CallOutcome::MidUnfit => 4 * 4294967296,
-        CallOutcome::MessageUnfit => 4294967296,
-        CallOutcome::LinesUnfit => 8 * 4294967296,
+        Ok(n) => n as u64,
+        Err(refusal) => 4294967296 * refusal.number() as u64,
     }
 }
 
@@ -53,6 +49,7 @@ pub extern "C" fn cordafina_answer(
 
 // A packet of `R/n`, which updates its block: the number of the refusal, or 0.
 #[unsafe(no_mangle)]
+#[tactic(auto, unfolding(gateway::specs::Answers::packet_answer))]
 pub extern "C" fn cordafina_packet(
     lines: u32,
     table: &[u32],
@@ -63,7 +60,10 @@ pub extern "C" fn cordafina_packet(
 ) -> u32
     ensures { Counted (packet lines (state table.now blocks.old) n arrival stamp) blocks.new result }
 {
-    gateway::packet(lines, table, blocks, n, arrival, stamp)
+    match gateway::packet(lines, table, blocks, n, arrival, stamp) {
+        Ok(()) => 0,
+        Err(refusal) => refusal.number(),
+    }
 }
 
 // ---- the map of the ephemerals, given as one number: word 2N + 128 of a table of N terminations is its low half, the next its high half

@@ -2,25 +2,27 @@
 ghost use Rattle.std.specs.Prelude.{◌≡◌};
 ghost use Rattle.row_laws.specs.Answers.{packed, refusal_of, WroteRow, ReadRow};
 
-use row_laws::Answer;
+use row_laws::RowError;
 
 // A written row's length in the low 32 bits, the number of the refusal in the high 32.
-fn packed(a: Answer) -> u64
+#[tactic(auto, unfolding(row_laws::specs::Answers::packed), using(crate::proofs::RowLaws::number_small))]
+fn packed(a: Result<usize, RowError>) -> u64
     ensures { result ≡ packed a }
 {
     match a {
-        Answer::Done(n) => n as u64,
-        Answer::Refused(k) => k as u64 * 4294967296,
+        Ok(n) => n as u64,
+        Err(e) => u64::from(u32::from(e)) * 4294967296,
     }
 }
 
 // The number of the refusal, 0 for a row that was read.
-fn refusal_of(a: Answer) -> u32
+#[tactic(auto, unfolding(row_laws::specs::Answers::refusal_of))]
+fn refusal_of(a: Result<usize, RowError>) -> u32
     ensures { result ≡ refusal_of a }
 {
     match a {
-        Answer::Done(_) => 0,
-        Answer::Refused(k) => k,
+        Ok(_) => 0,
+        Err(e) => u32::from(e),
     }
 }
 

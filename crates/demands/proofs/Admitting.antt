@@ -23,9 +23,9 @@ use Rattle.laws.specs.KeptReplies.{Noted, noted_of, parts_by, message_by}
 use Rattle.laws.proofs.Senders.{sender_short}
 use Rattle.laws.proofs.KeptRuns.{parts_follow}
 use Rattle.laws.proofs.Bounds.{few_read, reply_fits, served_follows}
-use Rattle.gateway.specs.Answers.{refusal_of, size_of}
-use Rattle.gateway.specs.declared.CallOutcome.{CallOutcome}
-use Rattle.gateway.specs.declared.CallOutcome.TheVariants.{Taken, ReplyTooShort, TableUnsound, RoomUnsound, MidUnfit, MessageUnfit, LinesUnfit}
+use Rattle.gateway.specs.Answers.{CallOutcome, refusal_number, refusal_of, size_of}
+use Rattle.std.specs.Prelude.{Ok, Err}
+use Rattle.gateway.specs.declared.Refusal.TheVariants.{ReplyTooShort, TableUnsound, RoomUnsound, MidUnfit, MessageUnfit, LinesUnfit}
 use Rattle.demands.specs.Demands.{Made, reply_with, whole_reply, reply_of, Leaves, Genuine, Admitted, Fault400, Demand-2}
 use Rattle.demands.proofs.Turning.{Fits, fits, fit_call, number_is}
 use Rattle.demands.proofs.ByReply.{replies_not_400, replies_not_403, replies_not_406, only_400, only_403, only_406}
@@ -50,15 +50,15 @@ put_is (y ∷ o) (b ∷ x) h = ap (λ (z : List ℕ). b ∷ z) (put_is o x (omeg
 
 -- ---- a call that is taken leaves what its message does
 
-taken_answer : (r : CallOutcome) → refusal_of r ≡ 0 → r ≡ Taken (size_of r)
-unfolding refusal_of size_of
-taken_answer (Taken n) e = refl
-taken_answer ReplyTooShort e = absurd (omega (arith, e))
-taken_answer TableUnsound e = absurd (omega (arith, e))
-taken_answer RoomUnsound e = absurd (omega (arith, e))
-taken_answer MidUnfit e = absurd (omega (arith, e))
-taken_answer MessageUnfit e = absurd (omega (arith, e))
-taken_answer LinesUnfit e = absurd (omega (arith, e))
+taken_answer : (r : CallOutcome) → refusal_of r ≡ 0 → r ≡ Ok (size_of r)
+unfolding refusal_of refusal_number size_of
+taken_answer (Ok n) e = refl
+taken_answer (Err ReplyTooShort) e = absurd (omega (arith, e))
+taken_answer (Err TableUnsound) e = absurd (omega (arith, e))
+taken_answer (Err RoomUnsound) e = absurd (omega (arith, e))
+taken_answer (Err MidUnfit) e = absurd (omega (arith, e))
+taken_answer (Err MessageUnfit) e = absurd (omega (arith, e))
+taken_answer (Err LinesUnfit) e = absurd (omega (arith, e))
 
 pub fit_leaves : {n : ℕ} {m : List ℕ} {st : State} {r : Room} {own o : List ℕ} (c : Made n m st r own o) → Fits n m st r own o → Leaves c (served_by m st r)
 unfolding taken replied written ◌then◌
@@ -67,7 +67,7 @@ fit_leaves {n} {m} {st} {r} {own} {o} c f =
     let x : Served = served_by m st r in
     let l : length (whole_reply own x) ≤ length o = omega (arith, reply_fits m st r own f.room f.own_fits.1, f.buffer) in
     record {
-      answer = taken_answer c.answer (c.promise.refusal ∙ ap (λ (z : Called). z.refusal) e) ∙ ap Taken (c.promise.size ∙ ap (λ (z : Called). z.size) e);
+      answer = taken_answer c.answer (c.promise.refusal ∙ ap (λ (z : Called). z.refusal) e) ∙ ap Ok (c.promise.size ∙ ap (λ (z : Called). z.size) e);
       state = c.promise.state ∙ ap (λ (z : Called). z.state) e;
       room = c.promise.room ∙ ap (λ (z : Called). z.room) e;
       buffer = c.promise.reply ∙ ap (λ (z : Called). z.reply) e ∙ put_is o (whole_reply own x) l;

@@ -24,7 +24,7 @@ use Rattle.laws.proofs.KeptRuns.{either_order_kept, any_mixture_kept}
 use Rattle.laws.proofs.Bounds.{served_follows}
 use Rattle.laws.proofs.Demand.{either_order, any_mixture}
 use Rattle.gateway.specs.Answers.{refusal_of, size_of}
-use Rattle.gateway.specs.declared.CallOutcome.TheVariants.{Taken}
+use Rattle.std.specs.Prelude.{Ok}
 use Rattle.grammar.specs.Grammar.{megaco_message}
 use Rattle.grammar.proofs.Theorems.{complete, sender_is}
 use Rattle.demands.specs.Demands.{Made, LinesFit, BufferFits, StateFits, OwnFits, MessageFits, all_fit, InRange, reply_with, Leaves, Conditions, Sent, reply_of, Alike, Demand-3, whole_reply}
@@ -45,7 +45,7 @@ pub record Done {n : ℕ} {m : List ℕ} {st : State} {r : Room} {own o : List �
   pub taken : refusal_of c.answer ≡ 0
   pub state : c.state ≡ x.state
   pub kept : kept_of c.room ≡ x.kept
-  pub answer : c.answer ≡ Taken (length (reply_with own x.text))
+  pub answer : c.answer ≡ Ok (length (reply_with own x.text))
   pub buffer : c.buffer ≡ reply_with own x.text ++ drop (length (reply_with own x.text)) o
   pub fits : StateFits n c.state
   pub room : room_sound c.room ≡ true
@@ -79,7 +79,7 @@ done {n} {m} {st} {r} {own} {o} c w x d f q b s v =
       taken = e;
       state = l.state ∙ ap (λ (z : Noted). z.state) g;
       kept = ap kept_of l.room ∙ ap (λ (z : Noted). z.kept) g;
-      answer = l.answer ∙ ap (λ (z : List ℕ). Taken (length z)) h;
+      answer = l.answer ∙ ap (λ (z : List ℕ). Ok (length z)) h;
       buffer = l.buffer ∙ ap (λ (z : List ℕ). z ++ drop (length z) o) h;
       fits = (i.size ∙ s.0, i.again, i.blocks_again);
       room = i.room;
@@ -94,7 +94,7 @@ done_reply {n} {m} {st} {r} {own} {o} {c} {x} l = rw (l.answer, l.buffer) (front
 module _ {n₁ n₂ : ℕ} {m₁ m₂ : List ℕ} {st₁ st₂ : State} {r₁ r₂ : Room} {own o₁ o₂ : List ℕ} {c : Made n₁ m₁ st₁ r₁ own o₁} {d : Made n₂ m₂ st₂ r₂ own o₂} {x y : Noted}
     (l : Done c x) (k : Done d y) (e : x.text ≡ y.text) where
   same_answer : c.answer ≡ d.answer
-  same_answer = l.answer ∙ ap (λ (z : List ℕ). Taken (length (reply_with own z))) e ∙ sym k.answer
+  same_answer = l.answer ∙ ap (λ (z : List ℕ). Ok (length (reply_with own z))) e ∙ sym k.answer
 
   same_reply : reply_of c ≡ reply_of d
   same_reply = done_reply l ∙ ap (reply_with own) e ∙ sym (done_reply k)

@@ -17,9 +17,9 @@ use Rattle.laws.proofs.Kept.{call_sound}
 use Rattle.laws.proofs.Figures.{call_length_blocks, call_blocks_sound}
 use Rattle.laws.proofs.Packets.{not_up, lines_test, state_test, packet_number, packet_down, packet_taken}
 use Rattle.laws.specs.Packets.{Updates}
-use Rattle.gateway.specs.Answers.{refusal_of, size_of}
-use Rattle.gateway.specs.declared.CallOutcome.{CallOutcome}
-use Rattle.gateway.specs.declared.CallOutcome.TheVariants.{Taken, ReplyTooShort, TableUnsound, MidUnfit, MessageUnfit, LinesUnfit, RoomUnsound}
+use Rattle.gateway.specs.Answers.{CallOutcome, refusal_number, refusal_of, size_of}
+use Rattle.std.specs.Prelude.{Ok, Err}
+use Rattle.gateway.specs.declared.Refusal.TheVariants.{ReplyTooShort, TableUnsound, MidUnfit, MessageUnfit, LinesUnfit, RoomUnsound}
 use Rattle.demands.specs.Demands.{Made, From-C, LinesFit, BufferFits, StateFits, OwnFits, MessageFits, Refusal, lines_unfit, buffer_unfit, state_unfit, own_unfit, message_unfit, all_fit, Untouched, InRange, Demand-1, Packets, room_unfit}
 use Rattle.demands.proofs.Refusing.{buffer_test, own_test, message_test, call_refusal, refusal_call}
 
@@ -96,14 +96,14 @@ record Outcomes (k s : ℕ) : Type 0 where
   size : size_of outcome ≡ s
 
 outcomes : {n : ℕ} {m : List ℕ} {st : State} {r : Room} {own o : List ℕ} {k : ℕ} (s : ℕ) → (k ≢ 0 → s ≡ 0) → Refusal n m st r own o k → Outcomes k s
-unfolding refusal_of size_of
-outcomes s z (lines_unfit h) = record { outcome = LinesUnfit; refusal = refl; size = sym (z (λ e. omega (arith, e))) }
-outcomes s z (buffer_unfit a h) = record { outcome = ReplyTooShort; refusal = refl; size = sym (z (λ e. omega (arith, e))) }
-outcomes s z (state_unfit a b h) = record { outcome = TableUnsound; refusal = refl; size = sym (z (λ e. omega (arith, e))) }
-outcomes s z (room_unfit a b c h) = record { outcome = RoomUnsound; refusal = refl; size = sym (z (λ e. omega (arith, e))) }
-outcomes s z (own_unfit a b c v h) = record { outcome = MidUnfit; refusal = refl; size = sym (z (λ e. omega (arith, e))) }
-outcomes s z (message_unfit a b c v d h) = record { outcome = MessageUnfit; refusal = refl; size = sym (z (λ e. omega (arith, e))) }
-outcomes s z (all_fit a b c v d h) = record { outcome = Taken s; refusal = refl; size = refl }
+unfolding refusal_of refusal_number size_of
+outcomes s z (lines_unfit h) = record { outcome = Err LinesUnfit; refusal = refl; size = sym (z (λ e. omega (arith, e))) }
+outcomes s z (buffer_unfit a h) = record { outcome = Err ReplyTooShort; refusal = refl; size = sym (z (λ e. omega (arith, e))) }
+outcomes s z (state_unfit a b h) = record { outcome = Err TableUnsound; refusal = refl; size = sym (z (λ e. omega (arith, e))) }
+outcomes s z (room_unfit a b c h) = record { outcome = Err RoomUnsound; refusal = refl; size = sym (z (λ e. omega (arith, e))) }
+outcomes s z (own_unfit a b c v h) = record { outcome = Err MidUnfit; refusal = refl; size = sym (z (λ e. omega (arith, e))) }
+outcomes s z (message_unfit a b c v d h) = record { outcome = Err MessageUnfit; refusal = refl; size = sym (z (λ e. omega (arith, e))) }
+outcomes s z (all_fit a b c v d h) = record { outcome = Ok s; refusal = refl; size = refl }
 
 pub from_c : From-C
 from_c n m st r own o st' r' o' k p =

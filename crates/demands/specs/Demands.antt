@@ -1,6 +1,6 @@
 -- The maintainer's three demands, sentence by sentence, each one statement about calls of `gateway::answer` through its promise.
 -- Proved in proofs/Theorems.antt: `demand_1`, `demand_2`, `demand_3`; of packets and of repeats, which document 02 adds, `packets`, `repeated`.
-use Rattle.std.specs.Prelude.{ℕ, ◌+◌, ◌*◌, ◌≤◌, ◌≡◌, ◌↔◌, ◌≢◌, ◌⊎◌, true, List, [], ◌∷◌, ◌++◌, length, take, drop}
+use Rattle.std.specs.Prelude.{ℕ, ◌+◌, ◌*◌, ◌≤◌, ◌≡◌, ◌↔◌, ◌≢◌, ◌⊎◌, true, List, [], ◌∷◌, ◌++◌, length, take, drop, Ok}
 use Rattle.base.specs.Pick.{pick}
 use Rattle.megaco.specs.Tree.{Transaction, Part, request, well_formed, fault400, fault403, fault406}
 use Rattle.megaco.specs.Reading.{message_r, sender_of}
@@ -26,9 +26,7 @@ pub use Rattle.laws.specs.Packets.{LinesFit, StateFits}
 use Rattle.laws.specs.Mix.{Mixture, mixed, steps_of, both_fresh}
 use Rattle.laws.specs.Apart.{ContextsPlain, NamesPlain, TerminationsApart, ContextsApart}
 use Rattle.laws.specs.Demand.{EitherOrder, AsOneAfterOther}
-use Rattle.gateway.specs.Answers.{refusal_of, size_of, Answered, Packed, Counted}
-use Rattle.gateway.specs.declared.CallOutcome.{CallOutcome}
-use Rattle.gateway.specs.declared.CallOutcome.TheVariants.{Taken}
+use Rattle.gateway.specs.Answers.{CallOutcome, refusal_number, refusal_of, size_of, Answered, Packed, Counted}
 
 -- a call of `answer` that was made with n lines, the message m, the state st (the table and the blocks), the room r of kept replies, the gateway's own mId and the reply
 -- buffer o: the state, the room and the buffer that it left and what it answered, of which its contract promises `Answered`. It has no `requires`
@@ -142,7 +140,7 @@ reply_of c = take (size_of c.answer) c.buffer
 
 -- the call was taken and left this state, this room and this text: "a reply is written from the start of the buffer, and bytes past its length stay"
 pub record Leaves {n : ℕ} {m : List ℕ} {st : State} {r : Room} {own o : List ℕ} (c : Made n m st r own o) (x : Served) : Type 0 where
-  pub answer : c.answer ≡ Taken (length (whole_reply own x))
+  pub answer : c.answer ≡ Ok (length (whole_reply own x))
   pub state : c.state ≡ x.state
   pub room : c.room ≡ x.room
   pub buffer : c.buffer ≡ whole_reply own x ++ drop (length (whole_reply own x)) o

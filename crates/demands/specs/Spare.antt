@@ -1,6 +1,6 @@
 -- A spare that comes up from a row (document 02, CR 14): "Kept replies and blocks are not in it, the spare lends empty ones; demands 2 and 3 start anew
 -- from it". Proved in proofs/Spare.antt: `spare`.
-use Rattle.std.specs.Prelude.{ℕ, ◌≡◌, List}
+use Rattle.std.specs.Prelude.{ℕ, ◌≡◌, List, Ok}
 use Rattle.megaco.specs.Tree.{Transaction}
 use Rattle.megaco.specs.Table.{fitted}
 use Rattle.megaco.specs.Room.{kept_of}
@@ -9,7 +9,6 @@ use Rattle.laws.specs.Apart.{ContextsPlain, NamesPlain, TerminationsApart, Conte
 use Rattle.gateway.specs.Answers.{refusal_of}
 use Rattle.row_laws.specs.Answers.{Read}
 use Rattle.row_laws.specs.Carried.{spare_state, spare_room}
-use Rattle.row_laws.specs.declared.Answer.TheVariants.{Done}
 use Rattle.demands.specs.Demands.{Made, BufferFits, OwnFits, MessageFits, Runs, Exactly, Told, WellFormed, Orders}
 
 -- demand 3's conditions on the two transactions, x sent by s and y by t, with the table u: those on the start are left out
@@ -36,4 +35,4 @@ pub record StartsAnew (n : ℕ) (u : List ℕ) : Type 0 where
 
 -- a table u that was read from the bytes b, whatever stood there before
 abbrev pub Spare : Type 0
-Spare = (n : ℕ) (b z u : List ℕ) (k : ℕ) → Read n b z u (Done k) → StartsAnew n u
+Spare = (n : ℕ) (b z u : List ℕ) (k : ℕ) → Read n b z u (Ok k) → StartsAnew n u

@@ -1,32 +1,32 @@
 -- Laws of loading and answering, in the form in which `search` uses them.
 use Prim.Native.Nat.{ℕ, ◌+◌, ◌*◌, ◌-◌, ◌<◌, ◌≤◌, min, max}
 use mathlib.Core.Path.{◌≡◌, refl, sym, ap, ◌∙◌}
-use mathlib.Core.Bool.{Bool, true, false, not}
+use mathlib.Core.Bool.{Bool, true, false, not, ◌&&◌}
 use mathlib.Core.List.{List, [], ◌∷◌}
 use mathlib.Core.Option.{Option, none, some}
 use native.Mathlib.Omega.{arith}
-use native.Mathlib.Numerals.{add-one}
-use lib.ListN.{length, get_or, take, drop, drop_of_length-le}
-use lib.Seq.{drop-cons, take_all}
+use lib.ListN.{length, take, drop}
+use lib.Seq.{take_all}
 use lib.Dec.{ltb, eqb}
-use borrow.Author.Tests.{eq-eqb, ne_eqb, lt-ltb, le-ltb, le-leb, lt-leb, eqb-true, ltb-true, ltb-false}
+use borrow.Author.Tests.{le-leb, lt-leb, eqb-true, ltb-true, ltb-false}
 use Rattle.base.specs.Pick.{pick}
 use Rattle.base.specs.Lists.{every}
 use Rattle.base.specs.Bytes.{◌then◌}
 use Rattle.base.proofs.TestLaws.{clash, not_holds}
 use Rattle.base.proofs.TextLaws.{length_then}
 use Rattle.base.proofs.OutLaws.{take_put}
-use Rattle.protocol.specs.Types.{Parsed, Next, Fault}
+use Rattle.protocol.specs.Types.{Parsed}
 use Rattle.digits.specs.Symbols.{symbol_of, is_symbol, symbols_of, takes}
 use Rattle.digits.specs.DigitMap.{map_r}
-use Rattle.digits.specs.Dialling.{plan, no_plan, plan_of, load, dial, progress, progress_of, answered, timer_of, later_timer, zero_timer, first_timer, is_dialled}
+use Rattle.digits.specs.Dialling.{Dialled, plan, no_plan, plan_of, load, dial, progress, progress_of, answered, timer_of, later_timer, first_timer, is_dialled}
 use Rattle.digits.specs.declared.Progress.{Progress}
 use Rattle.digits.specs.declared.Timer.{Timer}
-use Rattle.digits.specs.declared.Timer.TheVariants.{NoTimer, StartTimer, RunOut}
 use Rattle.digits.specs.declared.ZeroStart.{ZeroStart}
-use Rattle.digits.specs.declared.ZeroStart.TheVariants.{Waits, RunsOut}
-use Rattle.digits.specs.declared.Dialled.{Dialled}
-use Rattle.digits.specs.declared.Dialled.TheVariants.{Answer, BadMap, BadString}
+use Rattle.std.specs.List.{list_all}
+use Rattle.std.specs.Prelude.{Some, None, Ok, Err}
+use Rattle.std.specs.declared.option.Option.{Option as Maybe}
+use Rattle.digits.specs.declared.Answer.{Answer}
+use Rattle.digits.specs.declared.DialError.TheVariants.{BadMap, BadString}
 use Rattle.digits.specs.declared.Reach.{Reach}
 use Rattle.digits.proofs.SetLaws.{below, below_at}
 use Rattle.digits.proofs.LanguageLaws.{Fills, Filled, empty, with_one}
@@ -37,66 +37,42 @@ use Rattle.dialling.specs.declared.Loaded.{Loaded}
 
 -- ---- timers
 
-module _ (start : ℕ) (zero' : ZeroStart) where
-  pub zero_waits : start ≡ 0 → zero' ≡ Waits → NoTimer ≡ first_timer start zero'
-  unfolding first_timer zero_timer pick
-  zero_waits e f = rw (eq-eqb start 0 e, f)
-
-  pub zero_out : start ≡ 0 → zero' ≡ RunsOut → RunOut ≡ first_timer start zero'
-  unfolding first_timer zero_timer pick
-  zero_out e f = rw (eq-eqb start 0 e, f)
-
-  pub not_zero : (start ≡ 0 → ⊥) → StartTimer ≡ first_timer start zero'
-  unfolding first_timer pick
-  not_zero e = rw (ne_eqb start 0 e)
-
-pub later_by : (p q : Progress) (t : Timer) → p ≡ q → t ≡ later_timer q → t ≡ later_timer p
-later_by p q t e f = rw e f
-
-module _ (first : Timer) (w : List ℕ) (p q : Progress) (e : p ≡ q) where
-  pub answer_first : length w ≡ 0 → Answer p first ≡ answered first w q
+-- an answer and the timer that goes with it
+module _ (first : Timer) (w : List ℕ) (p q : Progress) (h : p ≡ q) where
+  pub answer_first : length w ≡ 0 → ◌≡◌ {A = Dialled} (Ok (record { progress = p; timer = first })) (answered first w q)
   unfolding answered timer_of
-  answer_first h = rw e (by w h)
+  answer_first e = rw h (by w e)
     where
-      by : (v : List ℕ) → length v ≡ 0 → Answer q first ≡ Answer q (timer_of first v q)
+      by : (v : List ℕ) → length v ≡ 0 → ◌≡◌ {A = Dialled} (Ok (record { progress = q; timer = first })) (Ok (record { progress = q; timer = timer_of first v q }))
       by [] z = refl
       by (b ∷ v) z = absurd (omega arith)
 
-  pub answer_later : (t : Timer) → (length w ≡ 0 → ⊥) → t ≡ later_timer p → Answer p t ≡ answered first w q
+  pub answer_later : (t : Timer) → (length w ≡ 0 → ⊥) → t ≡ later_timer p → ◌≡◌ {A = Dialled} (Ok (record { progress = p; timer = t })) (answered first w q)
   unfolding answered timer_of
-  answer_later t h f = rw (f, e) (by w h)
+  answer_later t z g = rw (g, h) (by w z)
     where
-      by : (v : List ℕ) → (length v ≡ 0 → ⊥) → Answer q (later_timer q) ≡ Answer q (timer_of first v q)
-      by [] z = absurd (z refl)
-      by (b ∷ v) z = refl
+      by : (v : List ℕ) → (length v ≡ 0 → ⊥) → ◌≡◌ {A = Dialled} (Ok (record { progress = q; timer = later_timer q })) (Ok (record { progress = q; timer = timer_of first v q }))
+      by [] y = absurd (y refl)
+      by (b ∷ v) y = refl
 
 -- ---- dialled strings
-
-pub record DialledHere (w : List ℕ) (i : ℕ) : Type 0 where
-  pub short : length w ≤ 32
-  pub same : is_dialled w ≡ every is_symbol (drop i w)
 
 pub dialled_long : (w : List ℕ) → 32 < length w → false ≡ is_dialled w
 unfolding is_dialled
 dialled_long w h = rw (lt-leb (length w) 32 h)
 
-pub dialled_start : (w : List ℕ) → length w ≤ 32 → DialledHere w 0
-unfolding is_dialled
-dialled_start w h = record { short = h; same = rw (le-leb (length w) 32 h) }
+every_all : (p : ℕ → Bool) (w : List ℕ) → every p w ≡ list_all p w
+unfolding every pick
+every_all p [] = refl
+every_all p (b ∷ w) = by (p b) (every_all p w)
+  where
+    by : (t : Bool) → every p w ≡ list_all p w → pick t (every p w) false ≡ t && list_all p w
+    by true e = e
+    by false e = refl
 
-module _ (w : List ℕ) (i : ℕ) (inv : DialledHere w i) where
-  pub dialled_end : length w ≤ i → true ≡ is_dialled w
-  unfolding every
-  dialled_end h = sym (inv.same ∙ rw (drop_of_length-le w h))
-
-  module _ (h : i < length w) (x : ℕ) (e : x ≡ symbol_of (get_or w i 0)) where
-    pub dialled_on : x < 21 → DialledHere w (i + 1)
-    unfolding every is_symbol pick
-    dialled_on l = record { short = inv.short; same = inv.same ∙ rw (drop-cons w i 0 h, ← e, lt-ltb x 21 l, add-one) }
-
-    pub dialled_no : 21 ≤ x → false ≡ is_dialled w
-    unfolding every is_symbol pick
-    dialled_no l = sym (inv.same ∙ rw (drop-cons w i 0 h, ← e, le-ltb x 21 l))
+pub dialled_all : (w : List ℕ) → length w ≤ 32 → list_all (λ b. ltb (symbol_of b) 21) w ≡ is_dialled w
+unfolding is_dialled is_symbol
+dialled_all w h = rw (le-leb (length w) 32 h) (sym (every_all (λ b. ltb (symbol_of b) 21) w))
 
 -- ---- the cells of a map that was read give it back
 
@@ -131,23 +107,23 @@ flat_short (one_more {k} {a} {m} f l x) =
     omega arith
 
 module _ (s z cells : List ℕ) (x : Parsed) (start : ℕ) (zero' : ZeroStart) (first : Timer) (l : Listed (map_r s) z 0 cells x) (t : first ≡ first_timer start zero') where
-  pub load_refused : x ≡ Fault → Keeps (load s start zero') (record { good = false; first = first; count = 0 }) cells
-  unfolding plan_in load plan_of pick
-  load_refused e = record { is = by (map_r s) refl; short = omega arith }
+  pub load_refused : x ≡ None → Keeps (load s start zero') None cells
+  unfolding plan_in load plan_of
+  load_refused e = record { is = by (map_r s) refl; short = tt }
     where
       by : (m : Option (List (List ℕ))) → map_r s ≡ m → no_plan ≡ plan_of m (first_timer start zero')
       by none f = refl
-      by (some m) f = let g = l.kept m f in let h : x ≡ Next g.0 = g.1 in let c : true ≡ false = cc in absurd (clash c)
+      by (some m) f = let g = l.kept m f in let h : x ≡ Some g.0 = g.1 in let c : true ≡ false = cc in absurd (clash c)
 
-  pub load_good : (n : ℕ) → length z ≡ 1040 → x ≡ Next n → Keeps (load s start zero') (record { good = true; first = first; count = n }) cells
-  unfolding plan_in load plan_of pick
+  pub load_good : (n : ℕ) → length z ≡ 1040 → x ≡ Some n → Keeps (load s start zero') (Some (record { first = first; count = n })) cells
+  unfolding plan_in load plan_of
   load_good n long e = let r = by (map_r s) refl in record { is = r.0; short = r.1 }
     where
       by : (m : Option (List (List ℕ))) → map_r s ≡ m → (plan (alts_of (take n cells)) first ≡ plan_of m (first_timer start zero')) × (n ≤ 1040)
-      by none f = let h : x ≡ Fault = l.refused f in let c : true ≡ false = cc in absurd (clash c)
+      by none f = let h : x ≡ None = l.refused f in let c : true ≡ false = cc in absurd (clash c)
       by (some m) f =
           let g = l.kept m f in
-          let h : x ≡ Next g.0 = g.1 in
+          let h : x ≡ Some g.0 = g.1 in
           let i : n ≡ g.0 = cc in
           let a : Alternatives 16 m = map_is s m f in
           let d : length (flat m) ≤ 65 * 16 = flat_short a in
@@ -158,18 +134,18 @@ module _ (s z cells : List ℕ) (x : Parsed) (start : ℕ) (zero' : ZeroStart) (
 
 -- ---- answers
 
-module _ (l : Loaded) (cells w : List ℕ) where
-  pub dial_map : l.good ≡ false → BadMap ≡ dial (plan_in l cells) w
-  unfolding dial plan_in pick
+module _ (o : Maybe Loaded) (cells w : List ℕ) where
+  pub dial_map : o ≡ None → Err BadMap ≡ dial (plan_in o cells) w
+  unfolding dial plan_in
   dial_map e = rw e
 
-  module _ (e : l.good ≡ true) (x : Bool) (g : x ≡ is_dialled w) where
-    pub dial_string : x ≡ false → BadString ≡ dial (plan_in l cells) w
+  module _ (l : Loaded) (e : o ≡ Some l) (x : Bool) (g : x ≡ is_dialled w) where
+    pub dial_string : x ≡ false → Err BadString ≡ dial (plan_in o cells) w
     unfolding dial plan_in pick
     dial_string h = rw (e, ← g, h)
 
-    pub dial_answer : (r : Reach) (d : Dialled) → x ≡ true → ReachesAny (alts_of (take l.count cells)) (symbols_of w) r
-        → d ≡ answered l.first w (progress r.matched r.longer) → d ≡ dial (plan_in l cells) w
+    pub dial_answer : (r : Reach) (d : Answer) → x ≡ true → ReachesAny (alts_of (take l.count cells)) (symbols_of w) r
+        → Ok d ≡ answered l.first w (progress r.matched r.longer) → Ok d ≡ dial (plan_in o cells) w
     unfolding dial plan_in pick progress_of
     dial_answer r d h f k = k ∙ rw (f.matched, f.longer, e, ← g, h)
 

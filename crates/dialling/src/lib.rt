@@ -1,7 +1,7 @@
 // The first digit matcher (CR 8): a map is loaded once, and a dialled string is followed through all its places at once.
 #![tactic(auto)]
 
-ghost use Rattle.std.specs.Prelude.{◌≡◌, false, [], ◌∷◌, ◌<◌, ◌≤◌, length, take};
+ghost use Rattle.std.specs.Prelude.{◌≡◌, false, [], ◌∷◌, ◌<◌, ◌≤◌, length, take, Ok};
 ghost use Rattle.base.specs.Out.{Appended};
 ghost use Rattle.digits.specs.Symbols.{symbols_of};
 ghost use Rattle.digits.specs.DigitMap.{list_f, bare_r, map_r};
@@ -9,21 +9,21 @@ ghost use Rattle.digits.specs.Dialling.{first_timer, later_timer, is_dialled, pr
 ghost use Rattle.dialling.specs.Cells.{alts_of, plan_in, Keeps, Stores, Listed};
 ghost use Rattle.dialling.specs.Live.{advance, Reaches, ReachesAny, Follows};
 
-use digits::{Dialled, Progress, Reach, Selector, Timer, ZeroStart};
-use map_text::Bounds;
-use megaco::Parsed;
+use digits::{Answer, DialError, Progress, Reach, Timer, ZeroStart};
 
 // The cells that are lent for a map: document 02's.
 pub const CELLS: usize = 1040;
 
+// The alternatives that a map can have.
+pub const MOST_ALTERNATIVES: usize = 16;
+
 // The places between the elements of one alternative, before the first and behind the last.
 const PLACES: usize = CELLS + 1;
 
-// A map that was loaded: whether it is good, the timer before any symbol, and how many of the lent cells it has. The cells hold the
-// selectors of its alternatives, 0 after each alternative.
+// A map that was loaded: the timer before any symbol, and how many of the lent cells it has. The cells hold the selectors of its
+// alternatives, 0 after each alternative.
 #[derive(Clone, Copy)]
 pub struct Loaded {
-    pub good: bool,
     pub first: Timer,
     pub count: usize,
 }
@@ -37,8 +37,7 @@ fn step(a: &[u32], live: &mut [bool], c: u32)
 {
     let mut reach = false;
     let mut carry = false;
-    let mut i: usize = 0;
-    while i < a.len() {
+    for i in 0..a.len() {
         let set = a[i];
         let here = live[i] | reach;
         let took = here & map_text::takes(set, c);
@@ -46,9 +45,8 @@ fn step(a: &[u32], live: &mut [bool], c: u32)
         live[i] = carry | (took & dot);
         reach = here & dot;
         carry = took & !dot;
-        i += 1;
     }
-    live[i] = carry;
+    live[a.len()] = carry;
 }
 
 // Where the string ends: whether the end of the alternative is live, or some place before it.
@@ -58,15 +56,13 @@ fn finish(a: &[u32], live: &[bool]) -> Reach
 {
     let mut reach = false;
     let mut longer = false;
-    let mut i: usize = 0;
-    while i < a.len() {
+    for i in 0..a.len() {
         let here = live[i] | reach;
         longer = longer | live[i];
         reach = here & map_text::dotted(a[i]);
-        i += 1;
     }
     Reach {
-        matched: live[i] | reach,
+        matched: live[a.len()] | reach,
         longer: longer,
     }
 }
@@ -76,10 +72,8 @@ fn follow(a: &[u32], live: &mut [bool], dialled: &[u8]) -> Reach
     requires { length a.now < length live.old }
     ensures { Follows a.now live.old (symbols_of dialled.now) result }
 {
-    let mut j: usize = 0;
-    while j < dialled.len() {
-        step(a, live, map_text::symbol(dialled[j]));
-        j += 1;
+    for b in dialled {
+        step(a, live, map_text::symbol(*b));
     }
     finish(a, live)
 }
@@ -99,25 +93,15 @@ fn among(cells: &[u32], dialled: &[u8]) -> Reach
     requires { length cells.now ≤ 1040 }
     ensures { ReachesAny (alts_of cells.now) (symbols_of dialled.now) result }
 {
-    let mut matched = false;
-    let mut longer = false;
+    let mut known = digits::NEITHER;
     let mut from: usize = 0;
-    let mut i: usize = 0;
-    while i < cells.len() {
+    for i in 0..cells.len() {
         if cells[i] == 0 {
-            let r = walk(&cells[from..i], dialled);
-            matched = matched | r.matched;
-            longer = longer | r.longer;
-            i += 1;
-            from = i;
-        } else {
-            i += 1;
+            known = known.or(walk(&cells[from..i], dialled));
+            from = i + 1;
         }
     }
-    Reach {
-        matched: matched,
-        longer: longer,
-    }
+    known
 }
 
 // ---- loading a map
@@ -138,75 +122,62 @@ fn fill(s: &[u8], cells: &mut [u32], at: usize) -> usize
     ensures { Stores s.now cells.old at cells.new result }
 {
     let mut i: usize = 0;
-    let mut n: usize = 0;
     let mut p = at;
-    while n < 65 {
-        let x = map_text::element(map_text::rest(s, i));
-        match x {
-            Selector::Takes { set, size: _, next } => {
-                p = put_cell(cells, p, set);
-                i += next;
-                n += 1;
+    for _ in 0..65usize {
+        match map_text::element(map_text::rest(s, i)) {
+            Ok(Some(x)) => {
+                p = put_cell(cells, p, x.set);
+                i += x.next;
             }
-            Selector::Absent => {
-                return put_cell(cells, p, 0);
-            }
-            Selector::Malformed => {
-                return p;
-            }
+            Ok(None) => return put_cell(cells, p, 0),
+            Err(_) => return p,
         }
     }
     p
 }
 
 // A list of alternatives from behind its `(`.
-fn list(s: &[u8], cells: &mut [u32]) -> Parsed
+fn list(s: &[u8], cells: &mut [u32]) -> Option<usize>
     ensures { Listed (list_f 16 s.now) cells.old 0 cells.new result }
 {
     let mut i: usize = 0;
     let mut n: usize = 0;
-    let mut left: usize = 16;
-    while 0 < left {
+    for _ in 0..MOST_ALTERNATIVES {
         let u = map_text::rest(s, i);
-        let b = map_text::alternative(u);
-        let Bounds::Within { from, to } = b else {
-            return Parsed::Fault;
+        // (tried with `?`: the search for its proof didn't end)
+        let Some(b) = map_text::alternative(u) else {
+            return None;
         };
-        n = fill(map_text::rest(u, from), cells, n);
-        if text::is_at(u, to, b'|') {
-            i += to + 1;
-            left -= 1;
+        n = fill(map_text::rest(u, b.from), cells, n);
+        if text::is_at(u, b.to, b'|') {
+            i += b.to + 1;
         } else {
-            if map_text::ends_at(u, to) {
-                return Parsed::Next(n);
+            if map_text::ends_at(u, b.to) {
+                return Some(n);
             }
-            return Parsed::Fault;
+            return None;
         }
     }
-    Parsed::Fault
+    None
 }
 
 // A map of one alternative without parentheses.
-fn bare(s: &[u8], cells: &mut [u32]) -> Parsed
+#[tactic(auto, using(crate::proofs::StoreLaws::bare_bad, crate::proofs::StoreLaws::bare_whole, crate::proofs::StoreLaws::bare_more))]
+fn bare(s: &[u8], cells: &mut [u32]) -> Option<usize>
     ensures { Listed (bare_r s.now) cells.old 0 cells.new result }
 {
-    let x = map_text::string_end(s);
-    let Parsed::Next(n) = x else {
-        return Parsed::Fault;
-    };
+    let n = map_text::string_end(s)?;
     if n == s.len() {
-        return Parsed::Next(fill(s, cells, 0));
+        return Some(fill(s, cells, 0));
     }
-    Parsed::Fault
+    None
 }
 
-fn store(s: &[u8], cells: &mut [u32]) -> Parsed
+#[tactic(auto, using(crate::proofs::StoreLaws::map_cut, crate::proofs::StoreLaws::map_list, crate::proofs::StoreLaws::map_bare, text::proofs::TextLaws::next_fits))]
+fn store(s: &[u8], cells: &mut [u32]) -> Option<usize>
     ensures { Listed (map_r s.now) cells.old 0 cells.new result }
 {
-    let w = text::white(s, 0);
-    let Parsed::Next(p) = w else {
-        return Parsed::Fault;
-    };
+    let p = text::white(s, 0)?;
     if text::is_at(s, p, b'(') {
         return list(map_text::rest(s, p + 1), cells);
     }
@@ -214,6 +185,7 @@ fn store(s: &[u8], cells: &mut [u32]) -> Parsed
 }
 
 // The timer before any symbol: of a start timer of zero the rule decides.
+#[tactic(auto, unfolding(digits::specs::Dialling::first_timer, digits::specs::Dialling::zero_timer, base::specs::Pick::pick))]
 fn first_timer(start: u32, zero: ZeroStart) -> Timer
     ensures { result ≡ first_timer start zero }
 {
@@ -226,24 +198,20 @@ fn first_timer(start: u32, zero: ZeroStart) -> Timer
     Timer::StartTimer
 }
 
-// A map is read and kept in the lent cells, with its start timer and the rule for zero. A malformed one is kept as refused.
-pub fn load(map: &[u8], start: u32, zero: ZeroStart, cells: &mut [u32; CELLS]) -> Loaded
+// A map is read and kept in the lent cells, with its start timer and the rule for zero. None where it is malformed or too large.
+pub fn load(map: &[u8], start: u32, zero: ZeroStart, cells: &mut [u32; CELLS]) -> Option<Loaded>
     ensures { Keeps (load map.now start zero) result cells.new }
 {
     let first = first_timer(start, zero);
+    // (tried with `?`: its proof didn't close)
     let x = store(map, cells);
-    match x {
-        Parsed::Next(n) => Loaded {
-            good: true,
-            first: first,
-            count: n,
-        },
-        Parsed::Fault => Loaded {
-            good: false,
-            first: first,
-            count: 0,
-        },
-    }
+    let Some(n) = x else {
+        return None;
+    };
+    Some(Loaded {
+        first: first,
+        count: n,
+    })
 }
 
 // ---- answering
@@ -255,32 +223,22 @@ pub fn is_dialled(w: &[u8]) -> bool
     if 32 < w.len() {
         return false;
     }
-    let mut i: usize = 0;
-    while i < w.len() {
-        if map_text::symbol(w[i]) < 21 {
-            i += 1;
-        } else {
-            return false;
-        }
-    }
-    true
+    w.iter().all(|b| map_text::symbol(*b) < 21)
 }
 
-fn progress_of(matched: bool, longer: bool) -> Progress
-    ensures { result ≡ progress matched longer }
+#[tactic(auto, unfolding(digits::specs::Dialling::progress, base::specs::Pick::pick))]
+fn progress_of(r: Reach) -> Progress
+    ensures { result ≡ progress r.matched r.longer }
 {
-    if matched {
-        if longer {
-            return Progress::MorePossible;
-        }
-        return Progress::Closed;
+    match (r.matched, r.longer) {
+        (true, true) => Progress::MorePossible,
+        (true, false) => Progress::Closed,
+        (false, true) => Progress::MoreNeeded,
+        (false, false) => Progress::NoMatch,
     }
-    if longer {
-        return Progress::MoreNeeded;
-    }
-    Progress::NoMatch
 }
 
+#[tactic(auto, unfolding(digits::specs::Dialling::later_timer))]
 fn later_timer(p: Progress) -> Timer
     ensures { result ≡ later_timer p }
 {
@@ -293,19 +251,14 @@ fn later_timer(p: Progress) -> Timer
 }
 
 // The answer, and the timer that goes with it.
-pub fn answer(first: Timer, w: &[u8], r: Reach) -> Dialled
-    ensures { result ≡ answered first w.now (progress r.matched r.longer) }
+pub fn answer(first: Timer, w: &[u8], r: Reach) -> Answer
+    ensures { Ok result ≡ answered first w.now (progress r.matched r.longer) }
 {
-    let p = progress_of(r.matched, r.longer);
-    if w.len() == 0 {
-        return Dialled::Answer {
-            progress: p,
-            timer: first,
-        };
-    }
-    Dialled::Answer {
+    let p = progress_of(r);
+    let timer = if w.is_empty() { first } else { later_timer(p) };
+    Answer {
         progress: p,
-        timer: later_timer(p),
+        timer: timer,
     }
 }
 
@@ -314,21 +267,19 @@ fn among_first(cells: &[u32], count: usize, w: &[u8]) -> Reach
     requires { length cells.now ≤ 1040 }
     ensures { ReachesAny (alts_of (take count cells.now)) (symbols_of w.now) result }
 {
-    let n = numbers::low(count, cells.len());
+    let n = count.min(cells.len());
     among(&cells[0..n], w)
 }
 
 // A dialled string is answered, or refused: 6 for the map before 7 for the string.
-pub fn dial(l: Loaded, cells: &[u32; CELLS], w: &[u8]) -> Dialled
+pub fn dial(l: Option<Loaded>, cells: &[u32; CELLS], w: &[u8]) -> Result<Answer, DialError>
     ensures { result ≡ dial (plan_in l cells.now) w.now }
 {
-    let good = l.good;
-    if good {
-        if is_dialled(w) {
-            let first = l.first;
-            return answer(first, w, among_first(cells, l.count, w));
-        }
-        return Dialled::BadString;
+    let Some(map) = l else {
+        return Err(DialError::BadMap);
+    };
+    if !is_dialled(w) {
+        return Err(DialError::BadString);
     }
-    Dialled::BadMap
+    Ok(answer(map.first, w, among_first(cells, map.count, w)))
 }

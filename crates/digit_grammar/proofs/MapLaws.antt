@@ -1,4 +1,5 @@
 -- Maps: a list of alternatives in parentheses, or one alternative, of the grammar is read, and what is read is of the grammar.
+use Rattle.std.specs.Prelude.{Some, None}
 use Prim.Native.Nat.{ℕ, zero, suc, ◌+◌, ◌-◌, ◌≤◌}
 use mathlib.Core.Path.{◌≡◌, refl, sym, ap, ◌∙◌}
 use mathlib.Core.Bool.{Bool, true, false}
@@ -15,7 +16,7 @@ use Rattle.megaco.specs.Bytes.{is_digit, is_white, capital}
 use Rattle.megaco.specs.White.{goes_on, white_at}
 use Rattle.megaco.specs.Tokens.{whole_at}
 use Rattle.megaco.specs.Reading.{Read, got, fault}
-use Rattle.protocol.specs.Types.{Parsed, Next, Fault}
+use Rattle.protocol.specs.Types.{Parsed}
 use Rattle.grammar.specs.Grammar.{LWSP, no_lwsp, Around, around, AtMost, at_most}
 use Rattle.grammar.proofs.Places.{head, given, whether, is_at_head, is_at_cons}
 use Rattle.grammar.proofs.WhiteLaws.{solid_end, white_complete, white_sound}
@@ -58,10 +59,10 @@ unfolding whole_at
 whole_white z h = by (white_at z 0) refl h
   where
     by : (r : Parsed) → white_at z 0 ≡ r → whole_at r (length z) ≡ true → LWSP z
-    by (Next p) i h = given (white_sound z 0 p i) (λ w.
+    by (Some p) i h = given (white_sound z 0 p i) (λ w.
         let e : z ≡ w.bytes = w.split ∙ rw (eqb-true p (length z) h, drop-length z) (append-nil w.bytes) in
         rw e w.derives)
-    by Fault i h = let y : ◌≡◌ {A = ℕ} 0 1 = cc in absurd (omega arith)
+    by None i h = let y : ◌≡◌ {A = ℕ} 0 1 = cc in absurd (omega arith)
 
 -- ---- digitStringList and `)`
 
@@ -93,11 +94,11 @@ list_reads (suc k) s {w} {c} u (next_string {a} {c = b} {x} {m} d (around {a = v
 
 -- ---- a map is read
 
-map_list : (s r : List ℕ) (p : ℕ) (m : List (List ℕ)) → white_at s 0 ≡ Next p → drop p s ≡ left_paren ∷ r → list_f 16 r ≡ some m → map_r s ≡ some m
+map_list : (s r : List ℕ) (p : ℕ) (m : List (List ℕ)) → white_at s 0 ≡ Some p → drop p s ≡ left_paren ∷ r → list_f 16 r ≡ some m → map_r s ≡ some m
 unfolding map_r gone pick
 map_list s r p m i h f = rw (i, is_at_head s (left_paren ∷ r) p left_paren h, step s r p left_paren h, f)
 
-map_bare : (s r x : List ℕ) (p : ℕ) → white_at s 0 ≡ Next p → drop p s ≡ r → eqb (head r) left_paren ≡ false → string_r s ≡ got x (length s)
+map_bare : (s r x : List ℕ) (p : ℕ) → white_at s 0 ≡ Some p → drop p s ≡ r → eqb (head r) left_paren ≡ false → string_r s ≡ got x (length s)
     → map_r s ≡ some (x ∷ [])
 unfolding map_r bare_r gone read pick
 map_bare s r x p i h n f = rw (i, is_at_head s r p left_paren h, n, f, eq-eqb (length s) (length s) refl)
@@ -138,10 +139,10 @@ module _ {C : Type 0} {m : List (List ℕ)} where
   read_some (got x e) f h k = k x e refl h
   read_some fault f h k = absurd (none_some h)
 
-  gone_some : (r : Parsed) (f : ℕ → Option (List (List ℕ))) → gone r f ≡ some m → ((p : ℕ) → r ≡ Next p → f p ≡ some m → C) → C
+  gone_some : (r : Parsed) (f : ℕ → Option (List (List ℕ))) → gone r f ≡ some m → ((p : ℕ) → r ≡ Some p → f p ≡ some m → C) → C
   unfolding gone
-  gone_some (Next p) f h k = k p refl h
-  gone_some Fault f h k = absurd (none_some h)
+  gone_some (Some p) f h k = k p refl h
+  gone_some None f h k = absurd (none_some h)
 
   onto_some : (x : List ℕ) (r : Option (List (List ℕ))) → onto x r ≡ some m → ((l : List (List ℕ)) → r ≡ some l → x ∷ l ≡ m → C) → C
   unfolding onto

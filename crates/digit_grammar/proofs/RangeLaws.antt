@@ -20,9 +20,7 @@ use Rattle.grammar.proofs.Places.{head, at_head, behind, is_at_head, is_at_cons,
 use Rattle.grammar.proofs.WhiteLaws.{Solid, white_complete, white_sound}
 use Rattle.grammar.proofs.FollowLaws.{ends}
 use Rattle.digits.specs.Symbols.{letter_of, symbol_of, symbol_at, takes}
-use Rattle.digits.specs.DigitMap.{left_bracket, right_bracket, taken, span_at, letters_f, close_at, range_at, bracket_at}
-use Rattle.digits.specs.declared.Selector.{Selector}
-use Rattle.digits.specs.declared.Selector.TheVariants.{Takes, Absent, Malformed}
+use Rattle.digits.specs.DigitMap.{left_bracket, right_bracket, taken, span_at, letters_f, close_at, range_at, bracket_at, SelectorRead, selector, absent, malformed}
 use Rattle.digits.proofs.SetLaws.{takes_span, takes_union}
 use Rattle.digit_grammar.specs.DigitGrammar.{basic_digit, basic_letter, range, Span, digit_range, letter_range, one_symbol, digit_letter, no_span, more_span, digit_map_range, set_of}
 use Rattle.digit_grammar.proofs.SymbolLaws.{digit_is, letter_is, symbol_is, begins, begins_symbol, begins_solid, begins_no_dash, white_first}
@@ -98,7 +96,7 @@ record Run (s c : List ℕ) (set at : ℕ) : Type 0 where
   few : count ≤ length c
   runs : (k : ℕ) → letters_f (count + k) s 0 0 at ≡ letters_f k s set (length c) (at + length c)
 
-letters_step : (s : List ℕ) (k set size at more n p : ℕ) → span_at s at ≡ Takes more n p
+letters_step : (s : List ℕ) (k set size at more n p : ℕ) → span_at s at ≡ selector more n p
     → letters_f (suc k) s set size at ≡ letters_f k s (bit_or set more) (size + n) p
 unfolding letters_f taken
 letters_step s k set size at more n p e = rw e
@@ -112,7 +110,7 @@ letters_run s at rest (more_span {a} {b} {set} {more} x y) d h =
     go (letters_run s at (b ++ rest) x (begins_no_dash _ (span_begins rest y)) g)
     (span_reads s (at + length a) rest y d (behind s a (b ++ rest) at g))
   where
-    go : Run s a set at → span_at s (at + length a) ≡ Takes more (length b) (at + length a + length b) → Run s (a ++ b) (bit_or set more) at
+    go : Run s a set at → span_at s (at + length a) ≡ selector more (length b) (at + length a + length b) → Run s (a ++ b) (bit_or set more) at
     go r e = record {
       count = suc r.count;
       few = rw (length-append a b) (omega (arith, r.few, span_long y));
@@ -123,11 +121,11 @@ letters_run s at rest (more_span {a} {b} {set} {more} x y) d h =
     }
 
 -- no span stands here
-span_absent : (s rest : List ℕ) (at : ℕ) → drop at s ≡ rest → ltb (symbol_of (head rest)) 21 ≡ false → span_at s at ≡ Absent
+span_absent : (s rest : List ℕ) (at : ℕ) → drop at s ≡ rest → ltb (symbol_of (head rest)) 21 ≡ false → span_at s at ≡ absent
 unfolding span_at symbol_at pick
 span_absent s rest at h e = rw (at_head s at, h, e)
 
-letters_end : (s : List ℕ) (k set size at : ℕ) → span_at s at ≡ Absent → letters_f (suc k) s set size at ≡ Takes set size at
+letters_end : (s : List ℕ) (k set size at : ℕ) → span_at s at ≡ absent → letters_f (suc k) s set size at ≡ selector set size at
 unfolding letters_f taken
 letters_end s k set size at e = rw e
 
@@ -180,7 +178,7 @@ module _ (s : List ℕ) where
       rw (is_at_head s (left_bracket ∷ r2) p left_bracket i)
       (selects_spaced s (white_at s (p + 1)) _ (white_complete s (c ++ r4) (p + 1) y (begins_solid _ (letters_begin r4 z l)) (step s r2 p left_bracket i))
       (λ q j.
-      selects_taken s (letters_f 64 s 0 0 q) _ Malformed
+      selects_taken s (letters_f 64 s 0 0 q) _ malformed
       (letters_reads s q r4 z u (white_no dash refl (right_bracket ∷ (e ++ rest)) v refl) (white_no_symbol (right_bracket ∷ (e ++ rest)) v refl) j)
       (λ o m.
       rw (letters_some z l) (close_reads rest o set (length c) v w k m)))))
@@ -192,10 +190,10 @@ Letters set n c = digit_letter c set × (n ≡ length c)
 
 -- from a part of a set that is read
 letters_sound : (k : ℕ) (s t : List ℕ) {c : List ℕ} (set₀ n₀ at set n e : ℕ) → digit_letter c set₀ → n₀ ≡ length c → t ≡ c ++ drop at s
-    → letters_f k s set₀ n₀ at ≡ Takes set n e → Part (Letters set n) t (drop e s)
+    → letters_f k s set₀ n₀ at ≡ selector set n e → Part (Letters set n) t (drop e s)
 unfolding letters_f
 letters_sound zero s t set₀ n₀ at set n e x l i h = absurd (malformed_takes h)
-letters_sound (suc k) s t {c} set₀ n₀ at set n e x l i h = taken_takes (span_at s at) _ (Takes set₀ n₀ at) h
+letters_sound (suc k) s t {c} set₀ n₀ at set n e x l i h = taken_takes (span_at s at) _ (selector set₀ n₀ at) h
     (λ more m p f g. given (span_sound s at more m p f) (λ y.
     letters_sound k s t (bit_or set₀ more) (n₀ + m) p set n e (more_span x y.derives.0)
     (rw (length-append c y.bytes) (omega (arith, y.derives.1)))
@@ -204,7 +202,7 @@ letters_sound (suc k) s t {c} set₀ n₀ at set n e x l i h = taken_takes (span
 
 module _ (s : List ℕ) where
   -- what closes a set
-  close_sound : (set n at set' n' e : ℕ) → close_at s set n at ≡ Takes set' n' e
+  close_sound : (set n at set' n' e : ℕ) → close_at s set n at ≡ selector set' n' e
       → (d f : List ℕ) × LWSP d × LWSP f × (drop at s ≡ d ++ right_bracket ∷ (f ++ drop e s)) × (set ≡ set') × (n + 2 ≡ n')
   unfolding close_at
   close_sound set n at set' n' e h = spaced_takes (white_at s at) _ h (λ p i h. given (white_sound s at p i) (λ x.
@@ -219,11 +217,11 @@ module _ (s : List ℕ) where
         z.1,
       )))))))
 
-  pub bracket_sound : (set n e : ℕ) → bracket_at s ≡ Takes set n e → Part (λ a. digit_map_range a set n) s (drop e s)
+  pub bracket_sound : (set n e : ℕ) → bracket_at s ≡ selector set n e → Part (λ a. digit_map_range a set n) s (drop e s)
   unfolding bracket_at range_at
   bracket_sound set n e h = spaced_takes (white_at s 0) _ h (λ p i h. given (white_sound s 0 p i) (λ x.
       pick_absent (is_at s p left_bracket) _ h (λ t h. spaced_takes (white_at s (p + 1)) _ h (λ q j h. given (white_sound s (p + 1) q j) (λ y.
-      taken_takes (letters_f 64 s 0 0 q) _ Malformed h
+      taken_takes (letters_f 64 s 0 0 q) _ malformed h
       (λ set₀ m o f h. given (letters_sound 64 s (drop q s) 0 0 q set₀ m o no_span refl refl f) (λ c. not_empty (eqb set₀ 0) _ h (λ u h.
       given (close_sound set₀ m o set n e h) (λ v. record {
         bytes = x.bytes ++ left_bracket ∷ (y.bytes ++ (c.bytes ++ (v.0 ++ right_bracket ∷ v.1)));
@@ -233,6 +231,6 @@ module _ (s : List ℕ) where
       }))))
       (λ f h. absurd (malformed_takes h)))))))
     where
-      not_empty : {C : Type 0} (t : Bool) (r : Selector) → pick t Malformed r ≡ Takes set n e → (t ≡ false → r ≡ Takes set n e → C) → C
+      not_empty : {C : Type 0} (t : Bool) (r : SelectorRead) → pick t malformed r ≡ selector set n e → (t ≡ false → r ≡ selector set n e → C) → C
       not_empty true r h k = unfold pick in absurd (malformed_takes h)
       not_empty false r h k = unfold pick in k refl h

@@ -16,9 +16,7 @@ use Rattle.grammar.specs.Grammar.{LWSP, no_lwsp}
 use Rattle.grammar.proofs.Places.{head, at_head, is_at_head, is_at_cons, whether, given}
 use Rattle.grammar.proofs.WhiteLaws.{Solid, white_append, white_complete}
 use Rattle.digits.specs.Symbols.{letter_of, symbol_of, symbol_at, dot_bit}
-use Rattle.digits.specs.DigitMap.{left_bracket, right_bracket, taken, spaced, bracket_at, is_x, position_at, dot_at, element_at}
-use Rattle.digits.specs.declared.Selector.{Selector}
-use Rattle.digits.specs.declared.Selector.TheVariants.{Takes, Absent}
+use Rattle.digits.specs.DigitMap.{left_bracket, right_bracket, taken, spaced, bracket_at, is_x, position_at, dot_at, element_at, SelectorRead, selector, absent}
 use Rattle.digit_grammar.specs.DigitGrammar.{any_digit, set_of, digit_position, symbol_position, range_position, digit_string_element, no_dot, with_dot}
 use Rattle.digit_grammar.proofs.SymbolLaws.{symbol_is, any_symbol, begins, begins_not, x_no_symbol}
 use Rattle.digit_grammar.proofs.SpanLaws.{Selects, Part, same_takes, absent_takes, symbol_here, step, taken_takes}
@@ -31,7 +29,7 @@ pub data Left (u r : List ℕ) : List ℕ → Type 0 where
   kept : Left u r (u ++ r)
   passed : Left u r r
 
-pub record Reads (s : List ℕ) (x : Selector) (set size : ℕ) (u r : List ℕ) : Type 0 where
+pub record Reads (s : List ℕ) (x : SelectorRead) (set size : ℕ) (u r : List ℕ) : Type 0 where
   pub rest : List ℕ
   pub left : Left u r rest
   pub selects : Selects s x set size rest
@@ -67,15 +65,15 @@ unfolding every has pick
 left_no_dot {r} kept w e = white_no dot refl r w e
 left_no_dot passed w e = e
 
-no_dot_here : (s rest : List ℕ) (set size at : ℕ) → drop at s ≡ rest → eqb (head rest) dot ≡ false → dot_at s set size at ≡ Takes set size at
+no_dot_here : (s rest : List ℕ) (set size at : ℕ) → drop at s ≡ rest → eqb (head rest) dot ≡ false → dot_at s set size at ≡ selector set size at
 unfolding dot_at pick
 no_dot_here s rest set size at h e = rw (is_at_head s rest at dot h, e)
 
-dot_here : (s rest : List ℕ) (set size at : ℕ) → drop at s ≡ dot ∷ rest → dot_at s set size at ≡ Takes (bit_or set dot_bit) (size + 1) (at + 1)
+dot_here : (s rest : List ℕ) (set size at : ℕ) → drop at s ≡ dot ∷ rest → dot_at s set size at ≡ selector (bit_or set dot_bit) (size + 1) (at + 1)
 unfolding dot_at pick
 dot_here s rest set size at h = rw (is_at_head s (dot ∷ rest) at dot h)
 
-element_is : (s : List ℕ) (set size p : ℕ) → position_at s ≡ Takes set size p → element_at s ≡ dot_at s set size p
+element_is : (s : List ℕ) (set size p : ℕ) → position_at s ≡ selector set size p → element_at s ≡ dot_at s set size p
 unfolding element_at taken
 element_is s set size p e = rw e
 
@@ -119,7 +117,7 @@ pub record Stop (t : List ℕ) : Type 0 where
   pub no_dot : eqb (head t) dot ≡ false
 
 -- no selector stands here
-pub element_absent : {v : List ℕ} (t : List ℕ) → LWSP v → Stop t → element_at (v ++ t) ≡ Absent
+pub element_absent : {v : List ℕ} (t : List ℕ) → LWSP v → Stop t → element_at (v ++ t) ≡ absent
 unfolding element_at position_at bracket_at taken spaced pick
 element_absent {v} t w x =
     given (begins_not (head t) x.no_selector) (λ n. given (first_is (v ++ t) (v ++ t) refl) (λ f.
@@ -134,7 +132,7 @@ unfolding is_x capital pick
 x_here [] e = let y : ◌≡◌ {A = ℕ} 0 1 = cc in absurd (omega arith)
 x_here (b ∷ s) e = (b, eqb-true (capital b) 0x58 e, refl)
 
-position_sound : (s : List ℕ) (set n e : ℕ) → position_at s ≡ Takes set n e → Part (λ a. digit_position a set n) s (drop e s)
+position_sound : (s : List ℕ) (set n e : ℕ) → position_at s ≡ selector set n e → Part (λ a. digit_position a set n) s (drop e s)
 unfolding position_at pick
 position_sound s set n e h = whether (ltb (symbol_at s 0) 21)
     (λ t. given (symbol_here s 0 (ltb-true _ 21 t)) (λ x. given (same_takes (rw t at h)) (λ z. record {
@@ -151,9 +149,9 @@ position_sound s set n e h = whether (ltb (symbol_at s 0) 21)
     (λ u. given (bracket_sound s set n e (rw u at h)) (λ x. record { bytes = x.bytes; derives = range_position x.derives; split = x.split }))))
 
 -- what is read as a selector is one of the grammar
-pub element_sound : (s : List ℕ) (set n e : ℕ) → element_at s ≡ Takes set n e → Part (λ a. digit_string_element a set n) s (drop e s)
+pub element_sound : (s : List ℕ) (set n e : ℕ) → element_at s ≡ selector set n e → Part (λ a. digit_string_element a set n) s (drop e s)
 unfolding element_at dot_at pick
-element_sound s set n e h = taken_takes (position_at s) (dot_at s) Absent h
+element_sound s set n e h = taken_takes (position_at s) (dot_at s) absent h
     (λ set₀ m p f h. given (position_sound s set₀ m p f) (λ x. whether (is_at s p dot)
     (λ t. given (same_takes (rw t at h)) (λ z. record {
       bytes = x.bytes ++ dot ∷ [];

@@ -1,6 +1,7 @@
 -- Symbols and ranges in a set: those of the grammar are read, and what is read is of the grammar. How readers of selectors follow one another.
+use Rattle.std.specs.Prelude.{Some, None, Ok, Err}
 use Prim.Native.Nat.{ℕ, ◌+◌, ◌<◌, ◌≤◌}
-use mathlib.Core.Path.{◌≡◌, refl, sym, ◌∙◌}
+use mathlib.Core.Path.{◌≡◌, refl, sym, ap, ◌∙◌}
 use mathlib.Core.Logic.{◌⊎◌, inl, inr}
 use mathlib.Core.Bool.{Bool, true, false, ◌&&◌, ◌||◌}
 use mathlib.Core.List.{List, [], ◌∷◌, ◌++◌}
@@ -11,29 +12,29 @@ use native.Mathlib.Omega.{arith}
 use Rattle.base.specs.Pick.{pick}
 use Rattle.base.specs.Lists.{is_at}
 use Rattle.megaco.specs.Bytes.{dash, is_digit, capital}
-use Rattle.protocol.specs.Types.{Parsed, Next, Fault}
+use Rattle.protocol.specs.Types.{Parsed}
 use Rattle.grammar.proofs.Classes.{or_true, or_left, or_right, and_parts}
 use Rattle.grammar.proofs.Places.{head, at_head, behind, is_at_head, is_at_cons, Finds, whether, given}
 use Rattle.digits.specs.Symbols.{letter_of, symbol_of, symbol_at, span_of}
-use Rattle.digits.specs.DigitMap.{taken, spaced, range_to, span_at}
 use Rattle.digits.specs.declared.Selector.{Selector}
-use Rattle.digits.specs.declared.Selector.TheVariants.{Takes, Absent, Malformed}
+use Rattle.digits.proofs.ReadLaws.{same_selector}
+use Rattle.digits.specs.DigitMap.{taken, spaced, range_to, span_at, SelectorRead, selector, absent, malformed}
 use Rattle.digit_grammar.specs.DigitGrammar.{digit_symbol, letter_symbol, range, Span, digit_range, letter_range, one_symbol}
 use Rattle.digit_grammar.proofs.SymbolLaws.{digit_is, letter_is, symbol_is, symbol_tells, any_symbol}
 
 -- what a reader of a selector gives and leaves
-pub record Selects (s : List ℕ) (r : Selector) (set size : ℕ) (rest : List ℕ) : Type 0 where
+pub record Selects (s : List ℕ) (r : SelectorRead) (set size : ℕ) (rest : List ℕ) : Type 0 where
   pub end : ℕ
-  pub is : r ≡ Takes set size end
+  pub is : r ≡ selector set size end
   pub leaves : drop end s ≡ rest
 
-pub same_takes : {set size p set' size' p' : ℕ} → Takes set size p ≡ Takes set' size' p' → (set ≡ set') × (size ≡ size') × (p ≡ p')
-same_takes h = ((cc), (cc), (cc))
+pub same_takes : {set size p set' size' p' : ℕ} → selector set size p ≡ selector set' size' p' → (set ≡ set') × (size ≡ size') × (p ≡ p')
+same_takes h = (ap (λ (x : Selector). x.set) (same_selector h), ap (λ (x : Selector). x.size) (same_selector h), ap (λ (x : Selector). x.next) (same_selector h))
 
-pub absent_takes : {set size p : ℕ} → Absent ≡ Takes set size p → ⊥
+pub absent_takes : {set size p : ℕ} → absent ≡ selector set size p → ⊥
 absent_takes h = let z : ◌≡◌ {A = ℕ} 0 1 = cc in omega arith
 
-pub malformed_takes : {set size p : ℕ} → Malformed ≡ Takes set size p → ⊥
+pub malformed_takes : {set size p : ℕ} → malformed ≡ selector set size p → ⊥
 malformed_takes h = let z : ◌≡◌ {A = ℕ} 0 1 = cc in omega arith
 
 -- ---- symbols and ranges
@@ -48,12 +49,12 @@ step s t at b h = behind s (b ∷ []) t at h
 
 module _ (s : List ℕ) (at : ℕ) where
   one_reads : (b c : ℕ) (rest : List ℕ) → symbol_of b ≡ c → c < 21 → eqb (head rest) dash ≡ false → drop at s ≡ b ∷ rest
-      → span_at s at ≡ Takes (span_of c c) 1 (at + 1)
+      → span_at s at ≡ selector (span_of c c) 1 (at + 1)
   unfolding span_at pick
   one_reads b c rest e l d h = rw (symbol_head s rest at b h, e, lt-ltb c 21 l, is_at_head s rest (at + 1) dash (step s rest at b h), d)
 
   range_reads : (a b low high : ℕ) (rest : List ℕ) → symbol_of a ≡ low → symbol_of b ≡ high → low ≤ high → high < 21 → ltb 9 low || leb high 9 ≡ true
-      → drop at s ≡ a ∷ dash ∷ b ∷ rest → span_at s at ≡ Takes (span_of low high) 3 (at + 3)
+      → drop at s ≡ a ∷ dash ∷ b ∷ rest → span_at s at ≡ selector (span_of low high) 3 (at + 3)
   unfolding span_at range_to pick
   range_reads a b low high rest e f l u k h =
       let i = step s (dash ∷ b ∷ rest) at a h in
@@ -72,7 +73,7 @@ module _ (s : List ℕ) (at : ℕ) where
 
 -- a span is read, where no dash follows it
 pub span_reads : (s : List ℕ) {a : List ℕ} {set : ℕ} (at : ℕ) (rest : List ℕ) → Span a set → eqb (head rest) dash ≡ false → drop at s ≡ a ++ rest
-    → span_at s at ≡ Takes set (length a) (at + length a)
+    → span_at s at ≡ selector set (length a) (at + length a)
 span_reads s at rest (digit_range (range {a} {b} {low} {high} x y l)) d h =
     let p = digit_is x in let q = digit_is y in
     range_reads s at a b low high rest p.0 q.0 l (omega (arith, q.1)) (or_right (ltb 9 low) _ (le-leb _ _ q.1)) h
@@ -90,36 +91,36 @@ pub record Part (X : List ℕ → Type 0) (t rest : List ℕ) : Type 0 where
 -- ---- how one reader follows another
 
 module _ (s : List ℕ) where
-  pub selects_spaced : {set size : ℕ} {mid rest : List ℕ} (r : Parsed) (f : ℕ → Selector) → Finds s r mid
+  pub selects_spaced : {set size : ℕ} {mid rest : List ℕ} (r : Parsed) (f : ℕ → SelectorRead) → Finds s r mid
       → ((p : ℕ) → drop p s ≡ mid → Selects s (f p) set size rest) → Selects s (spaced r f) set size rest
   unfolding spaced
   selects_spaced r f g k = rw g.is (k g.end g.leaves)
 
-  pub selects_taken : {set size set' size' : ℕ} {mid rest : List ℕ} (r : Selector) (f : ℕ → ℕ → ℕ → Selector) (other : Selector)
+  pub selects_taken : {set size set' size' : ℕ} {mid rest : List ℕ} (r : SelectorRead) (f : ℕ → ℕ → ℕ → SelectorRead) (other : SelectorRead)
       → Selects s r set size mid
       → ((p : ℕ) → drop p s ≡ mid → Selects s (f set size p) set' size' rest) → Selects s (taken r f other) set' size' rest
   unfolding taken
   selects_taken r f other g k = rw g.is (k g.end g.leaves)
 
 module _ {C : Type 0} {set size e : ℕ} where
-  pub spaced_takes : (r : Parsed) (f : ℕ → Selector) → spaced r f ≡ Takes set size e → ((p : ℕ) → r ≡ Next p → f p ≡ Takes set size e → C) → C
+  pub spaced_takes : (r : Parsed) (f : ℕ → SelectorRead) → spaced r f ≡ selector set size e → ((p : ℕ) → r ≡ Some p → f p ≡ selector set size e → C) → C
   unfolding spaced
-  spaced_takes (Next p) f h k = k p refl h
-  spaced_takes Fault f h k = absurd (malformed_takes h)
+  spaced_takes (Some p) f h k = k p refl h
+  spaced_takes None f h k = absurd (malformed_takes h)
 
-  pub taken_takes : (r : Selector) (f : ℕ → ℕ → ℕ → Selector) (other : Selector) → taken r f other ≡ Takes set size e
-      → ((x n p : ℕ) → r ≡ Takes x n p → f x n p ≡ Takes set size e → C) → (r ≡ Absent → other ≡ Takes set size e → C) → C
+  pub taken_takes : (r : SelectorRead) (f : ℕ → ℕ → ℕ → SelectorRead) (other : SelectorRead) → taken r f other ≡ selector set size e
+      → ((x n p : ℕ) → r ≡ selector x n p → f x n p ≡ selector set size e → C) → (r ≡ absent → other ≡ selector set size e → C) → C
   unfolding taken
-  taken_takes (Takes x n p) f other h k l = k x n p refl h
-  taken_takes Absent f other h k l = l refl h
-  taken_takes Malformed f other h k l = absurd (malformed_takes h)
+  taken_takes (Ok (Some y)) f other h k l = k y.set y.size y.next refl h
+  taken_takes (Ok None) f other h k l = l refl h
+  taken_takes (Err bad) f other h k l = absurd (malformed_takes h)
 
-  pub pick_absent : (t : Bool) (r : Selector) → pick t r Absent ≡ Takes set size e → (t ≡ true → r ≡ Takes set size e → C) → C
+  pub pick_absent : (t : Bool) (r : SelectorRead) → pick t r absent ≡ selector set size e → (t ≡ true → r ≡ selector set size e → C) → C
   unfolding pick
   pick_absent true r h k = k refl h
   pick_absent false r h k = absurd (absent_takes h)
 
-  pub pick_malformed : (t : Bool) (r : Selector) → pick t r Malformed ≡ Takes set size e → (t ≡ true → r ≡ Takes set size e → C) → C
+  pub pick_malformed : (t : Bool) (r : SelectorRead) → pick t r malformed ≡ selector set size e → (t ≡ true → r ≡ selector set size e → C) → C
   unfolding pick
   pick_malformed true r h k = k refl h
   pick_malformed false r h k = absurd (malformed_takes h)
@@ -163,7 +164,7 @@ range_of {a} {b} {low} {high} e f l u k = go (rw e at (symbol_tells a (rw e (ome
 abbrev pub Spans : ℕ → ℕ → List ℕ → Type 0
 Spans set n a = Span a set × (n ≡ length a)
 
-pub span_sound : (s : List ℕ) (at set n e : ℕ) → span_at s at ≡ Takes set n e → Part (Spans set n) (drop at s) (drop e s)
+pub span_sound : (s : List ℕ) (at set n e : ℕ) → span_at s at ≡ selector set n e → Part (Spans set n) (drop at s) (drop e s)
 unfolding span_at range_to pick
 span_sound s at set n e h = pick_absent (ltb low 21) _ h (λ t h.
     given (symbol_here s at (ltb-true low 21 t)) (λ x. whether (is_at s (at + 1) dash)

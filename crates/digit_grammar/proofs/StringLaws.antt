@@ -1,4 +1,5 @@
 -- Alternatives: a digitString of the grammar is read, with the white space round it, and what is read is a digitString.
+use Rattle.std.specs.Prelude.{Some, None, Ok, Err}
 use Prim.Native.Nat.{ℕ, zero, suc, ◌+◌, ◌-◌, ◌<◌, ◌≤◌}
 use mathlib.Core.Path.{◌≡◌, refl, sym, ap, ◌∙◌}
 use mathlib.Core.Bool.{Bool, true, false}
@@ -17,9 +18,7 @@ use Rattle.grammar.specs.Grammar.{LWSP, no_lwsp}
 use Rattle.grammar.proofs.Places.{head, Finds, Gets, given, fault_got, got_same, skip_got, bind_got}
 use Rattle.grammar.proofs.WhiteLaws.{Solid, white_append, white_complete, white_sound}
 use Rattle.digits.specs.Symbols.{letter_of, symbol_of}
-use Rattle.digits.specs.DigitMap.{left_bracket, right_bracket, element_at, element_then, string_f, some_of, string_r, alternative_r}
-use Rattle.digits.specs.declared.Selector.{Selector}
-use Rattle.digits.specs.declared.Selector.TheVariants.{Takes, Absent, Malformed}
+use Rattle.digits.specs.DigitMap.{left_bracket, right_bracket, element_at, element_then, string_f, some_of, string_r, alternative_r, SelectorRead, selector, absent}
 use Rattle.digit_grammar.specs.DigitGrammar.{any_digit, set_of, digit_position, symbol_position, range_position, digit_string_element, no_dot, with_dot, digit_string, last_element, next_element, Alternative, alternative}
 use Rattle.digit_grammar.proofs.SymbolLaws.{begins, begins_symbol, begins_x, begins_solid, begins_no_dot}
 use Rattle.digit_grammar.proofs.SpanLaws.{Selects, Part}
@@ -100,18 +99,18 @@ pub record StringReads (s : List ℕ) (r : Read (List ℕ)) (x v t : List ℕ) :
   pub left : Left v t rest
   pub gets : Gets s r x rest
 
-string_step : (k : ℕ) (s : List ℕ) (left set n p m : ℕ) (x : List ℕ) → element_at s ≡ Takes set n p → n ≤ left
+string_step : (k : ℕ) (s : List ℕ) (left set n p m : ℕ) (x : List ℕ) → element_at s ≡ selector set n p → n ≤ left
     → string_f k (drop p s) (left - n) ≡ got x m
     → string_f (suc k) s left ≡ got (set ∷ x) (p + m)
 unfolding string_f element_then bind pick
 string_step k s left set n p m x e l f = rw (e, le-ltb left n l, f)
 
-string_stop : (k : ℕ) (s : List ℕ) (left : ℕ) → 0 < k → element_at s ≡ Absent → string_f k s left ≡ got [] 0
+string_stop : (k : ℕ) (s : List ℕ) (left : ℕ) → 0 < k → element_at s ≡ absent → string_f k s left ≡ got [] 0
 unfolding string_f element_then
 string_stop zero s left l e = absurd (omega arith)
 string_stop (suc k) s left l e = rw e
 
-left_absent : {v t rest : List ℕ} → Left v t rest → LWSP v → Stop t → element_at rest ≡ Absent
+left_absent : {v t rest : List ℕ} → Left v t rest → LWSP v → Stop t → element_at rest ≡ absent
 left_absent {t} kept w x = element_absent t w x
 left_absent {t} passed w x = element_absent t no_lwsp x
 
@@ -211,17 +210,17 @@ string_sound (suc k) s left x e h = by (element_at s) refl h (λ p l y m f. stri
     longer set n p m y z l (something {a} d i f) = something {e = p + m} (next_element z.derives d) (omega arith)
         (z.split ∙ rw f (rw (drop-drop m p s) (sym (append_assoc z.bytes a (drop (p + m) s)))))
 
-    by : (z : Selector) → element_at s ≡ z → element_then z left (λ p l. string_f k (drop p s) l) ≡ got x e
+    by : (z : SelectorRead) → element_at s ≡ z → element_then z left (λ p l. string_f k (drop p s) l) ≡ got x e
         → ((p l : ℕ) (y : List ℕ) (m : ℕ) → string_f k (drop p s) l ≡ got y m → Strung (drop p s) l y m) → Strung s left x e
-    by (Takes set n p) i h f = fits (ltb left n) _ h (λ t h.
-        bind_got x e (string_f k (drop p s) (left - n)) _ h (λ y m j h. given (got_same x e h) (λ z.
-        rw (← z.0, ← z.1) (longer set n p m y (element_sound s set n p i) (ltb-false left n t) (f p (left - n) y m j)))))
+    by (Ok (Some v)) i h f = fits (ltb left v.size) _ h (λ t h.
+        bind_got x e (string_f k (drop v.next s) (left - v.size)) _ h (λ y m j h. given (got_same x e h) (λ z.
+        rw (← z.0, ← z.1) (longer v.set v.size v.next m y (element_sound s v.set v.size v.next i) (ltb-false left v.size t) (f v.next (left - v.size) y m j)))))
       where
         fits : {C : Type 0} (t : Bool) (r : Read (List ℕ)) → pick t fault r ≡ got x e → (t ≡ false → r ≡ got x e → C) → C
         fits true r h k = unfold pick in absurd (fault_got x e h)
         fits false r h k = unfold pick in k refl h
-    by Absent i h f = given (got_same x e h) (λ z. rw (← z.0, ← z.1) nothing)
-    by Malformed i h f = absurd (fault_got x e h)
+    by (Ok None) i h f = given (got_same x e h) (λ z. rw (← z.0, ← z.1) nothing)
+    by (Err bad) i h f = absurd (fault_got x e h)
 
 pub string_found : (s x : List ℕ) (e : ℕ) → string_r s ≡ got x e → Part (λ a. Alternative a x) s (drop e s)
 unfolding string_r

@@ -10,7 +10,8 @@ use Rattle.digits.specs.DigitMap.{map_r}
 use Rattle.digits.specs.Dialling.{plan, plan_of, first_timer, load, dial, answered, is_dialled, progress_of}
 use Rattle.digits.specs.Language.{Says}
 use Rattle.digits.specs.declared.ZeroStart.{ZeroStart}
-use Rattle.digits.specs.declared.Dialled.TheVariants.{BadMap}
+use Rattle.std.specs.Prelude.{Err}
+use Rattle.digits.specs.declared.DialError.TheVariants.{BadMap}
 use Rattle.digits.proofs.ReadLaws.{answer_says}
 use Rattle.digit_grammar.specs.DigitGrammar.{digit_map}
 use Rattle.digit_grammar.proofs.MapLaws.{map_reads, map_sound}
@@ -40,13 +41,13 @@ no_map s = (λ h m d. let f = complete s m d in let z : ◌≡◌ {A = ℕ} 0 1 
 
 -- "6 for a malformed or too large map": so where the grammar derives none, whatever the start timer, its rule and the dialled string
 pub refusal_6 : (s : List ℕ) (start : ℕ) (rule : ZeroStart) (w : List ℕ)
-    → dial (load s start rule) w ≡ BadMap ↔ ((m : List (List ℕ)) → ¬ digit_map s m)
+    → dial (load s start rule) w ≡ Err BadMap ↔ ((m : List (List ℕ)) → ¬ digit_map s m)
 unfolding load plan_of dial answered
 refusal_6 s start rule w = (λ h. (no_map s).0 (to (map_r s) h), λ h. rw ((no_map s).1 h))
   where
-    to : (r : Option (List (List ℕ))) → dial (plan_of r (first_timer start rule)) w ≡ BadMap → r ≡ none
+    to : (r : Option (List (List ℕ))) → dial (plan_of r (first_timer start rule)) w ≡ Err BadMap → r ≡ none
     to none h = refl
-    to (some m) h = absurd (pick_of (λ r. r ≡ BadMap → ⊥) (is_dialled w)
+    to (some m) h = absurd (pick_of (λ r. r ≡ Err BadMap → ⊥) (is_dialled w)
         (λ t e. let z : ◌≡◌ {A = ℕ} 0 1 = cc in omega arith)
         (λ t e. let z : ◌≡◌ {A = ℕ} 0 1 = cc in omega arith) h)
 

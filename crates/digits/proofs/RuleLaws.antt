@@ -10,7 +10,8 @@ use Rattle.digits.specs.DigitMap.{map_r}
 use Rattle.digits.specs.Symbols.{symbols_of}
 use Rattle.digits.specs.Dialling.{first_timer, timer_of, answered, plan_of, load, dial, is_dialled, progress_of}
 use Rattle.digits.specs.declared.ZeroStart.{ZeroStart}
-use Rattle.digits.specs.declared.Dialled.TheVariants.{BadMap, BadString}
+use Rattle.std.specs.Prelude.{Err}
+use Rattle.digits.specs.declared.DialError.TheVariants.{BadMap, BadString}
 
 -- once there is a symbol, neither the start timer nor the rule plays a part
 pub after_a_symbol : (s : List ℕ) (start start' : ℕ) (rule rule' : ZeroStart) (b : ℕ) (w : List ℕ) → dial (load s start rule) (b ∷ w) ≡ dial (load s start' rule') (b ∷ w)
@@ -27,11 +28,11 @@ unfolding load first_timer pick
 other_than_zero s start rule rule' w h = rw (ne_eqb start 0 h)
 
 -- ---- "6 first": a malformed map is 6 whatever was dialled, and only a map that is read lets the string be 7
-pub map_first : (s : List ℕ) (start : ℕ) (rule : ZeroStart) (w : List ℕ) → map_r s ≡ none → dial (load s start rule) w ≡ BadMap
+pub map_first : (s : List ℕ) (start : ℕ) (rule : ZeroStart) (w : List ℕ) → map_r s ≡ none → dial (load s start rule) w ≡ Err BadMap
 unfolding load plan_of dial
 map_first s start rule w e = rw e
 
-pub string_second : (s : List ℕ) (m : List (List ℕ)) (start : ℕ) (rule : ZeroStart) (w : List ℕ) → map_r s ≡ some m → is_dialled w ≡ false → dial (load s start rule) w ≡ BadString
+pub string_second : (s : List ℕ) (m : List (List ℕ)) (start : ℕ) (rule : ZeroStart) (w : List ℕ) → map_r s ≡ some m → is_dialled w ≡ false → dial (load s start rule) w ≡ Err BadString
 unfolding load plan_of dial pick
 string_second s m start rule w e f = rw (e, f)
 

@@ -1,5 +1,5 @@
 -- What a dialled string is answered (CR 8).
-use Rattle.std.specs.Prelude.{ℕ, Bool, true, false, not, ◌&&◌, ◌||◌, List, [], ◌∷◌, length, leb, eqb}
+use Rattle.std.specs.Prelude.{ℕ, Bool, true, false, not, ◌&&◌, ◌||◌, List, [], ◌∷◌, length, leb, eqb, Ok, Err}
 use Rattle.std.proofs.Math.Option.{Option, none, some}
 use Rattle.base.specs.Pick.{pick}
 use Rattle.base.specs.Lists.{every}
@@ -11,8 +11,10 @@ use Rattle.digits.specs.declared.Timer.{Timer}
 use Rattle.digits.specs.declared.Timer.TheVariants.{NoTimer, StartTimer, LongTimer, ShortTimer, RunOut}
 use Rattle.digits.specs.declared.ZeroStart.{ZeroStart}
 use Rattle.digits.specs.declared.ZeroStart.TheVariants.{Waits, RunsOut}
-use Rattle.digits.specs.declared.Dialled.{Dialled}
-use Rattle.digits.specs.declared.Dialled.TheVariants.{Answer, BadMap, BadString}
+use Rattle.std.specs.declared.result.Result.{Result}
+use Rattle.digits.specs.declared.Answer.{Answer}
+use Rattle.digits.specs.declared.DialError.{DialError}
+use Rattle.digits.specs.declared.DialError.TheVariants.{BadMap, BadString}
 
 -- ---- an alternative and a string. `whole` says what is asked where the string ends: that the alternative ends too (the string is matched), or
 -- that it goes on (some longer string is)
@@ -86,10 +88,17 @@ load s start rule = plan_of (map_r s) (first_timer start rule)
 unfoldable pub is_dialled : List ℕ → Bool
 is_dialled w = leb (length w) 32 && every is_symbol w
 
+-- an answer and its timer, or the refusal
+abbrev pub Dialled : Type 0
+Dialled = Result Answer DialError
+
+abbrev pub answer : Progress → Timer → Dialled
+answer p t = Ok (record { progress = p; timer = t })
+
 unfoldable pub answered : Timer → List ℕ → Progress → Dialled
-answered first w p = Answer p (timer_of first w p)
+answered first w p = answer p (timer_of first w p)
 
 -- "6 for a malformed or too large map, 7 for a dialled string too long or with a foreign symbol; 6 first"
 unfoldable pub dial : Plan → List ℕ → Dialled
-dial no_plan w = BadMap
-dial (plan m first) w = let a = answered first w (progress_of m (symbols_of w)) in pick (is_dialled w) a BadString
+dial no_plan w = Err BadMap
+dial (plan m first) w = let a = answered first w (progress_of m (symbols_of w)) in pick (is_dialled w) a (Err BadString)

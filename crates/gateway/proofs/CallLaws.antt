@@ -8,6 +8,7 @@ use lib.ListN.{length}
 use lib.Dec.{ltb, leb, eqb}
 use borrow.Author.Tests.{lt-ltb, le-ltb, leb-true, eq-eqb, ne_eqb}
 use native.Mathlib.Omega.{arith}
+use Rattle.std.specs.Prelude.{Ok, Err}
 use Rattle.base.specs.Pick.{pick}
 use Rattle.base.specs.Bytes.{put, ◌then◌}
 use Rattle.base.specs.Out.{Appended}
@@ -28,8 +29,8 @@ use Rattle.megaco.specs.Message.{Served, identifier, answered, run_part, run_par
 use Rattle.megaco.specs.Call.{state_fits, written, replied, taken, call, is_present, packet}
 use Rattle.laws.proofs.Bounds.{text_fits}
 use Rattle.run_message.specs.Serves.{Serves}
-use Rattle.gateway.specs.Answers.{refusal_of, size_of, Answered, Counted, Replied}
-use Rattle.gateway.specs.declared.CallOutcome.TheVariants.{Taken, ReplyTooShort, TableUnsound, RoomUnsound, MidUnfit, MessageUnfit, LinesUnfit}
+use Rattle.gateway.specs.Answers.{refusal_number, refusal_of, size_of, Answered, Counted, Replied}
+use Rattle.gateway.specs.declared.Refusal.TheVariants.{ReplyTooShort, TableUnsound, RoomUnsound, MidUnfit, MessageUnfit, LinesUnfit}
 
 -- ---- the state
 
@@ -43,33 +44,33 @@ wrong_size lines t bs n e f = rw (ne_eqb (length t) (words lines) (λ q. f (q �
 
 -- ---- a call
 
-pub unfit_lines : (lines : ℕ) (m t bs w b own o : List ℕ) (x : Bool) → x ≡ within lines most_lines → x ≡ false → Answered (call lines m (state t bs) (room w b) own o) (state t bs) (room w b) o LinesUnfit
-unfolding call refusal_of size_of pick
+pub unfit_lines : (lines : ℕ) (m t bs w b own o : List ℕ) (x : Bool) → x ≡ within lines most_lines → x ≡ false → Answered (call lines m (state t bs) (room w b) own o) (state t bs) (room w b) o (Err LinesUnfit)
+unfolding call refusal_of refusal_number size_of pick
 unfit_lines lines m t bs w b own o x e f = rw (sym e ∙ f) (record { refusal = refl; size = refl; state = refl; room = refl; reply = refl })
 
 module _ (lines : ℕ) (m t bs w b own o : List ℕ) (fit : within lines most_lines ≡ true) where
-  pub short_reply : length o < 16640 → Answered (call lines m (state t bs) (room w b) own o) (state t bs) (room w b) o ReplyTooShort
-  unfolding call refusal_of size_of pick
+  pub short_reply : length o < 16640 → Answered (call lines m (state t bs) (room w b) own o) (state t bs) (room w b) o (Err ReplyTooShort)
+  unfolding call refusal_of refusal_number size_of pick
   short_reply h = rw (fit, lt-ltb (length o) 16640 h) (record { refusal = refl; size = refl; state = refl; room = refl; reply = refl })
 
   module _ (h : 16640 ≤ length o) where
-    pub unfit_state : (x : Bool) → x ≡ state_fits lines (state t bs) → x ≡ false → Answered (call lines m (state t bs) (room w b) own o) (state t bs) (room w b) o TableUnsound
-    unfolding call refusal_of size_of pick
+    pub unfit_state : (x : Bool) → x ≡ state_fits lines (state t bs) → x ≡ false → Answered (call lines m (state t bs) (room w b) own o) (state t bs) (room w b) o (Err TableUnsound)
+    unfolding call refusal_of refusal_number size_of pick
     unfit_state x e f = rw (fit, le-ltb (length o) 16640 h, sym e ∙ f) (record { refusal = refl; size = refl; state = refl; room = refl; reply = refl })
 
     module _ (x : Bool) (e : x ≡ state_fits lines (state t bs)) (f : x ≡ true) where
-      pub unsound_room : (v : Bool) → v ≡ room_sound (room w b) → v ≡ false → Answered (call lines m (state t bs) (room w b) own o) (state t bs) (room w b) o RoomUnsound
-      unfolding call refusal_of size_of pick
+      pub unsound_room : (v : Bool) → v ≡ room_sound (room w b) → v ≡ false → Answered (call lines m (state t bs) (room w b) own o) (state t bs) (room w b) o (Err RoomUnsound)
+      unfolding call refusal_of refusal_number size_of pick
       unsound_room v g k = rw (fit, le-ltb (length o) 16640 h, sym e ∙ f, sym g ∙ k) (record { refusal = refl; size = refl; state = refl; room = refl; reply = refl })
 
       module _ (v : Bool) (r : v ≡ room_sound (room w b)) (s : v ≡ true) where
-        pub unfit_mid : (y : Bool) → y ≡ is_mid own → y ≡ false → Answered (call lines m (state t bs) (room w b) own o) (state t bs) (room w b) o MidUnfit
-        unfolding call refusal_of size_of pick
+        pub unfit_mid : (y : Bool) → y ≡ is_mid own → y ≡ false → Answered (call lines m (state t bs) (room w b) own o) (state t bs) (room w b) o (Err MidUnfit)
+        unfolding call refusal_of refusal_number size_of pick
         unfit_mid y g k = rw (fit, le-ltb (length o) 16640 h, sym e ∙ f, sym r ∙ s, sym g ∙ k) (record { refusal = refl; size = refl; state = refl; room = refl; reply = refl })
 
         module _ (y : Bool) (g : y ≡ is_mid own) (k : y ≡ true) where
-          pub unfit_message : (eqb (length m) 0 || ltb 4096 (length m)) ≡ true → Answered (call lines m (state t bs) (room w b) own o) (state t bs) (room w b) o MessageUnfit
-          unfolding call refusal_of size_of pick
+          pub unfit_message : (eqb (length m) 0 || ltb 4096 (length m)) ≡ true → Answered (call lines m (state t bs) (room w b) own o) (state t bs) (room w b) o (Err MessageUnfit)
+          unfolding call refusal_of refusal_number size_of pick
           unfit_message z = rw (fit, le-ltb (length o) 16640 h, sym e ∙ f, sym r ∙ s, sym g ∙ k, z) (record { refusal = refl; size = refl; state = refl; room = refl; reply = refl })
 
           taken_is : (eqb (length m) 0 || ltb 4096 (length m)) ≡ false → call lines m (state t bs) (room w b) own o ≡ taken m (state t bs) (room w b) own o
@@ -81,7 +82,7 @@ module _ (lines : ℕ) (m t bs w b own o : List ℕ) (fit : within lines most_li
           no_refusal = refl
 
           pub is_taken : (eqb (length m) 0 || ltb 4096 (length m)) ≡ false → (t' : State) (r' : Room) (o' : List ℕ) (n₂ : ℕ) → Replied (taken m (state t bs) (room w b) own o) t' r' o' n₂
-              → Answered (call lines m (state t bs) (room w b) own o) t' r' o' (Taken n₂)
+              → Answered (call lines m (state t bs) (room w b) own o) t' r' o' (Ok n₂)
           unfolding refusal_of size_of
           is_taken z t' r' o' n₂ p = rw (taken_is z) (record { refusal = no_refusal; size = p.size; state = p.state; room = p.room; reply = p.reply })
 

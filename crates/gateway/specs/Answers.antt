@@ -1,30 +1,36 @@
 -- Document 01's number and values for each answer of the call.
-use Rattle.std.specs.Prelude.{ℕ, ◌+◌, ◌*◌, ◌≡◌, List}
+use Rattle.std.specs.Prelude.{ℕ, ◌+◌, ◌*◌, ◌≡◌, List, Ok, Err, ⊤}
 use Rattle.megaco.specs.State.{State}
 use Rattle.megaco.specs.Room.{Room}
 use Rattle.megaco.specs.Call.{Called, Received}
-use Rattle.gateway.specs.declared.CallOutcome.{CallOutcome}
-use Rattle.gateway.specs.declared.CallOutcome.TheVariants.{Taken, ReplyTooShort, TableUnsound, RoomUnsound, MidUnfit, MessageUnfit, LinesUnfit}
+use Rattle.std.specs.declared.result.Result.{Result}
+use Rattle.gateway.specs.declared.PacketRefusal.{PacketRefusal}
+use Rattle.gateway.specs.declared.PacketRefusal.TheVariants.{StateUnsound, LinesOutside, EphemeralAbsent}
+use Rattle.gateway.specs.declared.Refusal.{Refusal}
+use Rattle.gateway.specs.declared.Refusal.TheVariants.{MessageUnfit, TableUnsound, ReplyTooShort, MidUnfit, RoomUnsound, LinesUnfit}
 
--- 'Calls turned down': the number, 0 for a call that is taken
+-- what a call answers: the reply's length, or why it was turned down
+abbrev pub CallOutcome : Type 0
+CallOutcome = Result ℕ Refusal
+
+-- 'Calls turned down': the number of each
+unfoldable pub refusal_number : Refusal → ℕ
+refusal_number MessageUnfit = 1
+refusal_number TableUnsound = 2
+refusal_number ReplyTooShort = 3
+refusal_number MidUnfit = 4
+refusal_number RoomUnsound = 5
+refusal_number LinesUnfit = 8
+
+-- 0 for a call that is taken
 unfoldable pub refusal_of : CallOutcome → ℕ
-refusal_of (Taken n) = 0
-refusal_of ReplyTooShort = 3
-refusal_of TableUnsound = 2
-refusal_of RoomUnsound = 5
-refusal_of MidUnfit = 4
-refusal_of MessageUnfit = 1
-refusal_of LinesUnfit = 8
+refusal_of (Ok n) = 0
+refusal_of (Err e) = refusal_number e
 
 -- the reply's length: "Each gives length 0"
 unfoldable pub size_of : CallOutcome → ℕ
-size_of (Taken n) = n
-size_of ReplyTooShort = 0
-size_of TableUnsound = 0
-size_of RoomUnsound = 0
-size_of MidUnfit = 0
-size_of MessageUnfit = 0
-size_of LinesUnfit = 0
+size_of (Ok n) = n
+size_of (Err e) = 0
 
 -- an answer, the state and the room made of the lent slices and the reply buffer after the call are those of the definition
 pub record Answered (c : Called) (t' : State) (r' : Room) (o' : List ℕ) (r : CallOutcome) : Type 0 where
@@ -51,6 +57,16 @@ pub record Replied (c : Called) (t' : State) (r' : Room) (o' : List ℕ) (n : �
   pub state : t' ≡ c.state
   pub room : r' ≡ c.room
   pub reply : o' ≡ c.reply
+
+-- the number of a packet's refusal, and 0 for one that is counted
+unfoldable pub packet_refusal : PacketRefusal → ℕ
+packet_refusal StateUnsound = 2
+packet_refusal LinesOutside = 8
+packet_refusal EphemeralAbsent = 9
+
+unfoldable pub packet_answer : Result ⊤ PacketRefusal → ℕ
+packet_answer (Ok tt) = 0
+packet_answer (Err e) = packet_refusal e
 
 -- the answer to a packet and the blocks after it
 pub record Counted (c : Received) (b' : List ℕ) (r : ℕ) : Type 0 where

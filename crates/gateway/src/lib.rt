@@ -8,23 +8,61 @@ ghost use Rattle.megaco.specs.State.{state};
 ghost use Rattle.megaco.specs.Room.{room, room_sound};
 ghost use Rattle.megaco.specs.Names.{within};
 ghost use Rattle.megaco.specs.Call.{state_fits, taken, call, packet};
-ghost use Rattle.gateway.specs.Answers.{Answered, Replied, Counted};
+ghost use Rattle.gateway.specs.Answers.{refusal_number, packet_refusal, packet_answer, Answered, Replied, Counted};
 
 // Document 01's limits: the longest message, the shortest reply buffer.
 pub const LONGEST_MESSAGE: usize = 4096;
 
 pub const REPLY_ROOM: usize = 16640;
 
-// What a call answers: the reply's length, or why it was turned down (`refusalOf` gives the number of each).
-#[derive(Clone, Copy)]
-pub enum CallOutcome {
-    Taken(usize),
-    ReplyTooShort,
-    TableUnsound,
-    RoomUnsound,
-    MidUnfit,
+// Why a call was turned down.
+#[derive(Clone, Copy, Debug, PartialEq, Eq)]
+pub enum Refusal {
     MessageUnfit,
+    TableUnsound,
+    ReplyTooShort,
+    MidUnfit,
+    RoomUnsound,
     LinesUnfit,
+}
+
+impl Refusal {
+    // The number of a refusal.
+    #[tactic(auto, unfolding(crate::specs::Answers::refusal_number))]
+    pub fn number(self) -> u32
+        ensures { result ≡ refusal_number self }
+    {
+        match self {
+            Refusal::MessageUnfit => 1,
+            Refusal::TableUnsound => 2,
+            Refusal::ReplyTooShort => 3,
+            Refusal::MidUnfit => 4,
+            Refusal::RoomUnsound => 5,
+            Refusal::LinesUnfit => 8,
+        }
+    }
+}
+
+// Why a packet was turned down.
+#[derive(Clone, Copy, Debug, PartialEq, Eq)]
+pub enum PacketRefusal {
+    StateUnsound,
+    LinesOutside,
+    EphemeralAbsent,
+}
+
+impl PacketRefusal {
+    // The number of a packet's refusal.
+    #[tactic(auto, unfolding(crate::specs::Answers::packet_refusal))]
+    pub fn number(self) -> u32
+        ensures { result ≡ packet_refusal self }
+    {
+        match self {
+            PacketRefusal::StateUnsound => 2,
+            PacketRefusal::LinesOutside => 8,
+            PacketRefusal::EphemeralAbsent => 9,
+        }
+    }
 }
 
 // Reads the message, runs it on the table and the blocks with the kept replies and writes the reply from the start of the buffer. A call that
@@ -38,13 +76,13 @@ pub fn answer(
     bytes: &mut [u8],
     own: &[u8],
     reply: &mut [u8],
-) -> CallOutcome
+) -> Result<usize, Refusal>
     ensures { Answered (call lines message.now (state table.old blocks.old) (room words.old bytes.old) own.now reply.old) (state table.new blocks.new) (room words.new bytes.new) reply.new result }
 {
     if table::are_fitted(lines) {
         return answer_fitted(lines, message, table, blocks, words, bytes, own, reply);
     }
-    CallOutcome::LinesUnfit
+    Err(Refusal::LinesUnfit)
 }
 
 // Whether the table is of so many lines, and both it and the blocks are sound.
@@ -59,6 +97,7 @@ fn state_fits(lines: u32, table: &[u32], blocks: &[u32]) -> bool
 }
 
 // A call with a good count of lines.
+#[tactic(auto, using(crate::proofs::CallLaws::short_reply, crate::proofs::CallLaws::unfit_state, crate::proofs::CallLaws::unsound_room, crate::proofs::CallLaws::unfit_mid, crate::proofs::CallLaws::unfit_message, crate::proofs::CallLaws::is_taken))]
 fn answer_fitted(
     lines: u32,
     message: &[u8],
@@ -68,26 +107,26 @@ fn answer_fitted(
     bytes: &mut [u8],
     own: &[u8],
     reply: &mut [u8],
-) -> CallOutcome
+) -> Result<usize, Refusal>
     requires { within lines most_lines ≡ true }
     ensures { Answered (call lines message.now (state table.old blocks.old) (room words.old bytes.old) own.now reply.old) (state table.new blocks.new) (room words.new bytes.new) reply.new result }
 {
     if reply.len() < REPLY_ROOM {
-        return CallOutcome::ReplyTooShort;
+        return Err(Refusal::ReplyTooShort);
     }
-    if state_fits(lines, table, blocks) {
-        if room::is_sound(words, bytes) {
-            if tokens::is_mid(own) {
-                if (message.len() == 0) | (LONGEST_MESSAGE < message.len()) {
-                    return CallOutcome::MessageUnfit;
-                }
-                return CallOutcome::Taken(serve(message, table, blocks, words, bytes, own, reply));
-            }
-            return CallOutcome::MidUnfit;
-        }
-        return CallOutcome::RoomUnsound;
+    if !state_fits(lines, table, blocks) {
+        return Err(Refusal::TableUnsound);
     }
-    CallOutcome::TableUnsound
+    if !room::is_sound(words, bytes) {
+        return Err(Refusal::RoomUnsound);
+    }
+    if !tokens::is_mid(own) {
+        return Err(Refusal::MidUnfit);
+    }
+    if message.is_empty() | (LONGEST_MESSAGE < message.len()) {
+        return Err(Refusal::MessageUnfit);
+    }
+    Ok(serve(message, table, blocks, words, bytes, own, reply))
 }
 
 // A message that is taken: the reply's length. The header is written last, since a message of acknowledgements alone has no reply.
@@ -121,6 +160,7 @@ fn block_number(n: u32) -> usize
 }
 
 // A packet with a good count of lines.
+#[tactic(auto, using(crate::proofs::CallLaws::packet_2, crate::proofs::CallLaws::packet_9, crate::proofs::CallLaws::packet_counts), unfolding(crate::specs::Answers::packet_answer, crate::specs::Answers::packet_refusal))]
 fn packet_fitted(
     lines: u32,
     table: &[u32],
@@ -128,22 +168,22 @@ fn packet_fitted(
     n: u32,
     arrival: u32,
     stamp: u32,
-) -> u32
+) -> Result<(), PacketRefusal>
     requires { within lines most_lines ≡ true }
-    ensures { Counted (packet lines (state table.now blocks.old) n arrival stamp) blocks.new result }
+    ensures { Counted (packet lines (state table.now blocks.old) n arrival stamp) blocks.new (packet_answer result) }
 {
-    if state_fits(lines, table, blocks) {
-        if statistics::is_present(lines, n, table) {
-            statistics::count_packet(blocks, block_number(n), arrival, stamp);
-            return 0;
-        }
-        return 9;
+    if !state_fits(lines, table, blocks) {
+        return Err(PacketRefusal::StateUnsound);
     }
-    2
+    if !statistics::is_present(lines, n, table) {
+        return Err(PacketRefusal::EphemeralAbsent);
+    }
+    statistics::count_packet(blocks, block_number(n), arrival, stamp);
+    Ok(())
 }
 
-// A packet of `R/n` that came at `arrival` with the RTP time `stamp`: its block is updated. The number of the refusal, 8, 2 or 9, or 0; a
-// packet that is turned down changes nothing.
+// A packet of `R/n` that came at `arrival` with the RTP time `stamp`: its block is updated. A packet that is turned down changes nothing.
+#[tactic(auto, using(crate::proofs::CallLaws::packet_8), unfolding(crate::specs::Answers::packet_answer, crate::specs::Answers::packet_refusal))]
 pub fn packet(
     lines: u32,
     table: &[u32],
@@ -151,12 +191,11 @@ pub fn packet(
     n: u32,
     arrival: u32,
     stamp: u32,
-) -> u32
-    ensures { Counted (packet lines (state table.now blocks.old) n arrival stamp) blocks.new result }
+) -> Result<(), PacketRefusal>
+    ensures { Counted (packet lines (state table.now blocks.old) n arrival stamp) blocks.new (packet_answer result) }
 {
-    let told = table::are_fitted(lines);
-    if told {
-        return packet_fitted(lines, table, blocks, n, arrival, stamp);
+    if !table::are_fitted(lines) {
+        return Err(PacketRefusal::LinesOutside);
     }
-    8
+    packet_fitted(lines, table, blocks, n, arrival, stamp)
 }

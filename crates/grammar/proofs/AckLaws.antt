@@ -1,4 +1,6 @@
 -- Acknowledgements are read exactly as the grammar derives them.
+use Rattle.megaco.proofs.NumberParts.{same_value}
+use Rattle.std.specs.Prelude.{Some, None}
 use Prim.Native.Nat.{ℕ, ◌+◌, ◌≤◌}
 use mathlib.Core.Path.{◌≡◌, refl, sym, ap, ◌∙◌}
 use mathlib.Core.Bool.{Bool, true, false}
@@ -15,7 +17,7 @@ use Rattle.megaco.specs.White.{goes_on, after, white_at}
 use Rattle.megaco.specs.Keywords.{spells}
 use Rattle.megaco.specs.Tokens.{sign_at, word_at, number_at, at_least}
 use Rattle.megaco.specs.Reading.{got, read_number, list_r, unlimited, ack, identifier_from, range_r, ack_r, acks_r}
-use Rattle.protocol.specs.Types.{ResponseAckToken, Ack, Number, Got, Bad, Next}
+use Rattle.protocol.specs.Types.{ResponseAckToken, Ack, Number, number}
 use Rattle.grammar.specs.Characters.{Keyword}
 use Rattle.grammar.specs.Grammar.{LWSP, around, Commas, UINT32, TransactionID, identifier, transaction_ack, one_id, from_to, transaction_response_ack, with_acks}
 use Rattle.grammar.proofs.Places.{Stands, Gets, Counts, finds, finds_after, gets_here, gets_skip, gets_bind, gets_number, behind, is_at_head, is_at_cons, whether, given, got_same, skip_got, bind_got, number_got, after_next}
@@ -42,16 +44,16 @@ unfolding identifier_from at_least pick
 identifier_counts s rest {v = v} at low (identifier n l) h k e = given (number_complete s rest at 10 4294967295 n k e) (λ y.
     record { end = y.end; is = rw (y.is, le-leb low v h); leaves = y.leaves })
 
-at_least_back : (low : ℕ) (n : Number) (v e : ℕ) → at_least low n ≡ Got v e → (n ≡ Got v e) × (low ≤ v)
+at_least_back : (low : ℕ) (n : Number) (v e : ℕ) → at_least low n ≡ number v e → (n ≡ number v e) × (low ≤ v)
 unfolding at_least pick
-at_least_back low (Got w p) v e h = by (leb low w) refl h
+at_least_back low (Some (w, p)) v e h = by (leb low w) refl h
   where
-    by : (t : Bool) → leb low w ≡ t → pick t (Got w p) Bad ≡ Got v e → (Got w p ≡ Got v e) × (low ≤ v)
-    by true q f = let z : w ≡ v = cc in (f, omega (arith, leb-true low w q, z))
+    by : (t : Bool) → leb low w ≡ t → pick t (number w p) None ≡ number v e → (number w p ≡ number v e) × (low ≤ v)
+    by true q f = let z : w ≡ v = same_value f in (f, omega (arith, leb-true low w q, z))
     by false q f = let z : ◌≡◌ {A = ℕ} 0 1 = cc in absurd (omega arith)
-at_least_back low Bad v e h = let z : ◌≡◌ {A = ℕ} 0 1 = cc in absurd (omega arith)
+at_least_back low None v e h = let z : ◌≡◌ {A = ℕ} 0 1 = cc in absurd (omega arith)
 
-identifier_sound : (s : List ℕ) (at low v e : ℕ) → identifier_from low s at ≡ Got v e → Stands (λ a. UINT32 a v) (Stops is_digit) (drop at s) (drop e s) × (low ≤ v)
+identifier_sound : (s : List ℕ) (at low v e : ℕ) → identifier_from low s at ≡ number v e → Stands (λ a. UINT32 a v) (Stops is_digit) (drop at s) (drop e s) × (low ≤ v)
 unfolding identifier_from
 identifier_sound s at low v e h =
     let p = at_least_back low (number_at s at 10 4294967295) v e h in
@@ -138,7 +140,7 @@ module _ (s : List ℕ) where
       → transaction_response_ack (a ++ (u ++ o) ++ c ++ (v ++ p)) ks
   acks_of_lem k i (after_sign j) y m (after_sign n) = with_acks k (around i j) y (around m n)
 
-  pub acks_got : (ks : List Ack) (at e : ℕ) → ((p : ℕ) → word_at s at ≡ Next p → spells ResponseAckToken (part s at p) ≡ true) → acks_r s at ≡ got ks e
+  pub acks_got : (ks : List Ack) (at e : ℕ) → ((p : ℕ) → word_at s at ≡ Some p → spells ResponseAckToken (part s at p) ≡ true) → acks_r s at ≡ got ks e
       → Stands (λ a. transaction_response_ack a ks) Solid (drop at s) (drop e s)
   unfolding acks_r
   acks_got ks at e k h =
@@ -149,7 +151,7 @@ module _ (s : List ℕ) where
       given (white_sound s n p d) (λ y₂.
       given (sign_sound s p left_brace q (omega arith) g) (λ y₃.
       given ((list_sound_all transaction_ack s (ack_r s) ack_sound).finds xs q r b) (λ y₄.
-      given (sign_sound s r right_brace e (omega arith) (j ∙ ap Next z.1)) (λ y₅. record {
+      given (sign_sound s r right_brace e (omega arith) (j ∙ ap Some z.1)) (λ y₅. record {
         bytes = y₁.bytes ++ (y₂.bytes ++ y₃.bytes) ++ y₄.bytes ++ (y₄.white ++ y₅.bytes);
         derives =
             rw (← z.0) (acks_of_lem (spells_keyword ResponseAckToken y₁.bytes (rw y₁.derives.1 at (k n o))) y₂.derives y₃.derives

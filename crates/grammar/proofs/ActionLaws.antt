@@ -1,4 +1,5 @@
 -- Actions are read exactly as the grammar derives them.
+use Rattle.std.specs.Prelude.{Some}
 use Prim.Native.Nat.{ℕ, zero, suc, ◌+◌, ◌<◌, ◌≤◌}
 use mathlib.Core.Path.{◌≡◌, refl, sym, ap, ◌∙◌}
 use mathlib.Core.Bool.{true, false, ◌||◌}
@@ -15,7 +16,7 @@ use Rattle.megaco.specs.Keywords.{forms_of, spelt, spells}
 use Rattle.megaco.specs.Tokens.{sign_at, number_at}
 use Rattle.megaco.specs.Tree.{Command, Property, Action, action}
 use Rattle.megaco.specs.Reading.{got, list_r, unlimited, key_at, is_property, command_r, context_r, word_here, property_r, Body, body, with_property, property_then, body_r, action_of, action_r}
-use Rattle.protocol.specs.Types.{CtxToken, PriorityToken, EmergencyToken, TopologyToken, Context, Null, Numbered, Choose, All, Next}
+use Rattle.protocol.specs.Types.{CtxToken, PriorityToken, EmergencyToken, TopologyToken, Context, Null, Numbered, Choose, All}
 use Rattle.grammar.specs.Characters.{Keyword, no_more}
 use Rattle.grammar.specs.Grammar.{LWSP, no_lwsp, around, EQUAL, COMMA, single, joined, at_most, uint, name, no_prefix, with_prefix, command_request, amm_request, command_request_list, context_property, context_properties, ContextID, context_number, context_all, context_null, context_choose, action_body, properties, properties_commands, commands, action_request, in_context}
 use Rattle.grammar.proofs.Classes.{test_not, digit_tests}
@@ -262,7 +263,7 @@ module _ (s : List ℕ) where
         spaced_got s c q _ n (λ n w d. given (context_sound c p n w) (λ y₂. given (white_sound s n q d) (λ y₃.
         given (sign_sound s q left_brace r (omega arith) o) (λ y₄.
         given (body_finds s (unlimited s) b r t g) (λ y₅.
-        given (sign_sound s t right_brace e (omega arith) (k ∙ ap Next z.1)) (λ y₆. record {
+        given (sign_sound s t right_brace e (omega arith) (k ∙ ap Some z.1)) (λ y₆. record {
           bytes = y₁.0 ++ y₁.1 ++ y₂.bytes ++ (y₃.bytes ++ y₄.bytes) ++ y₅.bytes ++ (y₅.white ++ y₆.bytes);
           white = [];
           derives = action_of_lem y₁.2 y₁.3 y₂.derives y₃.derives y₄.derives y₅.derives y₅.is_white y₆.derives z.0;

@@ -1,4 +1,6 @@
 -- The header is read exactly as the grammar derives it.
+use Rattle.std.specs.Prelude.{Some}
+use Rattle.protocol.specs.Types.{number}
 use Prim.Native.Nat.{ℕ, ◌+◌, ◌-◌, ◌≤◌}
 use mathlib.Core.Path.{◌≡◌, refl, sym, ap, ◌∙◌, subst}
 use mathlib.Core.Logic.{◌⊎◌, inl, inr}
@@ -18,7 +20,7 @@ use Rattle.megaco.specs.White.{goes_on, white_at, sep_at}
 use Rattle.megaco.specs.Keywords.{forms, forms_of}
 use Rattle.megaco.specs.Tokens.{mark_at, keyword_at, number_at, m_id_at}
 use Rattle.megaco.specs.Reading.{skip, bind, read_number, reading, start_at, sender_at, sender_r, or_no_bytes, sender_of}
-use Rattle.protocol.specs.Types.{MegacopToken, Parsed, Next, Got}
+use Rattle.protocol.specs.Types.{MegacopToken, Parsed}
 use Rattle.grammar.specs.Characters.{Spelling, long, short, Keyword}
 use Rattle.grammar.specs.Grammar.{SEP, sep, NAME, m_id, by_address, by_domain, device_name, IPv4address, domain, Header, header}
 use Rattle.grammar.proofs.Classes.{and_parts, test_not}
@@ -35,7 +37,7 @@ use Rattle.grammar.proofs.ItemLaws.{name_solid}
 
 -- the keyword's reader
 abbrev megaco_at : List ℕ → ℕ → Parsed
-megaco_at s p = pick (is_at s p 0x21) (Next (p + 1)) (keyword_at MegacopToken s p)
+megaco_at s p = pick (is_at s p 0x21) (Some (p + 1)) (keyword_at MegacopToken s p)
 
 capital_mark : (b : ℕ) → capital b ≡ 0x21 → b ≡ 0x21
 unfolding capital pick
@@ -71,7 +73,7 @@ module _ (s : List ℕ) where
           let f : drop at s ≡ 0x21 ∷ slash ∷ t = h ∙ ap (λ l. l ++ slash ∷ t) (mark_is a e) in
           rw (is_at_head s _ at 0x21 f) (finds_here s (at + 1) (slash ∷ t) (behind s (0x21 ∷ []) (slash ∷ t) at f))
 
-  megaco_sound : (at e : ℕ) → megaco_at s at ≡ Next e → Stands (Keyword MegacopToken) Any (drop at s) (drop e s)
+  megaco_sound : (at e : ℕ) → megaco_at s at ≡ Some e → Stands (Keyword MegacopToken) Any (drop at s) (drop e s)
   unfolding forms_of pick capitals capital
   megaco_sound at e h = whether (is_at s at 0x21)
       (λ t. record {
@@ -120,7 +122,7 @@ part_is s a b m rest h k l =
     let e : b - a ≡ length m = omega (arith, n, o, l) in
     rw (e, h) (take-append_seam m rest)
 
-sender_by : (s : List ℕ) (v p q a b : ℕ) → start_at s ≡ Next p → number_at s p 2 99 ≡ Got v q → sep_at s q ≡ Next a → m_id_at s a ≡ Next b → sender_of s ≡ part s a b
+sender_by : (s : List ℕ) (v p q a b : ℕ) → start_at s ≡ Some p → number_at s p 2 99 ≡ number v q → sep_at s q ≡ Some a → m_id_at s a ≡ Some b → sender_of s ≡ part s a b
 unfolding sender_of sender_r or_no_bytes skip bind read_number reading
 sender_by s v p q a b h n k m = rw (h, n, k, m)
 
@@ -129,9 +131,9 @@ pub record Headed (s : List ℕ) (v : ℕ) (m rest : List ℕ) : Type 0 where
   pub begun : ℕ
   pub numbered : ℕ
   pub end : ℕ
-  pub start : start_at s ≡ Next begun
-  pub version : number_at s begun 2 99 ≡ Got v numbered
-  pub sender : sender_at s numbered ≡ Next end
+  pub start : start_at s ≡ Some begun
+  pub version : number_at s begun 2 99 ≡ number v numbered
+  pub sender : sender_at s numbered ≡ Some end
   pub leaves : drop end s ≡ rest
   pub from : sender_of s ≡ m
 
@@ -157,7 +159,7 @@ header_complete s t (header {a} {b} {c} {d} {e} {f} w k n i m j) z h =
       from = sender_by s _ x.end y.end b.end u.end x.is y.is b.is u.is ∙ part_is s b.end u.end e (f ++ t) b.leaves u.leaves (sep_more t j);
     })))))
 
-pub header_sound : (s : List ℕ) (v p q e : ℕ) → start_at s ≡ Next p → number_at s p 2 99 ≡ Got v q → sender_at s q ≡ Next e
+pub header_sound : (s : List ℕ) (v p q e : ℕ) → start_at s ≡ Some p → number_at s p 2 99 ≡ number v q → sender_at s q ≡ Some e
     → Stands (λ a. Header a v (sender_of s)) Solid s (drop e s)
 unfolding start_at sender_at
 header_sound s v p q e start n k =

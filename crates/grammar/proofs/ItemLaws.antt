@@ -1,4 +1,5 @@
 -- Items of every level are read exactly as the grammar derives them.
+use Rattle.std.specs.Prelude.{Some}
 use Prim.Native.Nat.{ℕ, zero, suc, ◌+◌}
 use mathlib.Core.Path.{◌≡◌, refl, sym, ap, ◌∙◌}
 use mathlib.Core.Bool.{Bool, true, false, ◌&&◌, and-false, false≢true}
@@ -17,7 +18,7 @@ use Rattle.megaco.specs.Tokens.{sign_at, value_at}
 use Rattle.megaco.specs.Tree.{Value, ItemOf, item, Item}
 use Rattle.megaco.specs.Items.{called}
 use Rattle.megaco.specs.Reading.{Read, got, reading, spaced, word_r, second_r, value_of, value_r, braces_r, may_be_empty, or_none_r, item_r, items_r}
-use Rattle.protocol.specs.Types.{AuditToken, WordByte, SafeByte, Next}
+use Rattle.protocol.specs.Types.{AuditToken, WordByte, SafeByte}
 use Rattle.grammar.specs.Characters.{Keyword}
 use Rattle.grammar.specs.Grammar.{LWSP, no_lwsp, around, NAME, name, VALUE, quoted_string, safe_chars, ItemID, no_item_id, item_id, parm_value, no_value, with_value, Commas, single, joined, LBRKT, RBRKT, Braces, no_braces, with_braces, audit_descriptor, empty_audit, amm_parameter, parameter, audit, amm_parameters}
 use Rattle.grammar.proofs.Classes.{and_parts, test_not, letter_passes, safe_tests}
@@ -243,7 +244,7 @@ module _ (s : List ℕ) where
       (λ t. skip_got is e (sign_at left_brace s at) _ (rw t at h)
       (λ p m l. bind_got is e (inner p) _ l (λ xs q n l. skip_got is e (sign_at right_brace s q) _ l (λ r o l. given (got_same is e l) (λ z.
       given (sign_sound s at left_brace p (omega arith) m)
-      (λ f. given (c.finds xs p q n) (λ y. given (sign_sound s q right_brace e (omega arith) (o ∙ ap Next z.1)) (λ g. record {
+      (λ f. given (c.finds xs p q n) (λ y. given (sign_sound s q right_brace e (omega arith) (o ∙ ap Some z.1)) (λ g. record {
         bytes = (u ++ f.bytes) ++ y.bytes ++ (y.white ++ g.bytes);
         white = [];
         derives = braces_of X i f.derives y.derives y.is_white g.derives z.0;

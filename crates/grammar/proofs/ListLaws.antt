@@ -1,4 +1,5 @@
 -- Parts with white space after them, and the one law of every list joined by commas.
+use Rattle.std.specs.Prelude.{Some}
 use Prim.Native.Nat.{ℕ, zero, suc, ◌+◌, ◌<◌, ◌≤◌}
 use mathlib.Core.Path.{◌≡◌, refl, sym, ap, ◌∙◌}
 use mathlib.Core.Bool.{false}
@@ -13,7 +14,7 @@ use Rattle.megaco.specs.Bytes.{equal, comma, is_white, in_class}
 use Rattle.megaco.specs.White.{goes_on, after, white_at}
 use Rattle.megaco.specs.Tokens.{sign_at}
 use Rattle.megaco.specs.Reading.{Read, got, spaced, list_r, unlimited, key_at, word_r}
-use Rattle.protocol.specs.Types.{Token, WordByte, Next}
+use Rattle.protocol.specs.Types.{Token, WordByte}
 use Rattle.grammar.specs.Characters.{Keyword}
 use Rattle.grammar.specs.Grammar.{LWSP, Around, around, EQUAL, Commas, single, joined, AtMost, at_most, NAME}
 use Rattle.grammar.proofs.Places.{regroup3, Stands, Finds, Gets, finds, gets_here, finds_after, gets_skip, gets_bind, gets_part, part_fits, is_at_head, whether, given, fault_got, got_same, skip_got, bind_got, reading_got, after_next}
@@ -30,12 +31,12 @@ unfolding spaced
 gets_spaced s {x} {w} {rest} r g v k =
     gets_bind s x r _ g (λ p h. gets_skip s (white_at s p) (got x) (white_complete s rest p v k h) (λ q l. gets_here s x q rest l))
 
-pub spaced_got : {A C : Type 0} (s : List ℕ) (x : A) (e : ℕ) (r : Read A) → spaced s r ≡ got x e → ((p : ℕ) → r ≡ got x p → white_at s p ≡ Next e → C)
+pub spaced_got : {A C : Type 0} (s : List ℕ) (x : A) (e : ℕ) (r : Read A) → spaced s r ≡ got x e → ((p : ℕ) → r ≡ got x p → white_at s p ≡ Some e → C)
     → C
 unfolding spaced
 spaced_got s x e r h k =
     bind_got x e r _ h (λ y p i l. skip_got x e (white_at s p) (got y) l (λ q m n. let z = got_same x e n in k p (i ∙ ap (λ u. got u p) z.0)
-    (m ∙ ap Next z.1)))
+    (m ∙ ap Some z.1)))
 
 -- a part of the grammar stands here with white space behind it
 pub record Spaced (X : List ℕ → Type 0) (t rest : List ℕ) : Type 0 where
@@ -67,7 +68,7 @@ around_complete s rest b at (around {a} {b = c} v w) g k h =
     finds_after s (white_at s at) (sign_at b s) (white_complete s (b ∷ c ++ rest) at v g (h ∙ append_assoc a (b ∷ c) rest))
     (λ p l. sign_complete s p b rest w k l)
 
-pub around_sound : (s : List ℕ) (b at e : ℕ) → 0 < b → after (white_at s at) (sign_at b s) ≡ Next e → Stands (Around b) Solid (drop at s) (drop e s)
+pub around_sound : (s : List ℕ) (b at e : ℕ) → 0 < b → after (white_at s at) (sign_at b s) ≡ Some e → Stands (Around b) Solid (drop at s) (drop e s)
 around_sound s b at e z h = after_next _ _ e h (λ p m l.
     given (white_sound s at p m) (λ w. given (sign_sound s p b e z l) (λ g. record {
       bytes = w.bytes ++ g.bytes;
@@ -85,7 +86,7 @@ unfolding key_at has pick goes_on is_white
 key_complete k s rest at x n y l h =
     finds_after s _ _ (keyword_complete k s _ at x n (ends_word (around_ends rest refl y)) h) (λ p m. around_complete s rest equal p y refl l m)
 
-pub key_sound : (k : Token) (s : List ℕ) (at e : ℕ) → key_at k s at ≡ Next e
+pub key_sound : (k : Token) (s : List ℕ) (at e : ℕ) → key_at k s at ≡ Some e
     → (a b : List ℕ) × Keyword k a × EQUAL b × (drop at s ≡ a ++ (b ++ drop e s))
 unfolding key_at
 key_sound k s at e h = after_next _ _ e h (λ p m l.

@@ -1,4 +1,5 @@
 -- The message identifier is read exactly as the grammar derives it.
+use Rattle.std.specs.Prelude.{Some}
 use Prim.Native.Nat.{ℕ, ◌+◌, ◌<◌, ◌≤◌}
 use mathlib.Core.Path.{◌≡◌, refl, sym, ap, ◌∙◌}
 use mathlib.Core.Bool.{Bool, true, false, ◌||◌, false≢true}
@@ -12,7 +13,7 @@ use Rattle.base.specs.Bytes.{text}
 use Rattle.megaco.specs.Bytes.{colon, dot, is_letter, is_digit, is_word, is_name, is_domain, in_class}
 use Rattle.megaco.specs.White.{after}
 use Rattle.megaco.specs.Tokens.{mark_at, row_at, path_name_at, number_at, after_number, port_at, octet_at, address_at, domain_at, m_id_at}
-use Rattle.protocol.specs.Types.{NameByte, DomainByte, Parsed, Next, Number, Got}
+use Rattle.protocol.specs.Types.{NameByte, DomainByte, Parsed, Number, number}
 use Rattle.grammar.specs.Characters.{AlphaDigitOr, or_alpha, or_digit, or_mark, Many, no_more, and_then}
 use Rattle.grammar.specs.Grammar.{V4hex, domain_address, IPv4address, domain_name, domain, Port, no_port, port, m_id, by_address, by_domain, device_name}
 use Rattle.grammar.proofs.Classes.{test_not, name_tests, digit_tests, domain_tests, letter_digit_tests}
@@ -50,14 +51,14 @@ unfolding port_at pick
 port_complete s rest at no_port k h = rw (is_at_head s rest at colon h, k.no_colon) (finds_here s at rest h)
 port_complete s rest at (port {a} n) k h =
     rw (is_at_head s (colon ∷ a ++ rest) at colon h)
-    (finds_number _ Next (number_complete s rest (at + 1) 5 65535 n k.no_digit (behind s (colon ∷ []) (a ++ rest) at h))
+    (finds_number _ Some (number_complete s rest (at + 1) 5 65535 n k.no_digit (behind s (colon ∷ []) (a ++ rest) at h))
     (λ p e. finds_here s p rest e))
 
-port_sound : (s : List ℕ) (at e : ℕ) → port_at s at ≡ Next e → Stands Port Any (drop at s) (drop e s)
+port_sound : (s : List ℕ) (at e : ℕ) → port_at s at ≡ Some e → Stands Port Any (drop at s) (drop e s)
 unfolding port_at pick
 port_sound s at e h = go (is_at s at colon) refl h
   where
-    some : (v p : ℕ) → is_at s at colon ≡ true → number_at s (at + 1) 5 65535 ≡ Got v p → Next p ≡ Next e → Stands Port Any (drop at s) (drop e s)
+    some : (v p : ℕ) → is_at s at colon ≡ true → number_at s (at + 1) 5 65535 ≡ number v p → Some p ≡ Some e → Stands Port Any (drop at s) (drop e s)
     some v p i n l =
         let r = number_sound s (at + 1) 5 65535 v p n in
         let k : drop p s ≡ drop e s = ap (λ x. drop x s) (next_same l) in
@@ -69,9 +70,9 @@ port_sound s at e h = go (is_at s at colon) refl h
           stops = tt;
         }
 
-    go : (t : Bool) → is_at s at colon ≡ t → pick t (after_number (number_at s (at + 1) 5 65535) Next) (Next at) ≡ Next e
+    go : (t : Bool) → is_at s at colon ≡ t → pick t (after_number (number_at s (at + 1) 5 65535) Some) (Some at) ≡ Some e
         → Stands Port Any (drop at s) (drop e s)
-    go true i f = number_next _ Next e f (λ v p. some v p i)
+    go true i f = number_next _ Some e f (λ v p. some v p i)
     go false i f = record { bytes = []; derives = no_port; split = ap (λ x. drop x s) (next_same f); stops = tt }
 
 -- ---- addresses
@@ -81,7 +82,7 @@ octet_complete : (s rest : List ℕ) {a : List ℕ} {i : ℕ} (b at : ℕ) → V
 unfolding octet_at
 octet_complete s rest b at n k h = finds_number _ (mark_at b s) (number_complete s (b ∷ rest) at 3 255 n k h) (λ p e. mark_complete s p b rest e)
 
-octet_sound : (s : List ℕ) (b at e : ℕ) → 0 < b → octet_at b s at ≡ Next e → (a : List ℕ) × (i : ℕ) × V4hex a i × (drop at s ≡ a ++ b ∷ drop e s)
+octet_sound : (s : List ℕ) (b at e : ℕ) → 0 < b → octet_at b s at ≡ Some e → (a : List ℕ) × (i : ℕ) × V4hex a i × (drop at s ≡ a ++ b ∷ drop e s)
 unfolding octet_at
 octet_sound s b at e z h = number_next _ (mark_at b s) e h (λ v p n l.
     let r = number_sound s at 3 255 v p n in
@@ -96,7 +97,7 @@ address_complete s rest at (IPv4address {a} {b} {c} {d} i j k l) h =
     finds_after s _ _ (octet_complete s _ dot p j refl g) (λ q g.
     finds_after s _ _ (octet_complete s _ dot q k refl g) (λ r g. octet_complete s rest 0x5d r l refl g)))
 
-address_sound : (s : List ℕ) (at e : ℕ) → is_at s at 0x5b ≡ true → address_at s at ≡ Next e → Stands domain_address Any (drop at s) (drop e s)
+address_sound : (s : List ℕ) (at e : ℕ) → is_at s at 0x5b ≡ true → address_at s at ≡ Some e → Stands domain_address Any (drop at s) (drop e s)
 unfolding address_at
 address_sound s at e i h =
     after_next _ _ e h (λ p m h. after_next _ _ e h (λ q n h. after_next _ _ e h (λ r o h.
@@ -146,7 +147,7 @@ domain_of : {a : List ℕ} (rest : List ℕ) → Many (AlphaDigitOr (text "-."))
 domain_of rest no_more g k l = absurd (false≢true (sym k ∙ domain_tests.passes (head rest) (domain_many (letter_digit_tests.tells (head rest) g))))
 domain_of rest (and_then {b} x m) g k l = domain (letter_digit_tests.tells b g) m (omega arith)
 
-domain_sound : (s : List ℕ) (at e : ℕ) → is_at s at 0x3c ≡ true → domain_at s at ≡ Next e → Stands domain_name Any (drop at s) (drop e s)
+domain_sound : (s : List ℕ) (at e : ℕ) → is_at s at 0x3c ≡ true → domain_at s at ≡ Some e → Stands domain_name Any (drop at s) (drop e s)
 unfolding domain_at
 domain_sound s at e i h =
     given (pick_next _ _ e h) (λ k. after_next _ _ e k.1 (λ p u m.
@@ -203,12 +204,12 @@ m_id_complete s rest at (device_name {a} x) k h =
     let j : is_at s at 0x3c ≡ false = is_at_head s _ at 0x3c h ∙ test_not (in_class NameByte) _ 0x3c angle_not_name (path_first rest x) in
     rw (i, j) (finds s a rest at _ h (path_complete s rest at x k.no_name h).1)
 
-pub m_id_sound : (s : List ℕ) (at e : ℕ) → m_id_at s at ≡ Next e → Stands m_id Any (drop at s) (drop e s)
+pub m_id_sound : (s : List ℕ) (at e : ℕ) → m_id_at s at ≡ Some e → Stands m_id Any (drop at s) (drop e s)
 unfolding m_id_at pick
 m_id_sound s at e h = go (is_at s at 0x5b) (is_at s at 0x3c) refl refl h
   where
     go : (t u : Bool) → is_at s at 0x5b ≡ t → is_at s at 0x3c ≡ u
-        → pick t (after (address_at s at) (port_at s)) (pick u (after (domain_at s at) (port_at s)) (path_name_at s at)) ≡ Next e
+        → pick t (after (address_at s at) (port_at s)) (pick u (after (domain_at s at) (port_at s)) (path_name_at s at)) ≡ Some e
         → Stands m_id Any (drop at s) (drop e s)
     go true u i j f = after_next _ _ e f (λ p m l. stand_both (λ a b. by_address) (address_sound s at p i m) (port_sound s p e l))
     go false true i j f = after_next _ _ e f (λ p m l. stand_both (λ a b. by_domain) (domain_sound s at p j m) (port_sound s p e l))

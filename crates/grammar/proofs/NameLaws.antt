@@ -1,4 +1,5 @@
 -- Path names, terminations and values are read exactly as the grammar derives them.
+use Rattle.std.specs.Prelude.{Some, None}
 use Prim.Native.Nat.{ℕ, suc, ◌+◌, ◌-◌, ◌<◌, ◌≤◌}
 use mathlib.Core.Path.{◌≡◌, refl, sym, ap, ◌∙◌}
 use mathlib.Core.Logic.{◌⊎◌, inl, inr}
@@ -17,7 +18,7 @@ use Rattle.megaco.specs.White.{after}
 use Rattle.megaco.specs.Tokens.{mark_at, letter_at, row_at, up_to64, path_start, path_name_at, termination_at, quoted_at, plain_at, value_at}
 use Rattle.megaco.specs.Tree.{Value, plain, quoted}
 use Rattle.megaco.specs.Reading.{value_of}
-use Rattle.protocol.specs.Types.{NameByte, SafeByte, QuotedByte, Next, Fault}
+use Rattle.protocol.specs.Types.{NameByte, SafeByte, QuotedByte}
 use Rattle.grammar.specs.Characters.{AlphaDigitOr, or_alpha, or_digit, or_mark, SafeChar, Many, no_more, and_then}
 use Rattle.grammar.specs.Grammar.{NAME, name, VALUE, quoted_string, safe_chars, Star, no_star, with_star, path_name, path, TerminationID, root, named, choose_one, all_of}
 use Rattle.grammar.proofs.Classes.{or_true, test_not, letter_tells, name_tests, safe_tests, quoted_tests}
@@ -55,7 +56,7 @@ start_is s t at with_star k h = rw (is_at_head s (star ∷ t) at star h)
 path_exact : (s rest : List ℕ) {a b : List ℕ} (at : ℕ) → Star a → Many (AlphaDigitOr (text "/*_$")) b → is_letter (head (b ++ rest)) ≡ true
     → length (a ++ b) ≤ 64
     → Stops (in_class NameByte) rest → drop at s ≡ (a ++ b) ++ rest
-    → (letter_at s (path_start s at) ≡ true) × (path_name_at s at ≡ Next (at + length (a ++ b)))
+    → (letter_at s (path_start s at) ≡ true) × (path_name_at s at ≡ Some (at + length (a ++ b)))
 unfolding path_name_at pick
 path_exact s rest {a} {b} at x m g l k h =
     let f : drop at s ≡ a ++ (b ++ rest) = h ∙ append_assoc a b rest in
@@ -94,7 +95,7 @@ path_first rest (path no_star (name {b} h m k) n l) = name_tests.passes b (or_al
 path_first rest (path with_star (name h m k) n l) = name_tests.passes star (or_mark refl)
 
 pub path_complete : (s rest : List ℕ) {t : List ℕ} (at : ℕ) → path_name t → Stops (in_class NameByte) rest → drop at s ≡ t ++ rest
-    → (letter_at s (path_start s at) ≡ true) × (path_name_at s at ≡ Next (at + length t))
+    → (letter_at s (path_start s at) ≡ true) × (path_name_at s at ≡ Some (at + length t))
 path_complete s rest {t} at x k h =
     let p = path_bytes x in
     rw p.is (path_exact s rest at p.starred p.many (p.letter rest) (rw p.is at (path_short x)) k (h ∙ ap (λ l. l ++ rest) p.is))
@@ -116,7 +117,7 @@ start_sound s at = go (is_at s at star) refl
     go true e = (star ∷ [], with_star, is_at_cons s at star (omega arith) e, refl)
     go false e = ([], no_star, refl, sym (add-zero at))
 
-pub path_sound : (s : List ℕ) (at e : ℕ) → path_name_at s at ≡ Next e
+pub path_sound : (s : List ℕ) (at e : ℕ) → path_name_at s at ≡ Some e
     → Stands (λ a. path_name a × (part s at e ≡ a)) (Stops (in_class NameByte)) (drop at s) (drop e s)
 unfolding path_name_at
 path_sound s at e h = go (start_sound s at)
@@ -155,7 +156,7 @@ no_letter rest k = go (is_letter (head rest)) refl
     go false e = refl
 
 pub termination_exact : (s rest : List ℕ) {a : List ℕ} (at : ℕ) → TerminationID a → Stops (in_class NameByte) rest → drop at s ≡ a ++ rest
-    → termination_at s at ≡ Next (at + length a)
+    → termination_at s at ≡ Some (at + length a)
 unfolding termination_at path_start pick is_letter every
 termination_exact s rest {a} at (root e) k h =
     let p = path_complete s rest at (name_path (letters_name a (text "ROOT") refl e)) k h in rw p.0 p.1
@@ -165,7 +166,7 @@ termination_exact s rest at choose_one k h =
 termination_exact s rest at all_of k h =
     rw (is_at_head s (star ∷ rest) at star h, letter_at_lem s rest (at + 1) (behind s (star ∷ []) rest at h), no_letter rest k)
 
-pub termination_sound : (s : List ℕ) (at e : ℕ) → termination_at s at ≡ Next e
+pub termination_sound : (s : List ℕ) (at e : ℕ) → termination_at s at ≡ Some e
     → Stands (λ a. TerminationID a × (part s at e ≡ a)) Any (drop at s) (drop e s)
 unfolding termination_at pick
 termination_sound s at e h = go (letter_at s (path_start s at)) h
@@ -181,11 +182,11 @@ termination_sound s at e h = go (letter_at s (path_start s at)) h
     sign (inl i) l = one star (omega arith) all_of i l
     sign (inr i) l = one dollar (omega arith) choose_one i l
 
-    go : (t : Bool) → pick t (path_name_at s at) (pick (is_at s at star || is_at s at dollar) (Next (at + 1)) Fault) ≡ Next e
+    go : (t : Bool) → pick t (path_name_at s at) (pick (is_at s at star || is_at s at dollar) (Some (at + 1)) None) ≡ Some e
         → Stands (λ a. TerminationID a × (part s at e ≡ a)) Any (drop at s) (drop e s)
     go true f =
         let r = path_sound s at e f in record { bytes = r.bytes; derives = (named r.derives.0, r.derives.1); split = r.split; stops = tt }
-    go false f = let p = pick_next _ (Next (at + 1)) e f in sign (or_true _ _ p.0) (next_same p.1)
+    go false f = let p = pick_next _ (Some (at + 1)) e f in sign (or_true _ _ p.0) (next_same p.1)
 
 -- ---- values
 
@@ -198,7 +199,7 @@ unfolding in_class is_safe is_letter is_digit
 quote_not_safe = refl
 
 pub value_exact : (s rest : List ℕ) {a : List ℕ} {v : Value} (at : ℕ) → VALUE a v → Stops (in_class SafeByte) rest → drop at s ≡ a ++ rest
-    → (value_at s at ≡ Next (at + length a)) × (value_of s at (at + length a) ≡ v)
+    → (value_at s at ≡ Some (at + length a)) × (value_of s at (at + length a) ≡ v)
 unfolding value_at value_of quoted_at plain_at after pick
 value_exact s rest at (quoted_string {a} m l) k h =
     let i : is_at s at quote ≡ true = is_at_head s _ at quote h in
@@ -226,7 +227,7 @@ value_exact s rest at (safe_chars {b} {bs} x m l) k h =
           (q, part_is s (b ∷ bs) rest at h),
     )
 
-pub value_sound : (s : List ℕ) (at e : ℕ) → value_at s at ≡ Next e → Stands (λ a. VALUE a (value_of s at e)) Any (drop at s) (drop e s)
+pub value_sound : (s : List ℕ) (at e : ℕ) → value_at s at ≡ Some e → Stands (λ a. VALUE a (value_of s at e)) Any (drop at s) (drop e s)
 unfolding value_at value_of quoted_at plain_at pick
 value_sound s at e h = go (is_at s at quote) refl h
   where
@@ -234,7 +235,7 @@ value_sound s at e h = go (is_at s at quote) refl h
     safe no_more o l = absurd (omega arith)
     safe (and_then x m) o l = safe_chars x m (omega arith)
 
-    in_quotes : (p : ℕ) → drop at s ≡ quote ∷ drop (at + 1) s → up_to64 (at + 1) (row_at QuotedByte s (at + 1)) ≡ Next p → mark_at quote s p ≡ Next e
+    in_quotes : (p : ℕ) → drop at s ≡ quote ∷ drop (at + 1) s → up_to64 (at + 1) (row_at QuotedByte s (at + 1)) ≡ Some p → mark_at quote s p ≡ Some e
         → Stands (λ a. VALUE a (quoted (part s (at + 1) (e - 1)))) Any (drop at s) (drop e s)
     in_quotes p d u m =
         let q = up_to_64 (at + 1) (row_at QuotedByte s (at + 1)) p u in
@@ -250,7 +251,7 @@ value_sound s at e h = go (is_at s at quote) refl h
           stops = tt;
         }
 
-    bare : (ltb at (row_at SafeByte s at) ≡ true) × (up_to64 at (row_at SafeByte s at) ≡ Next e)
+    bare : (ltb at (row_at SafeByte s at) ≡ true) × (up_to64 at (row_at SafeByte s at) ≡ Some e)
         → Stands (λ a. VALUE a (plain (part s at e))) Any (drop at s) (drop e s)
     bare (o, u) =
         let q = up_to_64 at (row_at SafeByte s at) e u in
@@ -264,7 +265,7 @@ value_sound s at e h = go (is_at s at quote) refl h
           stops = tt;
         }
 
-    go : (t : Bool) → is_at s at quote ≡ t → pick t (quoted_at s at) (plain_at s at) ≡ Next e
+    go : (t : Bool) → is_at s at quote ≡ t → pick t (quoted_at s at) (plain_at s at) ≡ Some e
         → Stands (λ a. VALUE a (pick t (quoted (part s (at + 1) (e - 1))) (plain (part s at e)))) Any (drop at s) (drop e s)
     go true i f = after_next _ _ e f (λ p. in_quotes p (is_at_cons s at quote (omega arith) i))
     go false i f = bare (pick_next _ _ e f)

@@ -1,4 +1,5 @@
 -- What transactions and acknowledgements read as, in the words of the grammar: transactions that it derives, a fault in one of them, or a fault elsewhere.
+use Rattle.std.specs.Prelude.{Some, None}
 use Prim.Native.Nat.{ℕ, zero, suc, ◌<◌, ◌≤◌}
 use mathlib.Core.Path.{◌≡◌, refl, sym, ap, ◌∙◌}
 use mathlib.Core.Bool.{Bool, true, false}
@@ -16,7 +17,7 @@ use Rattle.megaco.specs.Tokens.{mark_at, number_at}
 use Rattle.megaco.specs.Tree.{Action, transaction, Message, well_formed, fault400, fault403, Part, request, acknowledge}
 use Rattle.megaco.specs.Reading.{Read, got, fault, key_at, actions_r, elsewhere, numbered, inside, followed, end_or, braces_then, transactions_r, word_here, acks_r, acknowledged, request_then, acks_then}
 use Rattle.megaco.specs.Keywords.{spells}
-use Rattle.protocol.specs.Types.{TransToken, Parsed, Next, Fault, Number, Got, Bad, ResponseAckToken, Ack}
+use Rattle.protocol.specs.Types.{TransToken, Parsed, Number, number, ResponseAckToken, Ack}
 use Rattle.grammar.specs.Characters.{Keyword, Without, ended, begun}
 use Rattle.grammar.specs.Grammar.{LWSP, around, EQUAL, TransactionID, identifier, transaction_request, with_actions, transaction_list, transaction_response_ack, transaction_part, a_request, an_ack, last_part, next_part}
 use Rattle.grammar.specs.Faults.{Whole, none_whole, one_more, Closed, closed, BadTransaction, unclosed, zero_identifier}
@@ -32,15 +33,15 @@ use Rattle.grammar.proofs.AckLaws.{acks_got}
 -- ---- by cases on what a reader gave
 
 module _ (P : Message → Type 0) where
-  pub by_elsewhere : (r : Parsed) (f : ℕ → Message) → P fault400 → ((p : ℕ) → r ≡ Next p → P (f p)) → P (elsewhere r f)
+  pub by_elsewhere : (r : Parsed) (f : ℕ → Message) → P fault400 → ((p : ℕ) → r ≡ Some p → P (f p)) → P (elsewhere r f)
   unfolding elsewhere
-  by_elsewhere (Next p) f x k = k p refl
-  by_elsewhere Fault f x k = x
+  by_elsewhere (Some p) f x k = k p refl
+  by_elsewhere None f x k = x
 
-  pub by_numbered : (r : Number) (f : ℕ → ℕ → Message) → P fault400 → ((v p : ℕ) → r ≡ Got v p → P (f v p)) → P (numbered r f)
+  pub by_numbered : (r : Number) (f : ℕ → ℕ → Message) → P fault400 → ((v p : ℕ) → r ≡ number v p → P (f v p)) → P (numbered r f)
   unfolding numbered
-  by_numbered (Got v p) f x k = k v p refl
-  by_numbered Bad f x k = x
+  by_numbered (Some (v, p)) f x k = k v p refl
+  by_numbered None f x k = x
 
   by_inside : (id : ℕ) (r : Read (List Action)) (f : List Action → ℕ → Message) → (r ≡ fault → P (fault403 id))
       → ((xs : List Action) (p : ℕ) → r ≡ got xs p → P (f xs p)) → P (inside id r f)

@@ -1,4 +1,5 @@
 -- Places in a message: what stands from a place on, what a reader leaves, and how one reader follows another.
+use Rattle.std.specs.Prelude.{Some, None}
 use Prim.Native.Nat.{ℕ, zero, suc, ◌+◌, ◌-◌, ◌<◌, ◌≤◌}
 use mathlib.Core.Path.{◌≡◌, refl, sym, ap, ◌∙◌}
 use mathlib.Core.Bool.{Bool, true, false}
@@ -13,7 +14,7 @@ use Rattle.base.specs.Lists.{is_at, part}
 use Rattle.megaco.specs.White.{after}
 use Rattle.megaco.specs.Tokens.{after_number}
 use Rattle.megaco.specs.Reading.{Read, got, fault, bind, skip, reading, read_number}
-use Rattle.protocol.specs.Types.{Parsed, Next, Fault, Number, Got, Bad}
+use Rattle.protocol.specs.Types.{Parsed, Number, number}
 
 -- ---- parts one after another
 
@@ -102,7 +103,7 @@ pub record Stands (X F : List ℕ → Type 0) (t rest : List ℕ) : Type 0 where
 -- a part that leaves nothing in the tree
 pub record Finds (s : List ℕ) (r : Parsed) (rest : List ℕ) : Type 0 where
   pub end : ℕ
-  pub is : r ≡ Next end
+  pub is : r ≡ Some end
   pub leaves : drop end s ≡ rest
 
 pub record Gets {A : Type 0} (s : List ℕ) (r : Read A) (x : A) (rest : List ℕ) : Type 0 where
@@ -112,18 +113,18 @@ pub record Gets {A : Type 0} (s : List ℕ) (r : Read A) (x : A) (rest : List �
 
 pub record Counts (s : List ℕ) (r : Number) (v : ℕ) (rest : List ℕ) : Type 0 where
   pub end : ℕ
-  pub is : r ≡ Got v end
+  pub is : r ≡ number v end
   pub leaves : drop end s ≡ rest
 
 module _ (s : List ℕ) where
   -- a part that ends as long behind its place as it is
-  pub finds : (a rest : List ℕ) (at : ℕ) (r : Parsed) → drop at s ≡ a ++ rest → r ≡ Next (at + length a) → Finds s r rest
+  pub finds : (a rest : List ℕ) (at : ℕ) (r : Parsed) → drop at s ≡ a ++ rest → r ≡ Some (at + length a) → Finds s r rest
   finds a rest at r h e = record { end = at + length a; is = e; leaves = behind s a rest at h }
 
   pub gets_here : {A : Type 0} (x : A) (at : ℕ) (rest : List ℕ) → drop at s ≡ rest → Gets s (got x at) x rest
   gets_here x at rest h = record { end = at; is = refl; leaves = h }
 
-  pub finds_here : (at : ℕ) (rest : List ℕ) → drop at s ≡ rest → Finds s (Next at) rest
+  pub finds_here : (at : ℕ) (rest : List ℕ) → drop at s ≡ rest → Finds s (Some at) rest
   finds_here at rest h = record { end = at; is = refl; leaves = h }
 
   -- one reader and then another
@@ -147,7 +148,7 @@ module _ (s : List ℕ) where
   gets_number v r f g = record { end = g.end; is = rw g.is; leaves = g.leaves }
 
   -- a part whose tree is its bytes
-  pub gets_part : {A : Type 0} (a rest : List ℕ) (at : ℕ) (r : Parsed) (f : List ℕ → A) → drop at s ≡ a ++ rest → r ≡ Next (at + length a)
+  pub gets_part : {A : Type 0} (a rest : List ℕ) (at : ℕ) (r : Parsed) (f : List ℕ → A) → drop at s ≡ a ++ rest → r ≡ Some (at + length a)
       → Gets s (reading r (λ e. f (part s at e))) (f a) rest
   unfolding reading
   gets_part a rest at r f h e = record { end = at + length a; is = rw (e, part_is s a rest at h); leaves = behind s a rest at h }
@@ -161,27 +162,27 @@ whether false f g = g refl
 pub given : {A C : Type 0} → A → (A → C) → C
 given a f = f a
 
-pub fault_next : {e : ℕ} → Fault ≡ Next e → ⊥
+pub fault_next : {e : ℕ} → None ≡ Some e → ⊥
 fault_next h = let z : ◌≡◌ {A = ℕ} 0 1 = cc in omega arith
 
-pub next_same : {p e : ℕ} → Next p ≡ Next e → p ≡ e
+pub next_same : {p e : ℕ} → Some p ≡ Some e → p ≡ e
 next_same h = cc
 
 -- a test that holds, of a reader that did not fault
-pub pick_next : (t : Bool) (r : Parsed) (e : ℕ) → pick t r Fault ≡ Next e → (t ≡ true) × (r ≡ Next e)
+pub pick_next : (t : Bool) (r : Parsed) (e : ℕ) → pick t r None ≡ Some e → (t ≡ true) × (r ≡ Some e)
 unfolding pick
 pick_next true r e h = (refl, h)
 pick_next false r e h = absurd (fault_next h)
 
-pub after_next : {C : Type 0} (r : Parsed) (f : ℕ → Parsed) (e : ℕ) → after r f ≡ Next e → ((p : ℕ) → r ≡ Next p → f p ≡ Next e → C) → C
+pub after_next : {C : Type 0} (r : Parsed) (f : ℕ → Parsed) (e : ℕ) → after r f ≡ Some e → ((p : ℕ) → r ≡ Some p → f p ≡ Some e → C) → C
 unfolding after
-after_next (Next p) f e h k = k p refl h
-after_next Fault f e h k = absurd (fault_next h)
+after_next (Some p) f e h k = k p refl h
+after_next None f e h k = absurd (fault_next h)
 
-pub number_next : {C : Type 0} (r : Number) (f : ℕ → Parsed) (e : ℕ) → after_number r f ≡ Next e → ((v p : ℕ) → r ≡ Got v p → f p ≡ Next e → C) → C
+pub number_next : {C : Type 0} (r : Number) (f : ℕ → Parsed) (e : ℕ) → after_number r f ≡ Some e → ((v p : ℕ) → r ≡ number v p → f p ≡ Some e → C) → C
 unfolding after_number
-number_next (Got v p) f e h k = k v p refl h
-number_next Bad f e h k = absurd (fault_next h)
+number_next (Some (v, p)) f e h k = k v p refl h
+number_next None f e h k = absurd (fault_next h)
 
 module _ {B : Type 0} (x : B) (e : ℕ) where
   pub fault_got : fault ≡ got x e → ⊥
@@ -190,22 +191,22 @@ module _ {B : Type 0} (x : B) (e : ℕ) where
   pub got_same : {a : B} {p : ℕ} → got a p ≡ got x e → (a ≡ x) × (p ≡ e)
   got_same h = ((cc), (cc))
 
-  pub skip_got : {C : Type 0} (r : Parsed) (f : ℕ → Read B) → skip r f ≡ got x e → ((p : ℕ) → r ≡ Next p → f p ≡ got x e → C) → C
+  pub skip_got : {C : Type 0} (r : Parsed) (f : ℕ → Read B) → skip r f ≡ got x e → ((p : ℕ) → r ≡ Some p → f p ≡ got x e → C) → C
   unfolding skip
-  skip_got (Next p) f h k = k p refl h
-  skip_got Fault f h k = absurd (fault_got h)
+  skip_got (Some p) f h k = k p refl h
+  skip_got None f h k = absurd (fault_got h)
 
   pub bind_got : {A C : Type 0} (r : Read A) (f : A → ℕ → Read B) → bind r f ≡ got x e → ((y : A) (p : ℕ) → r ≡ got y p → f y p ≡ got x e → C) → C
   unfolding bind
   bind_got (got y p) f h k = k y p refl h
   bind_got fault f h k = absurd (fault_got h)
 
-  pub number_got : {C : Type 0} (r : Number) (f : ℕ → B) → read_number r f ≡ got x e → ((v : ℕ) → r ≡ Got v e → f v ≡ x → C) → C
+  pub number_got : {C : Type 0} (r : Number) (f : ℕ → B) → read_number r f ≡ got x e → ((v : ℕ) → r ≡ number v e → f v ≡ x → C) → C
   unfolding read_number
-  number_got (Got v p) f h k = k v (cc) (cc)
-  number_got Bad f h k = absurd (fault_got h)
+  number_got (Some (v, p)) f h k = k v (cc) (cc)
+  number_got None f h k = absurd (fault_got h)
 
-  pub reading_got : (r : Parsed) (f : ℕ → B) → reading r f ≡ got x e → (r ≡ Next e) × (f e ≡ x)
+  pub reading_got : (r : Parsed) (f : ℕ → B) → reading r f ≡ got x e → (r ≡ Some e) × (f e ≡ x)
   unfolding reading
-  reading_got (Next p) f h = ((cc), (cc))
-  reading_got Fault f h = absurd (fault_got h)
+  reading_got (Some p) f h = ((cc), (cc))
+  reading_got None f h = absurd (fault_got h)

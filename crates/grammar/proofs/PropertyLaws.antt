@@ -1,4 +1,5 @@
 -- A context's properties are read exactly as the grammar derives them.
+use Rattle.std.specs.Prelude.{Some}
 use Prim.Native.Nat.{ℕ}
 use mathlib.Core.Path.{◌≡◌, refl, ap, ◌∙◌}
 use mathlib.Core.Bool.{true, false, ◌||◌}
@@ -11,7 +12,7 @@ use Rattle.megaco.specs.Keywords.{forms_of, spelt, spells}
 use Rattle.megaco.specs.Tokens.{letter_at, row_at, word_at, number_at}
 use Rattle.megaco.specs.Tree.{Triple, Property, priority, emergency}
 use Rattle.megaco.specs.Reading.{got, key_at, is_property, word_here, topology_r, property_r}
-use Rattle.protocol.specs.Types.{PriorityToken, EmergencyToken, TopologyToken, WordByte, Next}
+use Rattle.protocol.specs.Types.{PriorityToken, EmergencyToken, TopologyToken, WordByte}
 use Rattle.grammar.specs.Characters.{Keyword}
 use Rattle.grammar.specs.Grammar.{LWSP, UINT, uint, NAME, topology_descriptor, triples, context_property, with_topology, with_priority, with_emergency}
 use Rattle.grammar.proofs.Classes.{or_left, or_right, word_tests, digit_tests}
@@ -30,7 +31,7 @@ pub word_here_lem : (s rest : List ℕ) {a : List ℕ} (at : ℕ) → NAME a →
 unfolding word_here
 word_here_lem s rest {a} at n k h = rw (row_is WordByte word_tests s rest at (name_many n) k h) (part_is s a rest at h)
 
-pub word_read : (s : List ℕ) (at e : ℕ) → word_at s at ≡ Next e → word_here s at ≡ part s at e
+pub word_read : (s : List ℕ) (at e : ℕ) → word_at s at ≡ Some e → word_here s at ≡ part s at e
 unfolding word_at word_here
 word_read s at e h = ap (part s at) (up_to_64 at (row_at WordByte s at) e (pick_next (letter_at s at) _ e h).1).0
 

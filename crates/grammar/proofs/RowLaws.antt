@@ -1,4 +1,6 @@
 -- Signs, rows of a class and numbers: each is read as far as it goes.
+use Rattle.megaco.proofs.NumberParts.{same_value, same_next}
+use Rattle.std.specs.Prelude.{Some, None}
 use Prim.Native.Nat.{ℕ, suc, ◌+◌, ◌*◌, ◌-◌, ◌<◌, ◌≤◌}
 use mathlib.Core.Path.{◌≡◌, refl, sym, ap, ◌∙◌}
 use mathlib.Core.Bool.{Bool, true, false}
@@ -13,7 +15,7 @@ use Rattle.base.specs.Lists.{is_at}
 use Rattle.megaco.specs.Bytes.{is_digit, in_class}
 use Rattle.megaco.specs.White.{white_at}
 use Rattle.megaco.specs.Tokens.{mark_at, sign_at, row_from, row_at, up_to64, number_end, number_from, number_at}
-use Rattle.protocol.specs.Types.{Class, Next, Fault, Number, Got, Bad}
+use Rattle.protocol.specs.Types.{Class, Number, number}
 use Rattle.grammar.specs.Characters.{DIGIT, Many, no_more, and_then}
 use Rattle.grammar.specs.Grammar.{LWSP, value_from, UINT, uint}
 use Rattle.grammar.proofs.Classes.{Tests, digit_tests}
@@ -27,7 +29,7 @@ pub data After (b : ℕ) : List ℕ → Type 0 where
   after_sign : {a : List ℕ} → LWSP a → After b (b ∷ a)
 
 module _ (s : List ℕ) (at b : ℕ) where
-  pub mark_exact : (rest : List ℕ) → drop at s ≡ b ∷ rest → mark_at b s at ≡ Next (at + 1)
+  pub mark_exact : (rest : List ℕ) → drop at s ≡ b ∷ rest → mark_at b s at ≡ Some (at + 1)
   unfolding mark_at pick
   mark_exact rest h = rw (is_at_head s (b ∷ rest) at b h, eq-eqb b b refl)
 
@@ -38,15 +40,15 @@ module _ (s : List ℕ) (at b : ℕ) where
   unfolding sign_at
   sign_complete rest {a} w k h = finds_after s _ (white_at s) (mark_complete (a ++ rest) h) (λ p e. white_complete s rest p w k e)
 
-  pub mark_sound : (e : ℕ) → 0 < b → mark_at b s at ≡ Next e → drop at s ≡ b ∷ drop e s
+  pub mark_sound : (e : ℕ) → 0 < b → mark_at b s at ≡ Some e → drop at s ≡ b ∷ drop e s
   unfolding mark_at
   mark_sound e z h = let p = pick_next (is_at s at b) _ e h in rw (← next_same p.1) (is_at_cons s at b z p.0)
 
-  pub mark_next : (e : ℕ) → mark_at b s at ≡ Next e → e ≡ at + 1
+  pub mark_next : (e : ℕ) → mark_at b s at ≡ Some e → e ≡ at + 1
   unfolding mark_at
   mark_next e h = sym (next_same (pick_next (is_at s at b) _ e h).1)
 
-  pub sign_sound : (e : ℕ) → 0 < b → sign_at b s at ≡ Next e → Stands (After b) Solid (drop at s) (drop e s)
+  pub sign_sound : (e : ℕ) → 0 < b → sign_at b s at ≡ Some e → Stands (After b) Solid (drop at s) (drop e s)
   unfolding sign_at
   sign_sound e z h = after_next _ _ e h (λ p m l.
       let w = white_sound s p e l in
@@ -89,15 +91,15 @@ module _ (k : Class) {X : ℕ → Type 0} (c : Tests X (in_class k)) where
   row_is s rest at m h e = rw e (row_run rest at m h)
 
 -- a part of a class of at most 64 bytes
-pub up_to_64 : (a e p : ℕ) → up_to64 a e ≡ Next p → (e ≡ p) × (e - a ≤ 64)
+pub up_to_64 : (a e p : ℕ) → up_to64 a e ≡ Some p → (e ≡ p) × (e - a ≤ 64)
 unfolding up_to64 pick
 up_to_64 a e p h = go (ltb 64 (e - a)) refl h
   where
-    go : (x : Bool) → ltb 64 (e - a) ≡ x → pick x Fault (Next e) ≡ Next p → (e ≡ p) × (e - a ≤ 64)
+    go : (x : Bool) → ltb 64 (e - a) ≡ x → pick x None (Some e) ≡ Some p → (e ≡ p) × (e - a ≤ 64)
     go true k f = absurd (fault_next f)
     go false k f = (next_same f, ltb-false _ _ k)
 
-pub within_64 : (at n : ℕ) → n ≤ 64 → up_to64 at (at + n) ≡ Next (at + n)
+pub within_64 : (at n : ℕ) → n ≤ 64 → up_to64 at (at + n) ≡ Some (at + n)
 unfolding up_to64 pick
 within_64 at n h = let k : at + n - at ≤ 64 = omega arith in rw (le-ltb _ _ k)
 
@@ -108,25 +110,25 @@ unfolding value_from
 value_grows v [] = omega arith
 value_grows v (b ∷ bs) = omega (arith, value_grows (v * 10 + (b - 48)) bs)
 
-bad_got : {x e : ℕ} → Bad ≡ Got x e → ⊥
+bad_got : {x e : ℕ} → None ≡ number x e → ⊥
 bad_got h = let z : ◌≡◌ {A = ℕ} 0 1 = cc in omega arith
 
-pub not_bad : (t : Bool) (r : Number) {x e : ℕ} → pick t Bad r ≡ Got x e → (t ≡ false) × (r ≡ Got x e)
+pub not_bad : (t : Bool) (r : Number) {x e : ℕ} → pick t None r ≡ number x e → (t ≡ false) × (r ≡ number x e)
 unfolding pick
 not_bad true r h = absurd (bad_got h)
 not_bad false r h = (refl, h)
 
-pub number_end_lem : (at n v x e : ℕ) → number_end at n v ≡ Got x e → (x ≡ v) × (e ≡ n) × (at < n)
+pub number_end_lem : (at n v x e : ℕ) → number_end at n v ≡ number x e → (x ≡ v) × (e ≡ n) × (at < n)
 unfolding number_end pick
 number_end_lem at n v x e h = go (ltb at n) refl h
   where
-    go : (t : Bool) → ltb at n ≡ t → pick t (Got v n) Bad ≡ Got x e → (x ≡ v) × (e ≡ n) × (at < n)
-    go true k f = ((cc), (cc), ltb-true at n k)
+    go : (t : Bool) → ltb at n ≡ t → pick t (number v n) None ≡ number x e → (x ≡ v) × (e ≡ n) × (at < n)
+    go true k f = (sym (same_value f), sym (same_next f), ltb-true at n k)
     go false k f = absurd (bad_got f)
 
 module _ (at most limit : ℕ) where
   number_run : {a : List ℕ} (rest : List ℕ) (n v : ℕ) → Many DIGIT a → Stops is_digit rest → at ≤ n → n - at + length a ≤ most → value_from v a ≤ limit
-      → at < n + length a → number_from at most limit (a ++ rest) n v ≡ Got (value_from v a) (n + length a)
+      → at < n + length a → number_from at most limit (a ++ rest) n v ≡ number (value_from v a) (n + length a)
   unfolding number_from number_end value_from pick
   number_run [] n v no_more h o m l g = rw (lt-ltb at n (rw (add-zero n) at g), add-zero n)
   number_run (b ∷ rest) n v no_more h o m l g = rw (h, lt-ltb at n (rw (add-zero n) at g), add-zero n)
@@ -138,7 +140,7 @@ module _ (at most limit : ℕ) where
       rw (digit_tests.passes b x, i, j, ← e) (number_run rest (n + 1) w xs h (omega arith) (omega arith) l (omega arith))
 
   number_back : {a : List ℕ} (rest : List ℕ) (n v x e : ℕ) → Many DIGIT a → Stops is_digit rest → at ≤ n → n - at ≤ most → v ≤ limit
-      → number_from at most limit (a ++ rest) n v ≡ Got x e
+      → number_from at most limit (a ++ rest) n v ≡ number x e
       → (x ≡ value_from v a) × (e ≡ n + length a) × (n - at + length a ≤ most) × (value_from v a ≤ limit) × (at < n + length a)
   unfolding number_from number_end value_from pick
   number_back [] n v x e no_more h o m l g = let p = number_end_lem at n v x e g in (p.0, omega arith, omega arith, l, omega arith)
@@ -161,7 +163,7 @@ number_complete s rest at most limit (uint {b} {bs} d ds m l) k h = record {
   leaves = behind s (b ∷ bs) rest at h;
 }
 
-pub number_sound : (s : List ℕ) (at most limit v e : ℕ) → number_at s at most limit ≡ Got v e
+pub number_sound : (s : List ℕ) (at most limit v e : ℕ) → number_at s at most limit ≡ number v e
     → Stands (λ a. UINT most limit a v) (Stops is_digit) (drop at s) (drop e s)
 unfolding number_at
 number_sound s at most limit v e h = go (row DIGIT is_digit digit_tests (drop at s))

@@ -1,4 +1,5 @@
 -- Local and Remote in a Media of level 1, and the items of level 1, are read exactly as the grammar derives them.
+use Rattle.std.specs.Prelude.{Some, None}
 use Prim.Native.Nat.{ℕ, zero, suc, ◌+◌, ◌<◌}
 use mathlib.Core.Path.{◌≡◌, refl, sym, ap, ◌∙◌}
 use mathlib.Core.Bool.{Bool, true, false, not, ◌&&◌, ◌||◌, and-false, or-true}
@@ -20,7 +21,7 @@ use Rattle.megaco.specs.Items.{given?}
 use Rattle.megaco.specs.Tokens.{sign_at, row_at, word_at, octets_from, octets_at, letter_at}
 use Rattle.megaco.specs.Tree.{Value, octets, ItemOf, item, Item}
 use Rattle.megaco.specs.Reading.{Read, got, reading, spaced, list_r, unlimited, word_r, second_r, value_r, braces_r, may_be_empty, or_none_r, item_r, items_r, word_here, media_here, brace_from, speech_here, speech_r, media_item_r, media_r, top_item_r, top_r}
-use Rattle.protocol.specs.Types.{Token, MediaToken, LocalToken, RemoteToken, WordByte, Parsed, Next, Fault}
+use Rattle.protocol.specs.Types.{Token, MediaToken, LocalToken, RemoteToken, WordByte, Parsed}
 use Rattle.grammar.specs.Characters.{Keyword, Without, ended, begun}
 use Rattle.grammar.specs.Grammar.{LWSP, no_lwsp, Around, around, Commas, single, joined, NAME, ItemID, no_item_id, item_id, parm_value, no_value, with_value, Braces, no_braces, with_braces, amm_parameter, parameter, audit, amm_parameters, octet_string, no_octet, octet, text_descriptor, with_text, HoldsText, as_local, as_remote, media_parm, local_descriptor, remote_descriptor, other_parm, CalledMedia, as_media, top_parameter, media_descriptor, other_parameter}
 use Rattle.grammar.proofs.Classes.{and_parts, test_not, word_tests, white_has}
@@ -34,7 +35,7 @@ use Rattle.grammar.proofs.ItemLaws.{name_solid, Filled, item_first, items_filled
 
 -- ---- the text
 
-octets_run : {escaped : Bool} {c : List ℕ} (rest : List ℕ) (n : ℕ) → octet_string escaped c → octets_from (c ++ right_brace ∷ rest) n escaped ≡ Next (n + length c)
+octets_run : {escaped : Bool} {c : List ℕ} (rest : List ℕ) (n : ℕ) → octet_string escaped c → octets_from (c ++ right_brace ∷ rest) n escaped ≡ Some (n + length c)
 unfolding octets_from pick
 octets_run rest n no_octet = rw (add-zero n)
 octets_run rest n (octet {escaped} {b} {bs} z e o) =
@@ -56,7 +57,7 @@ record Text (escaped : Bool) (t : List ℕ) (n e : ℕ) : Type 0 where
 positive : (b : ℕ) → (b ≡ 0 → ⊥) → 0 < b
 positive b h = omega arith
 
-octets_back : (t : List ℕ) (n e : ℕ) (escaped : Bool) → octets_from t n escaped ≡ Next e → Text escaped t n e
+octets_back : (t : List ℕ) (n e : ℕ) (escaped : Bool) → octets_from t n escaped ≡ Some e → Text escaped t n e
 unfolding octets_from pick
 octets_back [] n e escaped h = absurd (fault_next h)
 octets_back (b ∷ t) n e escaped h = zero_or (octets_back t (n + 1) e (eqb b 0x5c)) (eqb b 0) refl h
@@ -65,16 +66,16 @@ octets_back (b ∷ t) n e escaped h = zero_or (octets_back t (n + 1) e (eqb b 0x
     more z k r =
         record { bytes = b ∷ r.bytes; rest = r.rest; is = octet (positive b (eqb-false b 0 z)) k r.is; split = ap (λ l. b ∷ l) r.split; end = omega (arith, r.end) }
 
-    brace_or : (octets_from t (n + 1) (eqb b 0x5c) ≡ Next e → Text (eqb b 0x5c) t (n + 1) e) → eqb b 0 ≡ false → (x y : Bool) → eqb b right_brace ≡ x → escaped ≡ y
-        → pick (x && not y) (Next n) (octets_from t (n + 1) (eqb b 0x5c)) ≡ Next e → Text escaped (b ∷ t) n e
+    brace_or : (octets_from t (n + 1) (eqb b 0x5c) ≡ Some e → Text (eqb b 0x5c) t (n + 1) e) → eqb b 0 ≡ false → (x y : Bool) → eqb b right_brace ≡ x → escaped ≡ y
+        → pick (x && not y) (Some n) (octets_from t (n + 1) (eqb b 0x5c)) ≡ Some e → Text escaped (b ∷ t) n e
     brace_or back z true false k l g =
         let q : b ≡ right_brace = eqb-true b right_brace k in
         rw l (record { bytes = []; rest = t; is = no_octet; split = ap (λ x. x ∷ t) q; end = omega (arith, next_same g) })
     brace_or back z true true k l g = more z (λ i. l) (back g)
     brace_or back z false y k l g = more z (λ i. absurd (eqb-false b right_brace k i)) (back g)
 
-    zero_or : (octets_from t (n + 1) (eqb b 0x5c) ≡ Next e → Text (eqb b 0x5c) t (n + 1) e) → (x : Bool) → eqb b 0 ≡ x
-        → pick x Fault (pick (eqb b right_brace && not escaped) (Next n) (octets_from t (n + 1) (eqb b 0x5c))) ≡ Next e → Text escaped (b ∷ t) n e
+    zero_or : (octets_from t (n + 1) (eqb b 0x5c) ≡ Some e → Text (eqb b 0x5c) t (n + 1) e) → (x : Bool) → eqb b 0 ≡ x
+        → pick x None (pick (eqb b right_brace && not escaped) (Some n) (octets_from t (n + 1) (eqb b 0x5c))) ≡ Some e → Text escaped (b ∷ t) n e
     zero_or back true k g = absurd (fault_next g)
     zero_or back false k g = brace_or back k (eqb b right_brace) escaped refl refl g
 
@@ -136,7 +137,7 @@ module _ (s : List ℕ) where
   unfolding braces_r pick
   braces_some inner x p q h xs k = whether (is_at s p left_brace) (λ t. t) (λ t. given (got_same x q (rw t at h)) (λ z. absurd (none_some (z.0 ∙ k))))
 
-  brace_of : (p q r : ℕ) (w : Parsed) → w ≡ Next q → r ≡ q → is_at s r left_brace ≡ true → brace_from s w ≡ true
+  brace_of : (p q r : ℕ) (w : Parsed) → w ≡ Some q → r ≡ q → is_at s r left_brace ≡ true → brace_from s w ≡ true
   unfolding brace_from
   brace_of p q r w e k b = rw (e, ← k) b
 
@@ -360,7 +361,7 @@ module _ (s : List ℕ) where
       by (as_remote {w} {is} k) e b = clash (sym (speech_remote s at (rw e (keyword_spells RemoteToken w k)) (b refl refl is refl)) ∙ h)
 
   -- the text that was read
-  octets_sound : (p e : ℕ) → octets_at s p ≡ Next e → Text false (drop p s) p e
+  octets_sound : (p e : ℕ) → octets_at s p ≡ Some e → Text false (drop p s) p e
   unfolding octets_at
   octets_sound p e h = octets_back (drop p s) p e false h
 
@@ -381,7 +382,7 @@ module _ (s : List ℕ) where
       given (word_got s a at u i) (λ t₁. given (row_got s a at u i) (λ w.
       given (white_sound s u p j) (λ t₂. given (sign_sound s p left_brace q (omega arith) n) (λ t₃.
       given (reading_got t r _ (part s q) o) (λ v. given (octets_sound q r v.0) (λ t₄.
-      given (sign_sound s r right_brace e (omega arith) (y ∙ ap Next z.1)) (λ t₅.
+      given (sign_sound s r right_brace e (omega arith) (y ∙ ap Some z.1)) (λ t₅.
       given (sym (part_to s t₄.bytes _ q r t₄.end t₄.split) ∙ v.1) (λ c.
       given (behind_at s t₄.bytes _ q r t₄.end t₄.split) (λ d.
       record {

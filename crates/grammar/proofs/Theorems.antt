@@ -1,7 +1,7 @@
 -- Reading finds exactly what the grammar derives, with its one tree: a message is well-formed, with its tree, exactly when the grammar admits it with version 1; no text
 -- has two trees; and each fault is told exactly where the grammar calls for it.
 use Prim.Native.Nat.{ℕ}
-use mathlib.Core.Path.{◌≡◌, refl, sym, ◌∙◌, subst}
+use mathlib.Core.Path.{◌≡◌, refl, sym, ap, ◌∙◌, subst}
 use mathlib.Core.Logic.{◌↔◌}
 use mathlib.Core.Bool.{false}
 use mathlib.Core.List.{List, ◌++◌, append_assoc}
@@ -15,6 +15,8 @@ use Rattle.megaco.specs.White.{goes_on}
 use Rattle.megaco.specs.Tokens.{number_at}
 use Rattle.megaco.specs.Tree.{Part, Message, well_formed, fault400, fault403, fault406}
 use Rattle.megaco.specs.Reading.{elsewhere, numbered, start_at, sender_at, transactions_r, message_r, sender_of}
+use Rattle.protocol.specs.Types.{number}
+use Rattle.megaco.proofs.NumberParts.{same_value, same_next}
 use Rattle.grammar.specs.Grammar.{at_most, Header, megaco_message, message}
 use Rattle.grammar.specs.Faults.{Fault406, other_version, Fault403, bad_transaction}
 use Rattle.grammar.proofs.Classes.{white_has}
@@ -85,7 +87,11 @@ well_formed_lem s xs = (read_derives s xs, complete s (sender_of s) xs)
 -- ---- one meaning: no text has two trees, nor two versions, nor two senders
 
 headed_once : {s m n a b : List ℕ} {v u : ℕ} (x : Headed s v m a) (y : Headed s u n b) → (v ≡ u) × (x.end ≡ y.end)
-headed_once x y = ((cc), (cc))
+headed_once {s} {v = v} {u = u} x y =
+    let b : x.begun ≡ y.begun = cc in
+    let n : number v x.numbered ≡ number u y.numbered = sym x.version ∙ ap (λ p. number_at s p 2 99) b ∙ y.version in
+    let q : x.numbered ≡ y.numbered = same_next n in
+    (same_value n, (cc))
 
 pub one_meaning : (s : List ℕ) (v u : ℕ) (m n : List ℕ) (xs ys : List Part) → megaco_message s v m xs → megaco_message s u n ys → (v ≡ u) × (m ≡ n) × (xs ≡ ys)
 one_meaning s v u w t xs ys m n = given (message_reads m) (λ x. given (message_reads n) (λ y. given (headed_once x.1 y.1) (λ z.

@@ -1,4 +1,5 @@
 -- A context's topology is read exactly as the grammar derives it.
+use Rattle.std.specs.Prelude.{Some}
 use Prim.Native.Nat.{ℕ}
 use mathlib.Core.Path.{◌≡◌, refl, sym, ap, ◌∙◌}
 use mathlib.Core.Bool.{Bool, true, false, not, ◌&&◌}
@@ -15,7 +16,7 @@ use Rattle.megaco.specs.Keywords.{Forms, forms, forms_of, spelt, spells}
 use Rattle.megaco.specs.Tokens.{sign_at, word_at, termination_at}
 use Rattle.megaco.specs.Tree.{Triple, triple, Property, topology}
 use Rattle.megaco.specs.Reading.{got, list_r, unlimited, word_r, direction_r, party_r, triple_r, topology_r}
-use Rattle.protocol.specs.Types.{Token, TopologyToken, IsolateToken, OnewayToken, BothwayToken, Direction, Isolate, Oneway, Bothway, Next}
+use Rattle.protocol.specs.Types.{Token, TopologyToken, IsolateToken, OnewayToken, BothwayToken, Direction, Isolate, Oneway, Bothway}
 use Rattle.grammar.specs.Characters.{Spelling, long, short, Keyword}
 use Rattle.grammar.specs.Grammar.{LWSP, no_lwsp, around, Commas, TerminationID, topology_direction, bothway, isolate, oneway, topology_triple, between, topology_descriptor, triples, context_property, with_topology}
 use Rattle.grammar.proofs.Classes.{and_parts}
@@ -130,7 +131,7 @@ module _ (s : List ℕ) where
         given (termination_spaced s b q r k) (λ y₃.
         given (sign_sound s r comma u (omega arith) o) (λ y₄.
         spaced_got s d f _ g (λ c w i. given (direction_got d u c w) (λ y₅.
-        given (white_sound s c e (i ∙ ap Next z.1)) (λ y₆. record {
+        given (white_sound s c e (i ∙ ap Some z.1)) (λ y₆. record {
           bytes = a ++ (y₁.0 ++ y₂.bytes) ++ b ++ (y₃.0 ++ y₄.bytes) ++ y₅.0;
           white = y₆.bytes;
           derives = rw (← z.0) (triple_of y₁.1 y₁.2 y₂.derives y₃.1 y₃.2 y₄.derives y₅.1);
@@ -164,7 +165,7 @@ module _ (s : List ℕ) where
       → After right_brace p → context_property (a ++ (u ++ o) ++ c ++ (v ++ p)) (topology ts)
   topology_of k i (after_sign j) y m (after_sign n) = with_topology (triples k (around i j) y (around m n))
 
-  pub topology_finds : (x : Property) (at e : ℕ) → ((p : ℕ) → word_at s at ≡ Next p → spells TopologyToken (part s at p) ≡ true)
+  pub topology_finds : (x : Property) (at e : ℕ) → ((p : ℕ) → word_at s at ≡ Some p → spells TopologyToken (part s at p) ≡ true)
       → topology_r s at ≡ got x e → Spaced (λ a. context_property a x) (drop at s) (drop e s)
   unfolding topology_r
   topology_finds x at e k h =
@@ -175,7 +176,7 @@ module _ (s : List ℕ) where
       given (white_sound s n p d) (λ y₂.
       given (sign_sound s p left_brace q (omega arith) g) (λ y₃.
       given ((list_sound_all topology_triple s (triple_r s) triple_sound).finds ts q r b) (λ y₄.
-      given (sign_sound s r right_brace e (omega arith) (j ∙ ap Next z.1)) (λ y₅. record {
+      given (sign_sound s r right_brace e (omega arith) (j ∙ ap Some z.1)) (λ y₅. record {
         bytes = y₁.bytes ++ (y₂.bytes ++ y₃.bytes) ++ y₄.bytes ++ (y₄.white ++ y₅.bytes);
         white = [];
         derives =

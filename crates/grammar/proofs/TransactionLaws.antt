@@ -1,4 +1,5 @@
 -- Transactions and acknowledgements are read exactly as the grammar derives them.
+use Rattle.std.specs.Prelude.{Some}
 use Prim.Native.Nat.{ℕ, zero, suc, ◌-◌, ◌<◌, ◌≤◌}
 use mathlib.Core.Path.{◌≡◌, refl, sym, ap, ◌∙◌}
 use mathlib.Core.Bool.{true, false}
@@ -16,7 +17,7 @@ use Rattle.megaco.specs.Tokens.{mark_at}
 use Rattle.megaco.specs.Tree.{Action, Transaction, transaction, Part, request, acknowledge, Message, well_formed}
 use Rattle.megaco.specs.Reading.{got, list_r, action_r, word_here, actions_r, elsewhere, numbered, inside, acknowledged, followed, end_or, braces_then, request_then, acks_then, transactions_r}
 use Rattle.megaco.specs.Keywords.{forms_of, spelt, spells}
-use Rattle.protocol.specs.Types.{TransToken, ResponseAckToken, Next, Ack}
+use Rattle.protocol.specs.Types.{TransToken, ResponseAckToken, Ack}
 use Rattle.grammar.specs.Characters.{Keyword}
 use Rattle.grammar.specs.Grammar.{LWSP, around, EQUAL, Commas, AtMost, NAME, name, action_request, TransactionID, identifier, transaction_request, with_actions, transaction_response_ack, with_acks, transaction_part, a_request, an_ack, transaction_list, last_part, next_part}
 use Rattle.grammar.specs.Faults.{Closed, closed}
@@ -56,7 +57,7 @@ module _ (s : List ℕ) where
       (λ r o l. given (got_same xs e l) (λ z.
       given (white_sound s at p m) (λ y₁.
       given ((list_sound action_request s (action_r s) (action_sound s) 16).finds ys p q n) (λ y₂.
-      given (mark_sound s q right_brace e (omega arith) (o ∙ ap Next z.1)) (λ y₃. record {
+      given (mark_sound s q right_brace e (omega arith) (o ∙ ap Some z.1)) (λ y₃. record {
         bytes = y₁.bytes ++ y₂.bytes ++ (y₂.white ++ right_brace ∷ []);
         derives = rw (← z.0) (closed y₁.derives y₂.derives y₂.is_white);
         split = y₁.split ∙ rw (y₂.split, y₃) (sym (closed_split y₁.bytes y₂.bytes y₂.white (drop e s)));

@@ -1,4 +1,5 @@
 -- White space is read exactly as the grammar derives it, and read whole.
+use Rattle.std.specs.Prelude.{Some}
 use Prim.Native.Nat.{ℕ, suc, ◌+◌, ◌<◌}
 use mathlib.Core.Path.{◌≡◌, refl, sym, ap, ◌∙◌}
 use mathlib.Core.Logic.{◌⊎◌, inl, inr}
@@ -12,7 +13,6 @@ use native.Mathlib.Nat.{add-zero, add_assoc}
 use Rattle.base.specs.Pick.{pick}
 use Rattle.megaco.specs.Bytes.{semicolon, is_white, is_line_end, is_comment}
 use Rattle.megaco.specs.White.{after, goes_on, inside_after, stop_at, white_from, white_at, sep_at}
-use Rattle.protocol.specs.Types.{Next}
 use Rattle.grammar.specs.Characters.{SP, HTAB, CommentChar, Many, no_more, and_then}
 use Rattle.grammar.specs.Grammar.{EOL, CR, CRLF, LF, comment, Blank, blank_wsp, blank_comment, blank_eol, LWSP, no_lwsp, more_lwsp, SEP, sep}
 use Rattle.grammar.proofs.Classes.{or_true, or_only, and_parts, comment_tests}
@@ -77,12 +77,12 @@ white_run t n (more_lwsp {a} {b} x w) =
     let k : n + length a + length b ≡ n + length (a ++ b) = rw (length-append a b) (omega arith) in
     rw (append_assoc a b t, ← k) (blank_run (b ++ t) n x ∙ white_run t (n + length a) w)
 
-white_stop : (t : List ℕ) (n : ℕ) → Solid t → white_from t n false ≡ Next n
+white_stop : (t : List ℕ) (n : ℕ) → Solid t → white_from t n false ≡ Some n
 unfolding white_from stop_at pick
 white_stop [] n h = refl
 white_stop (b ∷ t) n h = rw h
 
-white_exact : (s rest : List ℕ) {a : List ℕ} (at : ℕ) → LWSP a → Solid rest → drop at s ≡ a ++ rest → white_at s at ≡ Next (at + length a)
+white_exact : (s rest : List ℕ) {a : List ℕ} (at : ℕ) → LWSP a → Solid rest → drop at s ≡ a ++ rest → white_at s at ≡ Some (at + length a)
 unfolding white_at
 white_exact s rest {a} at w h e = rw e (white_run rest at w ∙ white_stop rest (at + length a) h)
 
@@ -167,14 +167,14 @@ run_more false b a g r = go (eqb b semicolon) refl r
     go true e i = rw (eqb-true b semicolon e) (comment_white i)
     go false e w = more_lwsp (blank_byte b (or_only (is_white b) (eqb b semicolon) g e)) w
 
-white_from_lem : (inside : Bool) (t : List ℕ) (n e : ℕ) → white_from t n inside ≡ Next e → White inside t n e
+white_from_lem : (inside : Bool) (t : List ℕ) (n e : ℕ) → white_from t n inside ≡ Some e → White inside t n e
 unfolding white_from stop_at pick
 white_from_lem true [] n e h = absurd (fault_next h)
 white_from_lem false [] n e h =
     record { bytes = []; rest = []; runs = no_lwsp; split = refl; long = rw (add-zero n) (sym (next_same h)); solid = solid_end }
 white_from_lem inside (b ∷ t) n e h = go (goes_on inside b) refl (λ k. white_from_lem (inside_after inside b) t (n + 1) e (rw k at h))
   where
-    here : (m : Bool) → stop_at m n ≡ Next e → goes_on m b ≡ false → White m (b ∷ t) n e
+    here : (m : Bool) → stop_at m n ≡ Some e → goes_on m b ≡ false → White m (b ∷ t) n e
     here true f k = absurd (fault_next f)
     here false f k = record { bytes = []; rest = b ∷ t; runs = no_lwsp; split = refl; long = rw (add-zero n) (sym (next_same f)); solid = k }
 
@@ -197,7 +197,7 @@ passed s at e X w x =
     let k : drop e s ≡ w.rest = behind_at s w.bytes w.rest at e w.long w.split in
     record { bytes = w.bytes; derives = x; split = rw k w.split; stops = rw k w.solid }
 
-pub white_sound : (s : List ℕ) (at e : ℕ) → white_at s at ≡ Next e → Stands LWSP Solid (drop at s) (drop e s)
+pub white_sound : (s : List ℕ) (at e : ℕ) → white_at s at ≡ Some e → Stands LWSP Solid (drop at s) (drop e s)
 unfolding white_at
 white_sound s at e h = let w = white_from_lem false (drop at s) at e h in passed s at e LWSP w w.runs
 
@@ -205,9 +205,9 @@ long_sep : {a : List ℕ} → LWSP a → 0 < length a → SEP a
 long_sep no_lwsp h = absurd (omega arith)
 long_sep (more_lwsp x w) h = sep x w
 
-pub sep_sound : (s : List ℕ) (at e : ℕ) → sep_at s at ≡ Next e → Stands SEP Solid (drop at s) (drop e s)
+pub sep_sound : (s : List ℕ) (at e : ℕ) → sep_at s at ≡ Some e → Stands SEP Solid (drop at s) (drop e s)
 unfolding sep_at white_at
 sep_sound s at e h = after_next _ _ e h (λ p f l.
-    let k = pick_next (ltb at p) (Next p) e l in
+    let k = pick_next (ltb at p) (Some p) e l in
     let w = white_from_lem false (drop at s) at e (f ∙ k.1) in
     passed s at e SEP w (long_sep w.runs (omega (arith, w.long, ltb-true at p k.0, next_same k.1))))

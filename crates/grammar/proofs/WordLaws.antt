@@ -1,4 +1,5 @@
 -- Words and keywords are read exactly as the grammar derives them.
+use Rattle.std.specs.Prelude.{Some}
 use Prim.Native.Nat.{ℕ, suc, ◌+◌, ◌-◌, ◌<◌, ◌≤◌}
 use mathlib.Core.Path.{◌≡◌, refl, sym, ap, ◌∙◌}
 use mathlib.Core.Logic.{◌⊎◌, inl, inr}
@@ -15,7 +16,7 @@ use Rattle.megaco.specs.Bytes.{is_letter, in_class, capital, capitals}
 use Rattle.megaco.specs.White.{after}
 use Rattle.megaco.specs.Keywords.{Forms, forms, forms_of, spelt, spells}
 use Rattle.megaco.specs.Tokens.{letter_at, row_at, word_at, keyword_at}
-use Rattle.protocol.specs.Types.{Token, AuditToken, TransToken, CtxToken, PriorityToken, EmergencyToken, TopologyToken, IsolateToken, OnewayToken, BothwayToken, LocalToken, RemoteToken, Class, WordByte, Next, ResponseAckToken}
+use Rattle.protocol.specs.Types.{Token, AuditToken, TransToken, CtxToken, PriorityToken, EmergencyToken, TopologyToken, IsolateToken, OnewayToken, BothwayToken, LocalToken, RemoteToken, Class, WordByte, ResponseAckToken}
 use Rattle.base.proofs.TestLaws.{same_is, pick_both}
 use Rattle.grammar.specs.Characters.{Spelling, long, short, Keyword, ALPHA, lower, AlphaDigitOr, or_alpha, Many, no_more, and_then}
 use Rattle.grammar.specs.Grammar.{NAME, name}
@@ -57,7 +58,7 @@ pub name_short : {a : List ℕ} → NAME a → length a ≤ 64
 name_short (name h m l) = omega arith
 
 pub word_exact : (s rest : List ℕ) {a : List ℕ} (at : ℕ) → NAME a → Stops (in_class WordByte) rest → drop at s ≡ a ++ rest
-    → word_at s at ≡ Next (at + length a)
+    → word_at s at ≡ Some (at + length a)
 unfolding word_at pick
 word_exact s rest {a} at n k h =
     rw (letter_at_lem s (a ++ rest) at h, name_letter rest n, row_is WordByte word_tests s rest at (name_many n) k h)
@@ -69,7 +70,7 @@ many_name : {a : List ℕ} (rest : List ℕ) → Many (AlphaDigitOr (text "_")) 
 many_name rest no_more h k l = absurd (false≢true (sym k ∙ word_tests.passes (head rest) (or_alpha (letter_tells (head rest) h))))
 many_name rest (and_then {b} x m) h k l = name (letter_tells b h) m (omega arith)
 
-pub word_sound : (s : List ℕ) (at e : ℕ) → word_at s at ≡ Next e
+pub word_sound : (s : List ℕ) (at e : ℕ) → word_at s at ≡ Some e
     → Stands (λ a. NAME a × (part s at e ≡ a)) (Stops (in_class WordByte)) (drop at s) (drop e s)
 unfolding word_at
 word_sound s at e h =
@@ -122,11 +123,11 @@ unfolding keyword_at after pick
 keyword_complete k s rest {a} at x n w h =
     finds s a rest at _ h (rw (word_exact s rest at n w h, part_is s a rest at h, keyword_spells k a x))
 
-pub keyword_sound : (k : Token) (s : List ℕ) (at e : ℕ) → keyword_at k s at ≡ Next e
+pub keyword_sound : (k : Token) (s : List ℕ) (at e : ℕ) → keyword_at k s at ≡ Some e
     → Stands (Keyword k) (Stops (in_class WordByte)) (drop at s) (drop e s)
 unfolding keyword_at
 keyword_sound k s at e h = after_next _ _ e h (λ p w l.
-    let q = pick_next (spells k (part s at p)) (Next p) e l in
+    let q = pick_next (spells k (part s at p)) (Some p) e l in
     let r = word_sound s at e (w ∙ q.1) in
     let z : part s at p ≡ r.bytes = ap (part s at) (next_same q.1) ∙ r.derives.1 in
     record { bytes = r.bytes; derives = spells_keyword k r.bytes (rw z at q.0); split = r.split; stops = r.stops })

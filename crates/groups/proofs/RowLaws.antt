@@ -1,4 +1,6 @@
 -- One number at a place of some bytes: what was put there is taken, and what is taken was put.
+use Rattle.std.specs.Prelude.{Some}
+use Rattle.protocol.specs.Types.{number as got}
 use Prim.Native.Nat.{ℕ, zero, suc, ◌+◌, ◌-◌, ◌/◌, ◌%◌, ◌<◌, ◌≤◌}
 use mathlib.Core.Path.{◌≡◌, refl, sym, ap, ◌∙◌}
 use mathlib.Core.List.{List, [], ◌∷◌, ◌++◌, append_assoc}
@@ -10,7 +12,6 @@ use lib.Dec.{ltb}
 use Rattle.base.specs.Pick.{pick}
 use Rattle.groups.specs.Groups.{groups_f, number, take_f, take_at}
 use Rattle.groups.specs.Rows.{encode, Bytes}
-use Rattle.protocol.specs.Types.{Got}
 use Rattle.groups.proofs.GroupLaws.{taken, Stands, stands}
 use Rattle.groups.proofs.TakeLaws.{bytes_drop}
 
@@ -44,12 +45,12 @@ encode_one x r = append_assoc (number x) [] r
 
 -- ---- what was put is taken
 
-taken_number : (x : ℕ) (r : List ℕ) (at : ℕ) → x < 4294967296 → take_f 4 (number x ++ r) at ≡ Got x (at + length (number x))
+taken_number : (x : ℕ) (r : List ℕ) (at : ℕ) → x < 4294967296 → take_f 4 (number x ++ r) at ≡ got x (at + length (number x))
 unfolding number
 taken_number x r at h = taken 4 x r at (omega arith)
 
 pub record Head (s : List ℕ) (p x q : ℕ) (l : List ℕ) : Type 0 where
-  pub is : take_at s p ≡ Got x q
+  pub is : take_at s p ≡ got x q
   pub more : drop q s ≡ l
   pub within : q ≤ length s
 
@@ -69,7 +70,7 @@ pub record Takes (s : List ℕ) (p v q : ℕ) : Type 0 where
   pub small : v < 4294967296
   pub is : drop p s ≡ number v ++ drop q s
 
-pub takes : (s : List ℕ) (p v q : ℕ) → Bytes s → take_at s p ≡ Got v q → Takes s p v q
+pub takes : (s : List ℕ) (p v q : ℕ) → Bytes s → take_at s p ≡ got v q → Takes s p v q
 unfolding take_at number
 takes s p v q b e =
     let a : Stands 4 (drop p s) p v q = stands 4 (drop p s) p v q (bytes_drop s p b) e in

@@ -6,8 +6,6 @@ ghost use Rattle.std.specs.Prelude.{◌≡◌, ◌≤◌, ◌<◌, drop, [], ◌
 ghost use Rattle.base.specs.Out.{Appended};
 ghost use Rattle.groups.specs.Groups.{groups_f, number, most, take_f, take_at};
 
-use megaco::Number;
-
 // The groups of a number, with at most `left` after the first.
 fn put_groups(out: &mut [u8], at: usize, n: u32, left: u32) -> usize
     requires { n < most left }
@@ -42,44 +40,34 @@ fn wide(b: u8) -> u32
 }
 
 // The number at a place, with at most `left` groups after the first.
-fn take_groups(s: &[u8], at: usize, left: u32) -> Number
+#[tactic(auto, using(crate::proofs::TakeLaws::take_past, crate::proofs::TakeLaws::last_is, crate::proofs::TakeLaws::last_no, crate::proofs::TakeLaws::one_is, crate::proofs::TakeLaws::more_nothing, crate::proofs::TakeLaws::more_padded, crate::proofs::TakeLaws::more_is))]
+fn take_groups(s: &[u8], at: usize, left: u32) -> Option<(u32, usize)>
     requires { left ≤ 4 }
     ensures { result ≡ take_f left (drop at s.now) at }
 {
     if s.len() <= at {
-        return Number::Bad;
+        return None;
     }
     let b = wide(s[at]);
     if left == 0 {
         if b < 16 {
-            return Number::Got {
-                value: b,
-                next: at + 1,
-            };
+            return Some((b, at + 1));
         }
-        return Number::Bad;
+        return None;
     }
     if b < 128 {
-        return Number::Got {
-            value: b,
-            next: at + 1,
-        };
+        return Some((b, at + 1));
     }
-    let rest = take_groups(s, at + 1, left - 1);
-    let Number::Got { value: v, next: q } = rest else {
-        return Number::Bad;
-    };
+    let (v, q) = take_groups(s, at + 1, left - 1)?;
     if v == 0 {
-        return Number::Bad;
+        return None;
     }
-    Number::Got {
-        value: b - 128 + 128 * v,
-        next: q,
-    }
+    Some((b - 128 + 128 * v, q))
 }
 
 // The number at a place, on any bytes.
-pub fn take_number(s: &[u8], at: usize) -> Number
+#[tactic(auto, unfolding(crate::specs::Groups::take_at))]
+pub fn take_number(s: &[u8], at: usize) -> Option<(u32, usize)>
     ensures { result ≡ take_at s.now at }
 {
     take_groups(s, at, 4)

@@ -1,23 +1,24 @@
 -- What the calls and the arms of a function tell of its result, in the form in which `search` uses it.
+use Rattle.std.specs.Prelude.{Some, None, Ok, Err}
 use Prim.Native.Nat.{ℕ}
-use mathlib.Core.Path.{◌≡◌, sym, ap, ◌∙◌}
-use mathlib.Core.Bool.{Bool, true, false}
+use mathlib.Core.Path.{◌≡◌, refl, sym, ap, ◌∙◌}
+use mathlib.Core.Bool.{Bool, false}
 use mathlib.Core.List.{List}
 use mathlib.Core.Option.{some}
 use native.Mathlib.Omega.{arith}
-use Rattle.base.specs.Pick.{pick}
 use Rattle.megaco.specs.Bytes.{right_brace}
-use Rattle.megaco.specs.Tree.{plain, ItemOf}
-use Rattle.megaco.specs.Items.{mode_given, state_given, property_token, value_given, set_value, property_items, items_in, set_speech, speech_given, top_items, audit_items, audit_given, unchanged, media_given, no_items, judge_items}
-use Rattle.protocol.specs.Types.{Token, Given, Keep, To, Judged, Wrong, Right, Checked, Passes, Fails, Op, Add, Modify, Subtract, Move, AuditValue, Kind, InControl, InState, Side, OfLocal, OfRemote, Speech, Released, Session, SdpText, EmptyText, Described, NotInSubset, Values}
+use Rattle.megaco.specs.Tree.{plain}
+use Rattle.megaco.specs.Items.{mode_given, state_given, value_given, items_in, set_speech, speech_given, top_items, audit_items, audit_given, unchanged, media_given, no_items}
+use Rattle.protocol.specs.Types.{Parsed, Given, Judged, Checked, Kind, InControl, InState, Side, Released, Session, SdpText, EmptyText, Described, NotInSubset, Values}
 use Rattle.read_command.specs.Production.{past_sign}
 use Rattle.read_command.specs.Places.{top_at}
-use Rattle.command_places.specs.declared.ItemPlaces.{ItemPlaces}
 use Rattle.command_places.specs.declared.CommandPlaces.{CommandPlaces}
-use Rattle.command_places.specs.Found.{items_from, command_end_from}
-use Rattle.judge_items.specs.declared.JudgedItems.{JudgedItems}
+use Rattle.command_places.specs.Found.{held_in, closed_end, items_from, command_end_from}
+use Rattle.judge_items.specs.declared.Reached.{Reached}
+use Rattle.std.specs.declared.result.Result.{Result}
+use Rattle.std.specs.Option.{ok_or}
 use Rattle.judge_items.proofs.ListLaws.{audit_given_lem}
-use Rattle.judge_items.specs.Judging.{called_by, value_by, item_checked, judged_by, kind_of, side_of, Known, closed_by}
+use Rattle.judge_items.specs.Judging.{ended, item_checked, judged_by, inside_judged, closed_by}
 
 -- ---- values
 
@@ -30,152 +31,106 @@ module _ (k : Kind) (w : List ℕ) (r : Given) where
   unfolding value_given
   plain_state h e = rw h e
 
-module _ (k : Kind) (g : Given) (vs : Values) where
-  pub set_none : g ≡ Keep → Wrong 449 ≡ set_value k g vs
-  unfolding set_value
-  set_none e = rw e
-
-  pub set_mode : (x : ℕ) → g ≡ To x → k ≡ InControl → Right (record { mode = g; state = vs.state; audited = vs.audited; local = vs.local; remote = vs.remote }) ≡ set_value k g vs
-  unfolding set_value
-  set_mode x e h = rw (e, h)
-
-  pub set_state : (x : ℕ) → g ≡ To x → k ≡ InState → Right (record { mode = vs.mode; state = g; audited = vs.audited; local = vs.local; remote = vs.remote }) ≡ set_value k g vs
-  unfolding set_value
-  set_state x e h = rw (e, h)
-
 -- ---- Local and Remote
 
-module _ (d : Side) (x : Speech) (vs : Values) where
-  pub set_local : d ≡ OfLocal → record { mode = vs.mode; state = vs.state; audited = vs.audited; local = x; remote = vs.remote } ≡ set_speech d x vs
-  unfolding set_speech
-  set_local e = rw e
-
-  pub set_remote : d ≡ OfRemote → record { mode = vs.mode; state = vs.state; audited = vs.audited; local = vs.local; remote = x } ≡ set_speech d x vs
-  unfolding set_speech
-  set_remote e = rw e
-
 module _ (d : Side) (x : SdpText) (vs us : Values) where
-  pub speech_none : x ≡ EmptyText → us ≡ set_speech d Released vs → Right us ≡ speech_given d x vs
+  pub speech_none : x ≡ EmptyText → us ≡ set_speech d Released vs → Ok us ≡ speech_given d x vs
   unfolding speech_given
   speech_none e h = rw (e, h)
 
-  pub speech_some : (a p k : ℕ) → x ≡ Described a p k → us ≡ set_speech d (Session a p k) vs → Right us ≡ speech_given d x vs
+  pub speech_some : (a p k : ℕ) → x ≡ Described a p k → us ≡ set_speech d (Session a p k) vs → Ok us ≡ speech_given d x vs
   unfolding speech_given
   speech_some a p k e h = rw (e, h)
 
-pub speech_wrong : (d : Side) (x : SdpText) (vs : Values) → x ≡ NotInSubset → Wrong 449 ≡ speech_given d x vs
+pub speech_wrong : (d : Side) (x : SdpText) (vs : Values) → x ≡ NotInSubset → Err 449 ≡ speech_given d x vs
 unfolding speech_given
 speech_wrong d x vs e = rw e
 
--- what the side and the text are told by
-pub speech_by_lem : (d : Side) (x y : SdpText) (vs : Values) (l : Bool) (r : Judged) → d ≡ side_of l → x ≡ y → r ≡ speech_given d x vs → r ≡ speech_given (side_of l) y vs
-speech_by_lem d x y vs l r e f h = rw (← e, ← f) h
+-- ---- what stands in an item's braces
 
--- ---- what calls tell
+pub closed_ended : (s : List ℕ) (x r : Result Reached ℕ) (j : Judged) (e : ℕ) → x ≡ ended j e → r ≡ closed_by s x → r ≡ ended j (past_sign right_brace s e)
+unfolding closed_by ended
+closed_ended s x r j e h g = g ∙ rw h (by j)
+  where
+    by : (k : Judged) → closed_by s (ended k e) ≡ ended k (past_sign right_brace s e)
+    by (Ok vs) = refl
+    by (Err c) = refl
 
-module _ (c : Checked) (code : ℕ) (b r g : Bool) (e : c ≡ item_checked code b r g) (y : Judged) where
-  pub judged_right : (j : Judged) → c ≡ Passes → j ≡ y → j ≡ judged_by (item_checked code b r g) y
-  unfolding judged_by
-  judged_right j z h = rw (← e, z) h
+pub checked_by : (k : Checked) (code : ℕ) (x b t seen y n : Bool) → k ≡ item_checked code x t y → x ≡ b → t ≡ seen → y ≡ n → k ≡ item_checked code b seen n
+checked_by k code x b t seen y n e f g h = rw (← f, ← g, ← h) e
 
-  pub judged_wrong : (k : ℕ) → c ≡ Fails k → Wrong k ≡ judged_by (item_checked code b r g) y
-  unfolding judged_by
-  judged_wrong k z = rw (← e, z)
+-- where an item has braces, and where it has none
+pub or_none : (o : Parsed) (code c : ℕ) (x : Result ℕ ℕ) → x ≡ ok_or o code → x ≡ Err c → (o ≡ None) × (c ≡ code)
+or_none None code c x e w = (refl, let z : c ≡ code = cc in z)
+or_none (Some i) code c x e w = absurd (let z : ◌≡◌ {A = ℕ} 0 1 = cc in omega arith)
 
-pub code_both : (c : Checked) (code : ℕ) (b x r y g : Bool) → x ≡ b → y ≡ r → c ≡ item_checked code x y g → c ≡ item_checked code b r g
-code_both c code b x r y g e f h = rw (← e, ← f) h
+pub or_some : (o : Parsed) (code i : ℕ) (x : Result ℕ ℕ) → x ≡ ok_or o code → x ≡ Ok i → o ≡ Some i
+or_some None code i x e w = absurd (let z : ◌≡◌ {A = ℕ} 0 1 = cc in omega arith)
+or_some (Some j) code i x e w = let z : j ≡ i = cc in rw z
 
-pub code_by : (c : Checked) (code : ℕ) (b x r g : Bool) → x ≡ b → c ≡ item_checked code x r g → c ≡ item_checked code b r g
-code_by c code b x r g e h = rw (← e) h
+module _ (k : Checked) (code : ℕ) (b seen n : Bool) (e : k ≡ item_checked code b seen n) (s : List ℕ) (o : Parsed) (f : ℕ → Judged) (end : ℕ → ℕ) (d : ℕ) where
+  pub item_wrong : (c : ℕ) → k ≡ Err c → Err c ≡ ended (judged_by (item_checked code b seen n) (inside_judged o f)) (closed_end end s o d)
+  unfolding judged_by ended
+  item_wrong c z = rw (← e, z)
 
-module _ (s : List ℕ) (p : ItemPlaces) (k : Kind) where
-  pub called_token : (t : Token) (x : Bool) → t ≡ property_token k → x ≡ called_by t s p → x ≡ called_by (property_token k) s p
-  called_token t x e h = rw (← e) h
+  pub item_bare : k ≡ Ok tt → o ≡ None → (c : ℕ) → c ≡ 442 → Err c ≡ ended (judged_by (item_checked code b seen n) (inside_judged o f)) (closed_end end s o d)
+  unfolding judged_by inside_judged ended
+  item_bare z w c m = rw (m, ← e, z, w)
 
-  pub set_by_lem : (g : Given) (vs : Values) (r : Judged) → g ≡ value_by k s p → r ≡ set_value k g vs → r ≡ set_value k (value_by k s p) vs
-  set_by_lem g vs r e h = rw (← e) h
-
-pub inside_kind : {A : Type 0} (c : Bool) (k : Kind) (is : List (ItemOf A)) (seen : Bool) (vs : Values) (r : Judged) → k ≡ kind_of c → r ≡ property_items k is seen vs → r ≡ property_items (kind_of c) is seen vs
-inside_kind c k is seen vs r e h = rw (← e) h
-
--- ---- ends
-
-module _ (e : ℕ) (r : JudgedItems) where
-  pub known_by : r.end ≡ e → Known e r
-  known_by h = record { at = λ vs w. h }
-
-  pub known_wrong : (code : ℕ) → r.judged ≡ Wrong code → Known e r
-  known_wrong code h = record { at = λ vs w. (let z : ◌≡◌ {A = ℕ} 0 1 = cc in absurd (omega arith)) }
-
-pub closed_is : (s : List ℕ) (x : JudgedItems) (e : ℕ) → e ≡ past_sign right_brace s x.end → record { judged = x.judged; end = e } ≡ closed_by s x
-unfolding closed_by
-closed_is s x e h = rw h
-
-module _ (s : List ℕ) (x y : JudgedItems) (h : y ≡ closed_by s x) where
-  pub closed_judged : (j : Judged) → x.judged ≡ j → y.judged ≡ j
-  unfolding closed_by
-  closed_judged j e = rw h e
-
-  pub closed_known : (e : ℕ) → Known e x → Known (past_sign right_brace s e) y
-  unfolding closed_by
-  closed_known e k = record { at = λ vs w. ap (λ (z : JudgedItems). z.end) h ∙ ap (past_sign right_brace s) (k.at vs (sym (ap (λ (z : JudgedItems). z.judged) h) ∙ w)) }
+  pub item_right : k ≡ Ok tt → (i : ℕ) → o ≡ Some i → (x r : Result Reached ℕ) → x ≡ ended (f i) (end i) → r ≡ closed_by s x → r ≡ ended (judged_by (item_checked code b seen n) (inside_judged o f)) (closed_end end s o d)
+  unfolding judged_by inside_judged closed_end
+  item_right z i w x r h g = closed_ended s x r (f i) (end i) h g ∙ sym (rw (← e, z, w))
 
 -- ---- a command's items
 
 module _ (s : List ℕ) (p : CommandPlaces) where
-  pub media_all : (vs : Values) (r : Judged) → p.braces ≡ true → vs ≡ unchanged → r ≡ top_items (top_at s p.inside).tree false vs → r ≡ media_given (items_from s p)
-  unfolding media_given items_from pick
-  media_all vs r b u e = rw b (e ∙ rw u)
+  module _ (j : Judged) (f : ℕ → Judged) (x r : Result Reached ℕ) (i : ℕ) (o : p.inside ≡ Some i) where
+    pub all_inside : x ≡ ended (f i) (top_at s i).end → r ≡ closed_by s x → f i ≡ j → r ≡ ended j (command_end_from s p)
+    unfolding command_end_from closed_end
+    all_inside h g k = closed_ended s x r (f i) (top_at s i).end h g ∙ rw (o, k)
 
-  pub media_none : (vs : Values) → p.braces ≡ false → vs ≡ unchanged → Right vs ≡ media_given (items_from s p)
-  unfolding media_given items_from pick
-  media_none vs b e = rw (b, e)
+  pub command_bare : (vs : Values) (j : Judged) → p.inside ≡ None → Ok vs ≡ j → Ok (record { values = vs; end = p.end }) ≡ ended j (command_end_from s p)
+  unfolding command_end_from closed_end ended
+  command_bare vs j o k = rw (← k, o)
 
-  pub none_wrong : p.braces ≡ true → Wrong 447 ≡ no_items (items_from s p)
-  unfolding no_items items_from pick
-  none_wrong b = rw b
+  pub media_some : (i : ℕ) → p.inside ≡ Some i → top_items (top_at s i).tree false unchanged ≡ media_given (items_from s p)
+  unfolding media_given items_from held_in
+  media_some i o = rw o
 
-  pub none_right : (vs : Values) → p.braces ≡ false → vs ≡ unchanged → Right vs ≡ no_items (items_from s p)
-  unfolding no_items items_from pick
-  none_right vs b e = rw (b, e)
+  pub media_none : p.inside ≡ None → Ok unchanged ≡ media_given (items_from s p)
+  unfolding media_given items_from held_in
+  media_none o = rw o
 
-  pub audit_none : p.braces ≡ false → Wrong 442 ≡ audit_given (items_in (items_from s p))
-  unfolding audit_given items_in items_from pick
-  audit_none b = rw b
+  pub none_wrong : (i : ℕ) → p.inside ≡ Some i → Err 447 ≡ ended (no_items (items_from s p)) (command_end_from s p)
+  unfolding no_items items_from held_in ended
+  none_wrong i o = rw o
 
-  pub audit_all : (vs : Values) (r : Judged) → p.braces ≡ true → vs ≡ unchanged → r ≡ audit_items (top_at s p.inside).tree false vs → r ≡ audit_given (items_in (items_from s p))
-  unfolding items_in items_from pick
-  audit_all vs r b u e = rw b (e ∙ ap (λ (us : Values). audit_items (top_at s p.inside).tree false us) u ∙ sym (audit_given_lem s p.inside))
+  pub none_right : p.inside ≡ None → Ok unchanged ≡ no_items (items_from s p)
+  unfolding no_items items_from held_in
+  none_right o = rw o
 
-  module _ (op : Op) (r : Judged) where
-    pub of_add : op ≡ Add → r ≡ media_given (items_from s p) → r ≡ judge_items op (items_from s p)
-    unfolding judge_items
-    of_add e h = rw e h
+  pub audit_some : (i : ℕ) → p.inside ≡ Some i → audit_items (top_at s i).tree false unchanged ≡ audit_given (items_in (items_from s p))
+  unfolding items_in items_from held_in
+  audit_some i o = sym (rw o (audit_given_lem s i))
 
-    pub of_modify : op ≡ Modify → r ≡ media_given (items_from s p) → r ≡ judge_items op (items_from s p)
-    unfolding judge_items
-    of_modify e h = rw e h
+  pub audit_none : p.inside ≡ None → Err 442 ≡ ended (audit_given (items_in (items_from s p))) (command_end_from s p)
+  unfolding audit_given items_in items_from held_in ended
+  audit_none o = rw o
 
-    pub of_subtract : op ≡ Subtract → r ≡ no_items (items_from s p) → r ≡ judge_items op (items_from s p)
-    unfolding judge_items
-    of_subtract e h = rw e h
+-- a command's items are judged, and where it ends
+module _ (j : Judged) (e : ℕ) (x : Result Reached ℕ) (h : x ≡ ended j e) where
+  pub judged_right : (r : Reached) → x ≡ Ok r → (Ok r.values ≡ j) × (r.end ≡ e)
+  unfolding ended
+  judged_right r w = by j (sym h ∙ w)
+    where
+      by : (k : Judged) → ended k e ≡ Ok r → (Ok r.values ≡ k) × (r.end ≡ e)
+      by (Ok us) z = let w : record { values = us; end = e } ≡ r = cc in (ap (λ (y : Reached). Ok y.values) (sym w), ap (λ (y : Reached). y.end) (sym w))
+      by (Err c) z = absurd (let w : ◌≡◌ {A = ℕ} 0 1 = cc in omega arith)
 
-    pub of_move : op ≡ Move → r ≡ media_given (items_from s p) → r ≡ judge_items op (items_from s p)
-    unfolding judge_items
-    of_move e h = rw e h
-
-    pub of_audit : op ≡ AuditValue → r ≡ audit_given (items_in (items_from s p)) → r ≡ judge_items op (items_from s p)
-    unfolding judge_items
-    of_audit e h = rw e h
-
-  pub judge_known : (y : JudgedItems) → p.braces ≡ true → Known (past_sign right_brace s (top_at s p.inside).end) y → Known (command_end_from s p) y
-  unfolding command_end_from pick
-  judge_known y b k = rw b k
-
-  pub judge_end : p.braces ≡ false → p.end ≡ command_end_from s p
-  unfolding command_end_from pick
-  judge_end b = rw b
-
--- where a command ends
-pub end_known : (e : ℕ) (x : JudgedItems) (vs : Values) → x.judged ≡ Right vs → Known e x → x.end ≡ e
-end_known e x vs w k = k.at vs w
+  pub judged_wrong : (c : ℕ) → x ≡ Err c → Err c ≡ j
+  unfolding ended
+  judged_wrong c w = by j (sym h ∙ w)
+    where
+      by : (k : Judged) → ended k e ≡ Err c → Err c ≡ k
+      by (Ok us) z = absurd (let w : ◌≡◌ {A = ℕ} 0 1 = cc in omega arith)
+      by (Err d) z = let w : d ≡ c = cc in rw w

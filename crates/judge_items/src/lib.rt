@@ -1,86 +1,79 @@
 // A command's items judged in reading order (document 01, test 3): the first code, or the values given.
+// A code stays a number: the definitions tell it so (`Attempt.judge`, `Items.judge_items`), and the reply writes its digits.
 #![tactic(auto)]
 
-ghost use Rattle.std.specs.Prelude.{◌≡◌, true, false};
+ghost use Rattle.std.specs.Prelude.{◌≡◌, ◌<◌, ◌+◌, ◌^◌, ℕ, true, false, [], ◌∷◌, length};
 ghost use Rattle.std.proofs.Math.Option.{none, some};
+ghost use Rattle.std.specs.declared.result.Result.{Result};
+ghost use Rattle.judge_items.specs.declared.Reached.{Reached};
+ghost use Rattle.protocol.specs.Types.{Values};
 ghost use Rattle.megaco.specs.Tree.{plain};
 ghost use Rattle.megaco.specs.Items.{mode_given, state_given, property_token, value_given, set_value, property_items, items_in, set_speech, speech_given, called_in, both, either, no_descriptors, media_items, top_items, audited_items, audit_items, audit_given, unchanged, media_given, no_items, judge_items};
-ghost use Rattle.megaco.specs.Bytes.{right_brace};
 ghost use Rattle.megaco.specs.Reading.{word_here, speech_here};
-ghost use Rattle.read_command.specs.Production.{past_sign};
-ghost use Rattle.read_command.specs.Places.{or_none_at, item_at, items_at, speech_at, media_item_at, media_at, top_at};
-ghost use Rattle.command_places.specs.Found.{items_from, command_end_from};
-ghost use Rattle.judge_items.specs.Judging.{InMessage, mode_by, state_by, called_by, item_checked, called_unless, kind_of, side_of, OfPart, speech_by, value_by, property_by, media_by, top_by, audited_by, audit_by, Known, closed_by};
+ghost use Rattle.read_command.specs.Places.{or_none_at, item_at, items_at, speech_at, media_item_at, media_at, top_item_at, top_at};
+ghost use Rattle.command_places.specs.Found.{items_from, command_end_from, closed_end};
+ghost use Rattle.judge_items.specs.Judging.{InMessage, mode_by, state_by, called_by, item_checked, called_unless, kind_of, side_of, stood_next, ended, ended_next, judge_list, speech_by, value_by, property_by, media_by, top_by, audited_by, audit_by, closed_by};
 
-use command_places::{CommandPlaces, ItemPlaces, SpeechPlaces, ValuePlaces};
-use keywords::Meaning;
-use megaco::{
-    Checked, Descriptors, Given, Judged, Kind, Op, Parsed, SdpText, Side, Speech, Token, Values,
-};
+use command_places::{CommandPlaces, ItemPlaces, ValuePlace};
+use megaco::{Descriptors, Kind, Op, SdpText, Side, Speech, Token, Values};
 
-// What items are judged, and where they end if nothing is wrong with them.
+// What a command's items are judged, and where the command ends.
 #[derive(Clone, Copy)]
 pub struct JudgedItems {
-    pub judged: Judged,
+    pub judged: Result<Values, u32>,
     pub end: usize,
 }
 
-// What an item of Media is judged, where it ends if nothing is wrong with it, and which descriptors stood before the item after it.
+// The values that items have given, and where they end.
 #[derive(Clone, Copy)]
-pub struct JudgedPart {
-    pub judged: Judged,
+pub struct Reached {
+    pub values: Values,
     pub end: usize,
-    pub stood: Descriptors,
 }
 
 // ---- values
 
-fn mode_by(k: Token) -> Given
+fn mode_by(k: Token) -> Option<u32>
     ensures { result ≡ mode_by k }
 {
     match k {
-        Token::InactiveToken => Given::To(0),
-        Token::SendonlyToken => Given::To(1),
-        Token::RecvonlyToken => Given::To(2),
-        Token::SendrecvToken => Given::To(3),
-        Token::LoopbackToken => Given::To(4),
-        _ => Given::Keep,
+        Token::InactiveToken => Some(0),
+        Token::SendonlyToken => Some(1),
+        Token::RecvonlyToken => Some(2),
+        Token::SendrecvToken => Some(3),
+        Token::LoopbackToken => Some(4),
+        _ => None,
     }
 }
 
-fn mode_given(w: &[u8]) -> Given
+#[tactic(auto, using(crate::proofs::ValueLaws::mode_token, crate::proofs::ValueLaws::mode_none))]
+fn mode_given(w: &[u8]) -> Option<u32>
     ensures { result ≡ mode_given w.now }
 {
-    let m = keywords::meaning_of(w);
-    match m {
-        Meaning::Of(k) => mode_by(k),
-        Meaning::Nothing => Given::Keep,
-    }
+    mode_by(keywords::meaning_of(w)?)
 }
 
-fn state_by(k: Token) -> Given
+fn state_by(k: Token) -> Option<u32>
     ensures { result ≡ state_by k }
 {
     match k {
-        Token::InSvcToken => Given::To(0),
-        Token::OutOfSvcToken => Given::To(1),
-        Token::TestToken => Given::To(2),
-        _ => Given::Keep,
+        Token::InSvcToken => Some(0),
+        Token::OutOfSvcToken => Some(1),
+        Token::TestToken => Some(2),
+        _ => None,
     }
 }
 
-fn state_given(w: &[u8]) -> Given
+#[tactic(auto, using(crate::proofs::ValueLaws::state_token, crate::proofs::ValueLaws::state_none))]
+fn state_given(w: &[u8]) -> Option<u32>
     ensures { result ≡ state_given w.now }
 {
-    let m = keywords::meaning_of(w);
-    match m {
-        Meaning::Of(k) => state_by(k),
-        Meaning::Nothing => Given::Keep,
-    }
+    state_by(keywords::meaning_of(w)?)
 }
 
 // What a plain value gives.
-fn plain_given(k: Kind, w: &[u8]) -> Given
+#[tactic(auto, unfolding(megaco::specs::Items::value_given))]
+fn plain_given(k: Kind, w: &[u8]) -> Option<u32>
     ensures { result ≡ value_given k (some (plain w.now)) }
 {
     match k {
@@ -90,89 +83,107 @@ fn plain_given(k: Kind, w: &[u8]) -> Given
 }
 
 // What a value gives: nothing if it stands between quotes.
-fn value_given(s: &[u8], p: ItemPlaces, k: Kind) -> Given
+#[tactic(auto, unfolding(crate::specs::Judging::value_by, crate::specs::Judging::value_in, command_places::specs::Found::ValueWithin, base::specs::Lists::part))]
+fn value_given(s: &[u8], p: ItemPlaces, k: Kind) -> Option<u32>
     requires { InMessage s.now p }
     ensures { result ≡ value_by k s.now p }
 {
-    let v = p.value;
-    let word = v.plain;
-    let a = word.from;
-    let e = word.to;
-    let g = plain_given(k, &s[a..e]);
-    if v.quoted { Given::Keep } else { g }
+    match p.value {
+        Some(ValuePlace::Plain(w)) => plain_given(k, &s[w.from..w.to]),
+        Some(ValuePlace::Quoted(_)) => None,
+        None => None,
+    }
 }
 
-fn set_value(k: Kind, g: Given, values: Values) -> Judged
+#[tactic(auto, unfolding(megaco::specs::Items::set_value))]
+fn set_value(k: Kind, g: Option<u32>, values: Values) -> Result<Values, u32>
     ensures { result ≡ set_value k g values }
 {
-    let mode = values.mode;
-    let state = values.state;
-    let local = values.local;
-    let remote = values.remote;
-    match g {
-        Given::Keep => Judged::Wrong(449),
-        Given::To(_) => match k {
-            Kind::InControl => Judged::Right(Values {
-                mode: g,
-                state: state,
-                audited: values.audited,
-                local: local,
-                remote: remote,
-            }),
-            Kind::InState => Judged::Right(Values {
-                mode: mode,
-                state: g,
-                audited: values.audited,
-                local: local,
-                remote: remote,
-            }),
-        },
+    let value = g.ok_or(449u32)?;
+    match k {
+        Kind::InControl => Ok(Values {
+            mode: Some(value),
+            ..values
+        }),
+        Kind::InState => Ok(Values {
+            state: Some(value),
+            ..values
+        }),
     }
 }
 
 // ---- one item
 
 // Whether an item is called by a keyword: a name with `/` is called by none.
+#[tactic(auto, unfolding(crate::specs::Judging::called_by, base::specs::Lists::part))]
 fn item_called(s: &[u8], p: ItemPlaces, k: Token) -> bool
     requires { InMessage s.now p }
     ensures { result ≡ called_by k s.now p }
 {
-    let word = p.word;
-    let a = word.from;
-    let e = word.to;
-    !p.second & keywords::spells(k, &s[a..e])
+    !p.second & keywords::spells(k, &s[p.word.from..p.word.to])
 }
 
 // The tests of an item's name and shape: `unknown` is the code of a name that is not called for.
-fn check_item(unknown: u32, known: bool, repeated: bool, shaped: bool) -> Checked
+#[tactic(auto, unfolding(crate::specs::Judging::item_checked, base::specs::Pick::pick))]
+fn check_item(unknown: u32, known: bool, repeated: bool, shaped: bool) -> Result<(), u32>
     ensures { result ≡ item_checked unknown known repeated shaped }
 {
     if !known {
-        return Checked::Fails(unknown);
+        return Err(unknown);
     }
     if repeated {
-        return Checked::Fails(448);
+        return Err(448);
     }
     if !shaped {
-        return Checked::Fails(442);
+        return Err(442);
     }
-    Checked::Passes
+    Ok(())
 }
 
 // Items and the brace that closes them.
-fn closed(s: &[u8], x: JudgedItems) -> JudgedItems
+#[tactic(auto, unfolding(crate::specs::Judging::closed_by))]
+fn closed(s: &[u8], x: Result<Reached, u32>) -> Result<Reached, u32>
     ensures { result ≡ closed_by s.now x }
 {
-    let j = x.judged;
-    let e = x.end;
-    JudgedItems {
-        judged: j,
-        end: command_places::past_closing(s, e),
+    let r = x?;
+    Ok(Reached {
+        end: command_places::past_closing(s, r.end),
+        ..r
+    })
+}
+
+// Items joined by commas, judged in reading order, each by `one`: it is given what stood before the item and the values so far, and tells
+// what has stood then.
+fn judge_list<S: Copy, F: Fn(usize, S, Values) -> Result<(Reached, S), u32>>(
+    s: &[u8],
+    at: usize,
+    stood: S,
+    values: Values,
+    one: F,
+) -> Result<Reached, u32>
+    requires { F.IsAlwaysCallable one }
+    ensures { (g : ℕ → S → Values → Result (Reached × S) ℕ) → ((i : ℕ) (st : S) (vs : Values) (r : Result (Reached × S) ℕ) → i < 2 ^ 64 → F.post one i st vs r → r ≡ g i st vs) → result ≡ judge_list g s.now (length s.now + 1) at stood values }
+{
+    let mut i = at;
+    let mut st = stood;
+    let mut vs = values;
+    for n in 0..s.len() + 1 {
+        let (x, next) = one(i, st, vs)?;
+        match command_places::next_part(s, x.end) {
+            Some(u) => {
+                i = u;
+                st = next;
+                vs = x.values;
+            }
+            None => return Ok(x),
+        }
     }
+    Ok(Reached { values: vs, end: i })
 }
 
 // ---- in LocalControl and TerminationState
 
+#[tactic(auto, unfolding(megaco::specs::Items::property_token))]
 fn property_token(k: Kind) -> Token
     ensures { result ≡ property_token k }
 {
@@ -182,51 +193,38 @@ fn property_token(k: Kind) -> Token
     }
 }
 
-fn property_item(s: &[u8], p: ItemPlaces, k: Kind, seen: bool, values: Values) -> Judged
+#[tactic(auto, unfolding(crate::specs::Judging::property_by, crate::specs::Judging::judged_by))]
+fn property_item(
+    s: &[u8],
+    p: ItemPlaces,
+    k: Kind,
+    seen: bool,
+    values: Values,
+) -> Result<Values, u32>
     requires { InMessage s.now p }
     ensures { result ≡ property_by k seen values s.now p }
 {
-    let v = p.value;
     let known = item_called(s, p, property_token(k));
-    let checked = check_item(445, known, seen, v.given & !p.braces);
-    match checked {
-        Checked::Passes => set_value(k, value_given(s, p, k), values),
-        Checked::Fails(code) => Judged::Wrong(code),
-    }
+    check_item(445, known, seen, p.value.is_some() & p.inside.is_none())?;
+    set_value(k, value_given(s, p, k), values)
 }
 
-fn property_items(s: &[u8], at: usize, k: Kind, values: Values) -> JudgedItems
-    ensures { (result.judged ≡ property_items k (items_at 6 s.now at).tree false values) × Known (items_at 6 s.now at).end result }
+fn property_items(s: &[u8], at: usize, k: Kind, values: Values) -> Result<Reached, u32>
+    ensures { result ≡ ended (property_items k (items_at 6 s.now at).tree false values) (items_at 6 s.now at).end }
 {
-    let mut i = at;
-    let mut n = 0;
-    let mut seen = false;
-    let mut vs = values;
-    while n <= s.len() {
-        n += 1;
+    let one = |i: usize, seen: bool, vs: Values| -> Result<(Reached, bool), u32>
+        ensures { result ≡ ended_next (property_items k ((item_at 5 (items_at 5 s.entry.now) s.entry.now i).tree ∷ []) seen vs) (item_at 5 (items_at 5 s.entry.now) s.entry.now i).end true }
+    {
         let p = command_places::item_places(s, i);
-        let j = property_item(s, p, k, seen, vs);
-        let Judged::Right(us) = j else {
-            return JudgedItems { judged: j, end: 0 };
-        };
-        let v = p.value;
-        let e = v.end;
-        let x = command_places::next_part(s, e);
-        let Parsed::Next(u) = x else {
-            return JudgedItems { judged: j, end: e };
-        };
-        i = u;
-        vs = us;
-        seen = true;
-    }
-    JudgedItems {
-        judged: Judged::Right(vs),
-        end: i,
-    }
+        let values = property_item(s, p, k, seen, vs)?;
+        Ok((Reached { values, end: p.end }, true))
+    };
+    judge_list(s, at, false, values, one)
 }
 
 // ---- Local and Remote
 
+#[tactic(auto, unfolding(crate::specs::Judging::side_of, base::specs::Pick::pick))]
 fn side_of(local: bool) -> Side
     ensures { result ≡ side_of local }
 {
@@ -236,65 +234,52 @@ fn side_of(local: bool) -> Side
     Side::OfRemote
 }
 
+#[tactic(auto, unfolding(megaco::specs::Items::set_speech))]
 fn set_speech(side: Side, x: Speech, values: Values) -> Values
     ensures { result ≡ set_speech side x values }
 {
-    let mode = values.mode;
-    let state = values.state;
-    let local = values.local;
-    let remote = values.remote;
     match side {
-        Side::OfLocal => Values {
-            mode: mode,
-            state: state,
-            audited: values.audited,
-            local: x,
-            remote: remote,
-        },
+        Side::OfLocal => Values { local: x, ..values },
         Side::OfRemote => Values {
-            mode: mode,
-            state: state,
-            audited: values.audited,
-            local: local,
             remote: x,
+            ..values
         },
     }
 }
 
 // What a text gives.
-fn speech_given(side: Side, x: SdpText, values: Values) -> Judged
+#[tactic(auto, unfolding(megaco::specs::Items::speech_given))]
+fn speech_given(side: Side, x: SdpText, values: Values) -> Result<Values, u32>
     ensures { result ≡ speech_given side x values }
 {
     match x {
-        SdpText::EmptyText => Judged::Right(set_speech(side, Speech::Released, values)),
+        SdpText::EmptyText => Ok(set_speech(side, Speech::Released, values)),
         SdpText::Described {
             address,
             port,
             payload,
-        } => Judged::Right(set_speech(side, Speech::Session(address, port, payload), values)),
-        SdpText::NotInSubset => Judged::Wrong(449),
+        } => Ok(set_speech(side, Speech::Session(address, port, payload), values)),
+        SdpText::NotInSubset => Err(449),
     }
 }
 
 // ---- in Media
 
 // Which descriptor a word is.
+#[tactic(auto, unfolding(megaco::specs::Items::called_in, megaco::specs::Items::called))]
 fn word_called(w: &[u8]) -> Descriptors
     ensures { result ≡ called_in w.now none }
 {
-    let control = keywords::spells(Token::LocalControlToken, w);
-    let state = keywords::spells(Token::TerminationStateToken, w);
-    let local = keywords::spells(Token::LocalToken, w);
-    let remote = keywords::spells(Token::RemoteToken, w);
     Descriptors {
-        control: control,
-        state: state,
-        local: local,
-        remote: remote,
+        control: keywords::spells(Token::LocalControlToken, w),
+        state: keywords::spells(Token::TerminationStateToken, w),
+        local: keywords::spells(Token::LocalToken, w),
+        remote: keywords::spells(Token::RemoteToken, w),
     }
 }
 
 // Which descriptor an item is called by that word: a name with `/` is called by none.
+#[tactic(auto, unfolding(crate::specs::Judging::called_unless))]
 fn unless(second: bool, a: Descriptors) -> Descriptors
     ensures { result ≡ called_unless second a }
 {
@@ -307,6 +292,7 @@ fn unless(second: bool, a: Descriptors) -> Descriptors
 }
 
 // Whether Local or Remote stands here and a brace comes next, where the word's meaning is known already.
+#[tactic(auto, using(crate::proofs::OneLaws::no_text))]
 fn text_here(s: &[u8], at: usize, word: Descriptors) -> bool
     requires { word ≡ called_in (word_here s.now at) none }
     ensures { result ≡ speech_here s.now at }
@@ -318,6 +304,7 @@ fn text_here(s: &[u8], at: usize, word: Descriptors) -> bool
 }
 
 // Whether both have a descriptor in common.
+#[tactic(auto, unfolding(megaco::specs::Items::both))]
 fn both(a: Descriptors, b: Descriptors) -> bool
     ensures { result ≡ both a b }
 {
@@ -325,6 +312,7 @@ fn both(a: Descriptors, b: Descriptors) -> bool
 }
 
 // The descriptors that either has.
+#[tactic(auto, unfolding(megaco::specs::Items::either))]
 fn either(a: Descriptors, b: Descriptors) -> Descriptors
     ensures { result ≡ either a b }
 {
@@ -336,6 +324,7 @@ fn either(a: Descriptors, b: Descriptors) -> Descriptors
     }
 }
 
+#[tactic(auto, unfolding(crate::specs::Judging::kind_of, base::specs::Pick::pick))]
 fn kind_of(control: bool) -> Kind
     ensures { result ≡ kind_of control }
 {
@@ -352,298 +341,178 @@ fn media_item(
     called: Descriptors,
     stood: Descriptors,
     values: Values,
-) -> JudgedItems
-    ensures { (result.judged ≡ media_by called stood values s.now p) × Known (past_sign right_brace s.now (items_at 6 s.now p.inside).end) result }
+) -> Result<Reached, u32>
+    ensures { result ≡ ended (media_by called stood values s.now p) (closed_end (λ i. (items_at 6 s.now i).end) s.now p.inside p.end) }
 {
-    let v = p.value;
-    let shaped = !called.local & !called.remote & !v.given & p.braces;
-    let checked = check_item(444, both(called, called), both(called, stood), shaped);
-    match checked {
-        Checked::Passes => {
-            let inside = p.inside;
-            let x = property_items(s, inside, kind_of(called.control), values);
-            closed(s, x)
-        }
-        Checked::Fails(code) => JudgedItems {
-            judged: Judged::Wrong(code),
-            end: 0,
-        },
-    }
+    let shaped = !called.local & !called.remote & p.value.is_none();
+    check_item(444, both(called, called), both(called, stood), shaped)?;
+    let inside = p.inside.ok_or(442u32)?;
+    closed(
+        s,
+        property_items(s, inside, kind_of(called.control), values),
+    )
 }
 
 // Local or Remote with a text.
-fn speech_item(text: &[u8], called: Descriptors, stood: Descriptors, values: Values) -> Judged
+#[tactic(auto, unfolding(crate::specs::Judging::speech_by, crate::specs::Judging::judged_by))]
+fn speech_item(
+    text: &[u8],
+    called: Descriptors,
+    stood: Descriptors,
+    values: Values,
+) -> Result<Values, u32>
     ensures { result ≡ speech_by called stood values text.now }
 {
     let shaped = called.local | called.remote;
-    let checked = check_item(444, both(called, called), both(called, stood), shaped);
-    match checked {
-        Checked::Passes => speech_given(side_of(called.local), sdp::read(text), values),
-        Checked::Fails(code) => Judged::Wrong(code),
-    }
+    check_item(444, both(called, called), both(called, stood), shaped)?;
+    speech_given(side_of(called.local), sdp::read(text), values)
 }
 
-fn judge_speech(s: &[u8], at: usize, stood: Descriptors, values: Values) -> JudgedPart
-    ensures { OfPart (speech_at s.now at).tree (speech_at s.now at).end stood values result }
+fn judge_speech(
+    s: &[u8],
+    at: usize,
+    stood: Descriptors,
+    values: Values,
+) -> Result<(Reached, Descriptors), u32>
+    ensures { result ≡ ended_next (media_items ((speech_at s.now at).tree ∷ []) stood values) (speech_at s.now at).end (stood_next (speech_at s.now at).tree stood) }
 {
     let p = command_places::speech_places(s, at);
-    let word = p.word;
-    let a = word.from;
-    let b = word.to;
-    let called = word_called(&s[a..b]);
-    let held = command_places::text_of(s, p);
-    let j = speech_item(held, called, stood, values);
-    JudgedPart {
-        judged: j,
-        end: p.end,
-        stood: either(called, stood),
-    }
+    let called = word_called(&s[p.word.from..p.word.to]);
+    let values = speech_item(command_places::text_of(s, p), called, stood, values)?;
+    Ok((Reached { values, end: p.end }, either(called, stood)))
 }
 
-fn judge_part(s: &[u8], at: usize, stood: Descriptors, values: Values) -> JudgedPart
-    ensures { OfPart (media_item_at s.now at).tree (media_item_at s.now at).end stood values result }
+fn judge_part(
+    s: &[u8],
+    at: usize,
+    stood: Descriptors,
+    values: Values,
+) -> Result<(Reached, Descriptors), u32>
+    ensures { result ≡ ended_next (media_items ((media_item_at s.now at).tree ∷ []) stood values) (media_item_at s.now at).end (stood_next (media_item_at s.now at).tree stood) }
 {
     let p = command_places::item_places(s, at);
-    let word = p.word;
-    let a = word.from;
-    let b = word.to;
-    let spelt = word_called(&s[a..b]);
+    let spelt = word_called(&s[p.word.from..p.word.to]);
     if text_here(s, at, spelt) {
         return judge_speech(s, at, stood, values);
     }
     let called = unless(p.second, spelt);
-    let y = media_item(s, p, called, stood, values);
-    let j = y.judged;
-    JudgedPart {
-        judged: j,
-        end: y.end,
-        stood: either(called, stood),
-    }
+    let x = media_item(s, p, called, stood, values)?;
+    Ok((x, either(called, stood)))
 }
 
-fn media_items(s: &[u8], at: usize, values: Values) -> JudgedItems
-    ensures { (result.judged ≡ media_items (media_at s.now at).tree no_descriptors values) × Known (media_at s.now at).end result }
+fn media_items(s: &[u8], at: usize, values: Values) -> Result<Reached, u32>
+    ensures { result ≡ ended (media_items (media_at s.now at).tree no_descriptors values) (media_at s.now at).end }
 {
-    let mut i = at;
-    let mut n = 0;
-    let mut stood = Descriptors {
+    let none = Descriptors {
         control: false,
         state: false,
         local: false,
         remote: false,
     };
-    let mut vs = values;
-    while n <= s.len() {
-        n += 1;
-        let y = judge_part(s, i, stood, vs);
-        let j = y.judged;
-        let Judged::Right(us) = j else {
-            return JudgedItems { judged: j, end: 0 };
-        };
-        let e = y.end;
-        let x = command_places::next_part(s, e);
-        let Parsed::Next(u) = x else {
-            return JudgedItems { judged: j, end: e };
-        };
-        i = u;
-        vs = us;
-        stood = y.stood;
-    }
-    JudgedItems {
-        judged: Judged::Right(vs),
-        end: i,
-    }
+    let one = |i: usize, stood: Descriptors, vs: Values| -> Result<(Reached, Descriptors), u32>
+        ensures { result ≡ ended_next (media_items ((media_item_at s.entry.now i).tree ∷ []) stood vs) (media_item_at s.entry.now i).end (stood_next (media_item_at s.entry.now i).tree stood) }
+    { judge_part(s, i, stood, vs) };
+    judge_list(s, at, none, values, one)
 }
 
 // ---- at the top
 
-fn top_item(s: &[u8], p: ItemPlaces, seen: bool, values: Values) -> JudgedItems
+fn top_item(s: &[u8], p: ItemPlaces, seen: bool, values: Values) -> Result<Reached, u32>
     requires { InMessage s.now p }
-    ensures { (result.judged ≡ top_by seen values s.now p) × Known (past_sign right_brace s.now (media_at s.now p.inside).end) result }
+    ensures { result ≡ ended (top_by seen values s.now p) (closed_end (λ i. (media_at s.now i).end) s.now p.inside p.end) }
 {
-    let v = p.value;
     let known = item_called(s, p, Token::MediaToken);
-    let checked = check_item(444, known, seen, !v.given & p.braces);
-    match checked {
-        Checked::Passes => {
-            let inside = p.inside;
-            let x = media_items(s, inside, values);
-            closed(s, x)
-        }
-        Checked::Fails(code) => JudgedItems {
-            judged: Judged::Wrong(code),
-            end: 0,
-        },
-    }
+    check_item(444, known, seen, p.value.is_none())?;
+    let inside = p.inside.ok_or(442u32)?;
+    closed(s, media_items(s, inside, values))
 }
 
-fn top_items(s: &[u8], at: usize, values: Values) -> JudgedItems
-    ensures { (result.judged ≡ top_items (top_at s.now at).tree false values) × Known (top_at s.now at).end result }
+fn top_items(s: &[u8], at: usize, values: Values) -> Result<Reached, u32>
+    ensures { result ≡ ended (top_items (top_at s.now at).tree false values) (top_at s.now at).end }
 {
-    let mut i = at;
-    let mut n = 0;
-    let mut seen = false;
-    let mut vs = values;
-    while n <= s.len() {
-        n += 1;
+    let one = |i: usize, seen: bool, vs: Values| -> Result<(Reached, bool), u32>
+        ensures { result ≡ ended_next (top_items ((top_item_at s.entry.now i).tree ∷ []) seen vs) (top_item_at s.entry.now i).end true }
+    {
         let p = command_places::item_places(s, i);
-        let y = top_item(s, p, seen, vs);
-        let j = y.judged;
-        let Judged::Right(us) = j else {
-            return JudgedItems { judged: j, end: 0 };
-        };
-        let e = y.end;
-        let x = command_places::next_part(s, e);
-        let Parsed::Next(u) = x else {
-            return y;
-        };
-        i = u;
-        vs = us;
-        seen = true;
-    }
-    JudgedItems {
-        judged: Judged::Right(vs),
-        end: i,
-    }
+        let x = top_item(s, p, seen, vs)?;
+        Ok((x, true))
+    };
+    judge_list(s, at, false, values, one)
 }
 
 // ---- in Audit
 
-fn audited_item(s: &[u8], p: ItemPlaces, seen: bool) -> Judged
+#[tactic(auto, unfolding(crate::specs::Judging::audited_by, crate::specs::Judging::judged_by))]
+fn audited_item(s: &[u8], p: ItemPlaces, seen: bool) -> Result<Values, u32>
     requires { InMessage s.now p }
     ensures { result ≡ audited_by seen s.now p }
 {
-    let v = p.value;
     let known = item_called(s, p, Token::MediaToken);
-    let checked = check_item(444, known, seen, !v.given & !p.braces);
-    match checked {
-        Checked::Passes => Judged::Right(Values {
-            mode: Given::Keep,
-            state: Given::Keep,
-            audited: true,
-            local: Speech::Kept,
-            remote: Speech::Kept,
-        }),
-        Checked::Fails(code) => Judged::Wrong(code),
-    }
+    check_item(444, known, seen, p.value.is_none() & p.inside.is_none())?;
+    Ok(Values {
+        audited: true,
+        ..unchanged()
+    })
 }
 
-fn audited_items(s: &[u8], at: usize, values: Values) -> JudgedItems
-    ensures { (result.judged ≡ audited_items (items_at 7 s.now at).tree false values) × Known (items_at 7 s.now at).end result }
+fn audited_items(s: &[u8], at: usize, values: Values) -> Result<Reached, u32>
+    ensures { result ≡ ended (audited_items (items_at 7 s.now at).tree false values) (items_at 7 s.now at).end }
 {
-    let mut i = at;
-    let mut n = 0;
-    let mut seen = false;
-    let mut vs = values;
-    while n <= s.len() {
-        n += 1;
+    let one = |i: usize, seen: bool, vs: Values| -> Result<(Reached, bool), u32>
+        ensures { result ≡ ended_next (audited_items ((item_at 6 (items_at 6 s.entry.now) s.entry.now i).tree ∷ []) seen vs) (item_at 6 (items_at 6 s.entry.now) s.entry.now i).end true }
+    {
         let p = command_places::item_places(s, i);
-        let j = audited_item(s, p, seen);
-        let Judged::Right(us) = j else {
-            return JudgedItems { judged: j, end: 0 };
-        };
-        let v = p.value;
-        let e = v.end;
-        let x = command_places::next_part(s, e);
-        let Parsed::Next(u) = x else {
-            return JudgedItems { judged: j, end: e };
-        };
-        i = u;
-        vs = us;
-        seen = true;
-    }
-    JudgedItems {
-        judged: Judged::Right(vs),
-        end: i,
-    }
+        let values = audited_item(s, p, seen)?;
+        Ok((Reached { values, end: p.end }, true))
+    };
+    judge_list(s, at, false, values, one)
 }
 
 // What stands in Audit's braces: items, or nothing.
-fn audit_inside(s: &[u8], at: usize, values: Values) -> JudgedItems
-    ensures { (result.judged ≡ audited_items (or_none_at true (items_at 7 s.now) s.now at).tree false values) × Known (or_none_at true (items_at 7 s.now) s.now at).end result }
+#[tactic(auto, using(crate::proofs::OneLaws::inside_none, crate::proofs::OneLaws::inside_some))]
+fn audit_inside(s: &[u8], at: usize, values: Values) -> Result<Reached, u32>
+    ensures { result ≡ ended (audited_items (or_none_at true (items_at 7 s.now) s.now at).tree false values) (or_none_at true (items_at 7 s.now) s.now at).end }
 {
     if text::is_at(s, at, b'}') {
-        return JudgedItems {
-            judged: Judged::Right(values),
-            end: at,
-        };
+        return Ok(Reached { values, end: at });
     }
     audited_items(s, at, values)
 }
 
 // ---- at the top of AuditValue
 
-fn audit_item(s: &[u8], p: ItemPlaces, seen: bool, values: Values) -> JudgedItems
+fn audit_item(s: &[u8], p: ItemPlaces, seen: bool, values: Values) -> Result<Reached, u32>
     requires { InMessage s.now p }
-    ensures { (result.judged ≡ audit_by seen values s.now p) × Known (past_sign right_brace s.now (or_none_at true (items_at 7 s.now) s.now p.inside).end) result }
+    ensures { result ≡ ended (audit_by seen values s.now p) (closed_end (λ i. (or_none_at true (items_at 7 s.now) s.now i).end) s.now p.inside p.end) }
 {
-    let v = p.value;
     let known = item_called(s, p, Token::AuditToken);
-    let checked = check_item(447, known, seen, !v.given & p.braces);
-    match checked {
-        Checked::Passes => {
-            let inside = p.inside;
-            let x = audit_inside(s, inside, values);
-            closed(s, x)
-        }
-        Checked::Fails(code) => JudgedItems {
-            judged: Judged::Wrong(code),
-            end: 0,
-        },
-    }
+    check_item(447, known, seen, p.value.is_none())?;
+    let inside = p.inside.ok_or(442u32)?;
+    closed(s, audit_inside(s, inside, values))
 }
 
-fn audit_items(s: &[u8], at: usize, values: Values) -> JudgedItems
-    ensures { (result.judged ≡ audit_items (top_at s.now at).tree false values) × Known (top_at s.now at).end result }
+fn audit_items(s: &[u8], at: usize, values: Values) -> Result<Reached, u32>
+    ensures { result ≡ ended (audit_items (top_at s.now at).tree false values) (top_at s.now at).end }
 {
-    let mut i = at;
-    let mut n = 0;
-    let mut seen = false;
-    let mut vs = values;
-    while n <= s.len() {
-        n += 1;
+    let one = |i: usize, seen: bool, vs: Values| -> Result<(Reached, bool), u32>
+        ensures { result ≡ ended_next (audit_items ((top_item_at s.entry.now i).tree ∷ []) seen vs) (top_item_at s.entry.now i).end true }
+    {
         let p = command_places::item_places(s, i);
-        let y = audit_item(s, p, seen, vs);
-        let j = y.judged;
-        let Judged::Right(us) = j else {
-            return JudgedItems { judged: j, end: 0 };
-        };
-        let e = y.end;
-        let x = command_places::next_part(s, e);
-        let Parsed::Next(u) = x else {
-            return y;
-        };
-        i = u;
-        vs = us;
-        seen = true;
-    }
-    JudgedItems {
-        judged: Judged::Right(vs),
-        end: i,
-    }
+        let x = audit_item(s, p, seen, vs)?;
+        Ok((x, true))
+    };
+    judge_list(s, at, false, values, one)
 }
 
 // ---- a command
-
-// Where a command ends: its items tell it, unless something is wrong with them.
-fn end_of_command(s: &[u8], p: CommandPlaces, x: JudgedItems) -> usize
-    requires { Known (command_end_from s.now p) x }
-    ensures { result ≡ command_end_from s.now p }
-{
-    let j = x.judged;
-    match j {
-        Judged::Right(_) => x.end,
-        Judged::Wrong(_) => command_places::command_end(s, p),
-    }
-}
 
 // No value is given, and none audited.
 fn unchanged() -> Values
     ensures { result ≡ unchanged }
 {
     Values {
-        mode: Given::Keep,
-        state: Given::Keep,
+        mode: None,
+        state: None,
         audited: false,
         local: Speech::Kept,
         remote: Speech::Kept,
@@ -651,61 +520,49 @@ fn unchanged() -> Values
 }
 
 // The items of Add, Modify and Move.
-fn judge_media(s: &[u8], p: CommandPlaces) -> JudgedItems
-    ensures { (result.judged ≡ media_given (items_from s.now p)) × Known (command_end_from s.now p) result }
+fn judge_media(s: &[u8], p: CommandPlaces) -> Result<Reached, u32>
+    ensures { result ≡ ended (media_given (items_from s.now p)) (command_end_from s.now p) }
 {
-    let none = unchanged();
-    if p.braces {
-        let inside = p.inside;
-        let x = top_items(s, inside, none);
-        return closed(s, x);
-    }
-    JudgedItems {
-        judged: Judged::Right(none),
-        end: p.end,
+    match p.inside {
+        Some(inside) => closed(s, top_items(s, inside, unchanged())),
+        None => Ok(Reached {
+            values: unchanged(),
+            end: p.end,
+        }),
     }
 }
 
 // The items of Subtract.
-fn judge_none(s: &[u8], p: CommandPlaces) -> JudgedItems
-    ensures { (result.judged ≡ no_items (items_from s.now p)) × Known (command_end_from s.now p) result }
+fn judge_none(s: &[u8], p: CommandPlaces) -> Result<Reached, u32>
+    ensures { result ≡ ended (no_items (items_from s.now p)) (command_end_from s.now p) }
 {
-    if p.braces {
-        return JudgedItems {
-            judged: Judged::Wrong(447),
-            end: 0,
-        };
-    }
-    JudgedItems {
-        judged: Judged::Right(unchanged()),
-        end: p.end,
+    match p.inside {
+        Some(_) => Err(447),
+        None => Ok(Reached {
+            values: unchanged(),
+            end: p.end,
+        }),
     }
 }
 
 // The items of AuditValue.
-fn judge_audit(s: &[u8], p: CommandPlaces) -> JudgedItems
-    ensures { (result.judged ≡ audit_given (items_in (items_from s.now p))) × Known (command_end_from s.now p) result }
+fn judge_audit(s: &[u8], p: CommandPlaces) -> Result<Reached, u32>
+    ensures { result ≡ ended (audit_given (items_in (items_from s.now p))) (command_end_from s.now p) }
 {
-    if p.braces {
-        let inside = p.inside;
-        let x = audit_items(s, inside, unchanged());
-        return closed(s, x);
-    }
-    JudgedItems {
-        judged: Judged::Wrong(442),
-        end: 0,
+    match p.inside {
+        Some(inside) => closed(s, audit_items(s, inside, unchanged())),
+        None => Err(442),
     }
 }
 
 // A command's items by themselves.
-fn judge_inside(s: &[u8], p: CommandPlaces, op: Op) -> JudgedItems
-    ensures { (result.judged ≡ judge_items op (items_from s.now p)) × Known (command_end_from s.now p) result }
+#[tactic(auto, unfolding(megaco::specs::Items::judge_items))]
+fn judge_inside(s: &[u8], p: CommandPlaces, op: Op) -> Result<Reached, u32>
+    ensures { result ≡ ended (judge_items op (items_from s.now p)) (command_end_from s.now p) }
 {
     match op {
-        Op::Add => judge_media(s, p),
-        Op::Modify => judge_media(s, p),
+        Op::Add | Op::Modify | Op::Move => judge_media(s, p),
         Op::Subtract => judge_none(s, p),
-        Op::Move => judge_media(s, p),
         Op::AuditValue => judge_audit(s, p),
     }
 }
@@ -714,10 +571,14 @@ fn judge_inside(s: &[u8], p: CommandPlaces, op: Op) -> JudgedItems
 pub fn judge_items(s: &[u8], p: CommandPlaces, op: Op) -> JudgedItems
     ensures { (result.judged ≡ judge_items op (items_from s.now p)) × (result.end ≡ command_end_from s.now p) }
 {
-    let x = judge_inside(s, p, op);
-    let j = x.judged;
-    JudgedItems {
-        judged: j,
-        end: end_of_command(s, p, x),
+    match judge_inside(s, p, op) {
+        Ok(x) => JudgedItems {
+            judged: Ok(x.values),
+            end: x.end,
+        },
+        Err(code) => JudgedItems {
+            judged: Err(code),
+            end: command_places::command_end(s, p),
+        },
     }
 }

@@ -1,4 +1,5 @@
 -- Rows of the table, and the meaning of any bytes by the rows that have a form of their length.
+use Rattle.std.specs.Prelude.{Some, None}
 use Prim.Native.Nat.{ℕ, zero, suc, ◌+◌, ◌-◌, ◌*◌, ◌<◌, ◌≤◌}
 use mathlib.Core.Path.{◌≡◌, refl, sym, ap, ◌∙◌}
 use mathlib.Core.Bool.{Bool, true, false, ◌&&◌, ◌||◌}
@@ -19,8 +20,7 @@ use Rattle.megaco.specs.contracts.Token.{enum}
 use Rattle.megaco.proofs.Variants.{every_choice, every_case}
 use Rattle.megaco.proofs.Meanings.{every_token}
 use Rattle.keywords.specs.declared.Row.{Row}
-use Rattle.keywords.specs.declared.Meaning.{Meaning}
-use Rattle.keywords.specs.declared.Meaning.TheVariants.{Of, Nothing}
+use Rattle.keywords.specs.Page.{Meaning}
 use Rattle.keywords.specs.Page.{long_of, short_of, padded, token_in, token_at, row_of, rows_of, is_big, Formed, token_of, Spelling, spelling, spellings_of, first_of, sized, later, meaning_later}
 
 -- ---- rows
@@ -64,7 +64,7 @@ last_row n i r l h e =
     let m : n ≤ i = above n i h in
     e ∙ ap row_of (last_in_lem page AddToken n (omega arith) ∙ sym (last_in_lem page AddToken i (omega arith)))
 
-pub of_row : (k : Token) (r : Row) → r ≡ row_of k → token_of (Of r.0) ≡ some k
+pub of_row : (k : Token) (r : Row) → r ≡ row_of k → token_of (Some r.0) ≡ some k
 unfolding token_of row_of
 of_row k r e = rw e
 
@@ -201,16 +201,16 @@ has_none n [] h = refl
 has_none n (x ∷ xs) h = rw (not_holds (eqb x n) (λ d. h.0 (sym (eqb-true x n d)))) (has_none n xs h.1)
 
 -- a word whose length no form has
-pub no_length : (ls : List ℕ) (w : List ℕ) → lengths_in ls (spellings_of page) ≡ true → NoneOf (length w) ls → token_of Nothing ≡ meaning_of w
+pub no_length : (ls : List ℕ) (w : List ℕ) → lengths_in ls (spellings_of page) ≡ true → NoneOf (length w) ls → token_of None ≡ meaning_of w
 unfolding token_of
 no_length ls w a h = sym (of_length (length w) w refl ∙ none_in (length w) ls (spellings_of page) (capitals w) a (has_none (length w) ls h))
 
 -- ---- for who looks a word up
 
-pub token_some : (w : List ℕ) (m : Meaning) (k : Token) → token_of m ≡ meaning_of w → m ≡ Of k → meaning_of w ≡ some k
+pub token_some : (w : List ℕ) (m : Meaning) (k : Token) → token_of m ≡ meaning_of w → m ≡ Some k → meaning_of w ≡ some k
 unfolding token_of
 token_some w m k h g = sym h ∙ ap token_of g
 
-pub token_none : (w : List ℕ) (m : Meaning) → token_of m ≡ meaning_of w → m ≡ Nothing → meaning_of w ≡ none
+pub token_none : (w : List ℕ) (m : Meaning) → token_of m ≡ meaning_of w → m ≡ None → meaning_of w ≡ none
 unfolding token_of
 token_none w m h g = sym h ∙ ap token_of g

@@ -1,6 +1,7 @@
 -- How the code finds a keyword: the row's bytes padded with blanks, a word's bytes as three numbers, rows by length.
-use Rattle.std.specs.Prelude.{ℕ, zero, suc, ◌+◌, ◌-◌, ◌*◌, ◌<◌, ◌≤◌, ◌^◌, ◌≡◌, Bool, true, false, ◌&&◌, List, [], ◌∷◌, ◌++◌, length, take, drop, replicate, eqb, ltb, leb}
+use Rattle.std.specs.Prelude.{ℕ, zero, suc, ◌+◌, ◌-◌, ◌*◌, ◌<◌, ◌≤◌, ◌^◌, ◌≡◌, Bool, true, false, ◌&&◌, List, [], ◌∷◌, ◌++◌, length, take, drop, replicate, eqb, ltb, leb, Some, None}
 use Rattle.std.proofs.Math.Option.{Option, some, none}
+use Rattle.std.specs.declared.option.Option as std
 use Rattle.std.specs.Int.Bits.{bit_and}
 use Rattle.base.specs.Pick.{pick}
 use Rattle.base.specs.Lists.{same, every}
@@ -8,8 +9,10 @@ use Rattle.megaco.specs.Bytes.{capitals}
 use Rattle.megaco.specs.Keywords.{Row as Keyword, row, page, Forms, forms, forms_of}
 use Rattle.protocol.specs.Types.{Token, AddToken}
 use Rattle.keywords.specs.declared.Row.{Row}
-use Rattle.keywords.specs.declared.Meaning.{Meaning}
-use Rattle.keywords.specs.declared.Meaning.TheVariants.{Of, Nothing}
+
+-- what bytes mean: a keyword, or none
+abbrev pub Meaning : Type 0
+Meaning = std.Option Token
 
 unfoldable pub long_of : Forms → List ℕ
 long_of (forms long short) = long
@@ -80,8 +83,8 @@ pub record Formed (f : List ℕ) : Type 0 where
 -- ---- the meaning of any bytes
 
 unfoldable pub token_of : Meaning → Option Token
-token_of (Of k) = some k
-token_of Nothing = none
+token_of (Some k) = some k
+token_of None = none
 
 -- a form of a row
 pub data Spelling : Type 0 where

@@ -16,13 +16,6 @@ pub use rows::{meaning_of, spells};
 #[derive(Clone, Copy)]
 pub struct Row(pub Token, pub [u8; 24], pub [u8; 2]);
 
-// What bytes mean.
-#[derive(Clone, Copy)]
-pub enum Meaning {
-    Of(Token),
-    Nothing,
-}
-
 // Annex B.2's tokens in its order. Error, Reply and Statistics are written only: no reader asks for them.
 pub const KEYWORDS: [Row; 34] = [
     Row(Token::AddToken, *b"ADD                     ", *b"A "),

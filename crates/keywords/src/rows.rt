@@ -6,7 +6,7 @@ ghost use Rattle.megaco.specs.Bytes.{capitals};
 ghost use Rattle.megaco.specs.Keywords.{page, forms_of, spells, meaning_of};
 ghost use Rattle.keywords.specs.Page.{row_of, rows_of, token_at, long_of, short_of, token_of, meaning_later};
 
-use crate::{KEYWORDS, Meaning, Row};
+use crate::{KEYWORDS, Row};
 use megaco::Token;
 
 // ---- rows
@@ -130,44 +130,44 @@ pub fn spells(k: Token, w: &[u8]) -> bool
 }
 
 // What a row's keyword means.
-fn of(i: usize) -> Meaning
+fn of(i: usize) -> Option<Token>
     ensures { token_of result ≡ some (token_at i) }
 {
     let r = row_at(i);
     let m = r.0;
-    Meaning::Of(m)
+    Some(m)
 }
 
 // ---- words by their length
 
-fn letters_22(w: &[u8]) -> Meaning
+fn letters_22(w: &[u8]) -> Option<Token>
     ensures { token_of result ≡ meaning_later 22 0 w.now }
 {
     if is_long(w, 33, 22) {
         return of(33);
     }
-    Meaning::Nothing
+    None
 }
 
-fn letters_16(w: &[u8]) -> Meaning
+fn letters_16(w: &[u8]) -> Option<Token>
     ensures { token_of result ≡ meaning_later 16 0 w.now }
 {
     if is_long(w, 29, 16) {
         return of(29);
     }
-    Meaning::Nothing
+    None
 }
 
-fn letters_13(w: &[u8]) -> Meaning
+fn letters_13(w: &[u8]) -> Option<Token>
     ensures { token_of result ≡ meaning_later 13 0 w.now }
 {
     if is_long(w, 26, 13) {
         return of(26);
     }
-    Meaning::Nothing
+    None
 }
 
-fn letters_12(w: &[u8]) -> Meaning
+fn letters_12(w: &[u8]) -> Option<Token>
     ensures { token_of result ≡ meaning_later 12 0 w.now }
 {
     if is_long(w, 11, 12) {
@@ -176,10 +176,10 @@ fn letters_12(w: &[u8]) -> Meaning
     if is_long(w, 19, 12) {
         return of(19);
     }
-    Meaning::Nothing
+    None
 }
 
-fn letters_11(w: &[u8]) -> Meaning
+fn letters_11(w: &[u8]) -> Option<Token>
     ensures { token_of result ≡ meaning_later 11 0 w.now }
 {
     if is_long(w, 21, 11) {
@@ -191,10 +191,10 @@ fn letters_11(w: &[u8]) -> Meaning
     if is_long(w, 32, 11) {
         return of(32);
     }
-    Meaning::Nothing
+    None
 }
 
-fn letters_10(w: &[u8]) -> Meaning
+fn letters_10(w: &[u8]) -> Option<Token>
     ensures { token_of result ≡ meaning_later 10 0 w.now }
 {
     if is_long(w, 2, 10) {
@@ -203,10 +203,10 @@ fn letters_10(w: &[u8]) -> Meaning
     if is_long(w, 27, 10) {
         return of(27);
     }
-    Meaning::Nothing
+    None
 }
 
-fn letters_9(w: &[u8]) -> Meaning
+fn letters_9(w: &[u8]) -> Option<Token>
     ensures { token_of result ≡ meaning_later 9 0 w.now }
 {
     if is_long(w, 5, 9) {
@@ -215,19 +215,19 @@ fn letters_9(w: &[u8]) -> Meaning
     if is_long(w, 9, 9) {
         return of(9);
     }
-    Meaning::Nothing
+    None
 }
 
-fn letters_8_from_5(w: &[u8]) -> Meaning
+fn letters_8_from_5(w: &[u8]) -> Option<Token>
     ensures { token_of result ≡ meaning_later 8 5 w.now }
 {
     if is_long(w, 31, 8) {
         return of(31);
     }
-    Meaning::Nothing
+    None
 }
 
-fn letters_8(w: &[u8]) -> Meaning
+fn letters_8(w: &[u8]) -> Option<Token>
     ensures { token_of result ≡ meaning_later 8 0 w.now }
 {
     if is_long(w, 7, 8) {
@@ -248,7 +248,7 @@ fn letters_8(w: &[u8]) -> Meaning
     letters_8_from_5(w)
 }
 
-fn letters_7(w: &[u8]) -> Meaning
+fn letters_7(w: &[u8]) -> Option<Token>
     ensures { token_of result ≡ meaning_later 7 0 w.now }
 {
     if is_long(w, 3, 7) {
@@ -260,10 +260,10 @@ fn letters_7(w: &[u8]) -> Meaning
     if is_long(w, 8, 7) {
         return of(8);
     }
-    Meaning::Nothing
+    None
 }
 
-fn letters_6(w: &[u8]) -> Meaning
+fn letters_6(w: &[u8]) -> Option<Token>
     ensures { token_of result ≡ meaning_later 6 0 w.now }
 {
     if is_long(w, 14, 6) {
@@ -278,10 +278,10 @@ fn letters_6(w: &[u8]) -> Meaning
     if is_long(w, 22, 6) {
         return of(22);
     }
-    Meaning::Nothing
+    None
 }
 
-fn letters_5(w: &[u8]) -> Meaning
+fn letters_5(w: &[u8]) -> Option<Token>
     ensures { token_of result ≡ meaning_later 5 0 w.now }
 {
     if is_long(w, 1, 5) {
@@ -299,10 +299,10 @@ fn letters_5(w: &[u8]) -> Meaning
     if is_long(w, 23, 5) {
         return of(23);
     }
-    Meaning::Nothing
+    None
 }
 
-fn letters_4(w: &[u8]) -> Meaning
+fn letters_4(w: &[u8]) -> Option<Token>
     ensures { token_of result ≡ meaning_later 4 0 w.now }
 {
     if is_long(w, 15, 4) {
@@ -314,19 +314,19 @@ fn letters_4(w: &[u8]) -> Meaning
     if is_long(w, 30, 4) {
         return of(30);
     }
-    Meaning::Nothing
+    None
 }
 
-fn letters_3(w: &[u8]) -> Meaning
+fn letters_3(w: &[u8]) -> Option<Token>
     ensures { token_of result ≡ meaning_later 3 0 w.now }
 {
     if is_long(w, 0, 3) {
         return of(0);
     }
-    Meaning::Nothing
+    None
 }
 
-fn letters_2_from_20(w: &[u8]) -> Meaning
+fn letters_2_from_20(w: &[u8]) -> Option<Token>
     ensures { token_of result ≡ meaning_later 2 20 w.now }
 {
     if is_short(w, 29, 2) {
@@ -338,10 +338,10 @@ fn letters_2_from_20(w: &[u8]) -> Meaning
     if is_short(w, 31, 2) {
         return of(31);
     }
-    Meaning::Nothing
+    None
 }
 
-fn letters_2_from_15(w: &[u8]) -> Meaning
+fn letters_2_from_15(w: &[u8]) -> Option<Token>
     ensures { token_of result ≡ meaning_later 2 15 w.now }
 {
     if is_short(w, 21, 2) {
@@ -362,7 +362,7 @@ fn letters_2_from_15(w: &[u8]) -> Meaning
     letters_2_from_20(w)
 }
 
-fn letters_2_from_10(w: &[u8]) -> Meaning
+fn letters_2_from_10(w: &[u8]) -> Option<Token>
     ensures { token_of result ≡ meaning_later 2 10 w.now }
 {
     if is_short(w, 16, 2) {
@@ -383,7 +383,7 @@ fn letters_2_from_10(w: &[u8]) -> Meaning
     letters_2_from_15(w)
 }
 
-fn letters_2_from_5(w: &[u8]) -> Meaning
+fn letters_2_from_5(w: &[u8]) -> Option<Token>
     ensures { token_of result ≡ meaning_later 2 5 w.now }
 {
     if is_short(w, 7, 2) {
@@ -404,7 +404,7 @@ fn letters_2_from_5(w: &[u8]) -> Meaning
     letters_2_from_10(w)
 }
 
-fn letters_2(w: &[u8]) -> Meaning
+fn letters_2(w: &[u8]) -> Option<Token>
     ensures { token_of result ≡ meaning_later 2 0 w.now }
 {
     if is_short(w, 1, 2) {
@@ -425,16 +425,16 @@ fn letters_2(w: &[u8]) -> Meaning
     letters_2_from_5(w)
 }
 
-fn letters_1_from_10(w: &[u8]) -> Meaning
+fn letters_1_from_10(w: &[u8]) -> Option<Token>
     ensures { token_of result ≡ meaning_later 1 10 w.now }
 {
     if is_short(w, 33, 1) {
         return of(33);
     }
-    Meaning::Nothing
+    None
 }
 
-fn letters_1_from_5(w: &[u8]) -> Meaning
+fn letters_1_from_5(w: &[u8]) -> Option<Token>
     ensures { token_of result ≡ meaning_later 1 5 w.now }
 {
     if is_short(w, 14, 1) {
@@ -455,7 +455,7 @@ fn letters_1_from_5(w: &[u8]) -> Meaning
     letters_1_from_10(w)
 }
 
-fn letters_1(w: &[u8]) -> Meaning
+fn letters_1(w: &[u8]) -> Option<Token>
     ensures { token_of result ≡ meaning_later 1 0 w.now }
 {
     if is_short(w, 0, 1) {
@@ -477,7 +477,7 @@ fn letters_1(w: &[u8]) -> Meaning
 }
 
 // The meaning of the row that spells the word, letter case aside, or none.
-pub fn meaning_of(w: &[u8]) -> Meaning
+pub fn meaning_of(w: &[u8]) -> Option<Token>
     ensures { token_of result ≡ meaning_of w.now }
 {
     let n = w.len();
@@ -526,5 +526,5 @@ pub fn meaning_of(w: &[u8]) -> Meaning
     if n == 22 {
         return letters_22(w);
     }
-    Meaning::Nothing
+    None
 }

@@ -1,4 +1,5 @@
 -- What holds of every call: how long a reply can be, and what is left as it was.
+use Rattle.std.specs.Prelude.{Some, None}
 use Prim.Native.Nat.{ℕ, zero, suc, ◌+◌, ◌*◌, ◌-◌, ◌≤◌, ◌<◌}
 use mathlib.Core.Path.{◌≡◌, refl, subst}
 use mathlib.Core.Logic.{◌≢◌}
@@ -14,7 +15,7 @@ use Rattle.base.proofs.PickLaws.{pick_ind}
 use Rattle.base.proofs.TestLaws.{or_neither}
 use Rattle.base.proofs.TextLaws.{length_then, length_decimal}
 use Rattle.base.proofs.OutLaws.{length_put, take_front, take_put, drop_put}
-use Rattle.protocol.specs.Types.{Parsed, Next, Fault, Number, Got, Bad, Ack}
+use Rattle.protocol.specs.Types.{Parsed, Number, Ack}
 use Rattle.megaco.specs.Tokens.{number_at, number_from, number_end, is_mid}
 use Rattle.megaco.specs.Tree.{Action, Transaction, transaction, Part, request, acknowledge, Message, well_formed, fault400, fault403, fault406}
 use Rattle.megaco.specs.Reading.{Read, got, fault, acks_r, elsewhere, numbered, inside, acknowledged, followed, end_or, braces_then, request_then, acks_then, transactions_r, message_r, sender_of}
@@ -36,8 +37,8 @@ use Rattle.laws.proofs.KeptRuns.{Fits, AllFit, FitIn, Follows, part_follows, par
 
 -- a number that was read is within its limit
 abbrev pub Within : ℕ → Number → Type 0
-Within limit (Got v p) = v ≤ limit
-Within limit Bad = Unit {0}
+Within limit (Some (v, p)) = v ≤ limit
+Within limit None = Unit {0}
 
 number_end_lem : (at n v limit : ℕ) → v ≤ limit → Within limit (number_end at n v)
 unfolding number_end
@@ -58,13 +59,13 @@ number_within s at most limit = number_from_lem at most limit (drop at s) at 0 (
 
 few_elsewhere : (k : ℕ) (r : Parsed) (f : ℕ → Message) → ((p : ℕ) → FewIn k (f p)) → FewIn k (elsewhere r f)
 unfolding elsewhere
-few_elsewhere k (Next p) f h = h p
-few_elsewhere k Fault f h = tt
+few_elsewhere k (Some p) f h = h p
+few_elsewhere k None f h = tt
 
 few_numbered : (k limit : ℕ) (r : Number) (f : ℕ → ℕ → Message) → Within limit r → ((v p : ℕ) → v ≤ limit → FewIn k (f v p)) → FewIn k (numbered r f)
 unfolding numbered
-few_numbered k limit (Got v p) f w h = h v p w
-few_numbered k limit Bad f w h = tt
+few_numbered k limit (Some (v, p)) f w h = h v p w
+few_numbered k limit None f w h = tt
 
 few_inside : (k id : ℕ) (r : Read (List Action)) (f : List Action → ℕ → Message) → id ≤ largest → ((acts : List Action) (p : ℕ) → FewIn k (f acts p)) → FewIn k (inside id r f)
 unfolding inside

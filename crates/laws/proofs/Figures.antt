@@ -1,4 +1,5 @@
 -- Blocks (document 02, CR 12): soundness as facts, and what messages do to them.
+use Rattle.std.specs.Prelude.{Ok}
 use Prim.Native.Nat.{ℕ, zero, suc, ◌+◌, ◌*◌, ◌-◌, ◌/◌, ◌%◌, ◌^◌, ◌≤◌, ◌<◌}
 use mathlib.Core.Path.{◌≡◌, refl, sym, ap, ◌∙◌, subst}
 use mathlib.Core.Logic.{◌≢◌, ◌⊎◌, inl, inr}
@@ -11,7 +12,7 @@ use borrow.Author.Tests.{eqb-true, eqb-false, eq-eqb, leb-true, le-leb, not-fals
 use native.Mathlib.Omega.{arith}
 use Rattle.base.specs.Pick.{pick}
 use Rattle.base.proofs.TestLaws.{clash, and_both, both_and, pick_of}
-use Rattle.protocol.specs.Types.{Context, Op, Add, Modify, Subtract, Move, AuditValue, Checked, Passes, View, Values}
+use Rattle.protocol.specs.Types.{Context, Op, Add, Modify, Subtract, Move, AuditValue, Checked, View, Values}
 use Rattle.megaco.specs.Table.{ephemerals, line_terminations, fitted, is_ephemeral}
 use Rattle.megaco.specs.Blocks.{block_words, block_at, with_block, no_packets, cleared, most_jitter, block_is_sound, sound_from, blocks_are_sound}
 use Rattle.megaco.specs.State.{State, wrote, renewed}
@@ -243,7 +244,7 @@ module _ (i : ℕ) (v : View) (b : List ℕ) (k : ℕ) (l : length b ≡ block_w
       none o e n r =
           record { absent = λ q. absurd (clash (sym (ap is_add q.0) ∙ n)); zeroed = λ q. absurd (clash (sym (ap is_add q.0) ∙ n)); stays = λ _. ap (λ (ks : List ℕ). block_at k (cleared ks b)) r }
 
-      passed : (o : Op) → Passed (checks o at i vs v) → Leaves o i v b k (concluded o wild name given vs i at v x Passes)
+      passed : (o : Op) → Passed (checks o at i vs v) → Leaves o i v b k (concluded o wild name given vs i at v x (Ok tt))
       passed Add p =
           let c = cleared_one (leb first i) refl in
           record { absent = λ _. eqb-true v.here 0 (not-false (eqb v.here 0) (search)); zeroed = λ q. c.0 q.1; stays = λ q. c.1 (λ e. q (refl, e, refl)) }

@@ -1,5 +1,6 @@
 -- An action whose topology is folded into one descriptor (document 02, CR 7): it starts as it did, writes and reports the same, and is refused exactly
 -- when it was, if with another code.
+use Rattle.std.specs.Prelude.{Err}
 use Prim.Native.Nat.{ℕ, ◌<◌}
 use mathlib.Core.Path.{◌≡◌, refl, sym, ap, ◌∙◌}
 use mathlib.Core.Bool.{Bool, true, false, ◌&&◌, ◌||◌}
@@ -14,7 +15,7 @@ use Rattle.megaco.specs.Topology.{triples_of, any_topology, Link, links_of, set_
 use Rattle.megaco.specs.Attempt.{Check, check, judge, seen, flows_of, flowing, number_of}
 use Rattle.megaco.specs.Action.{over15, any_given, start_checks, new_record, set_properties, flow_writes, start_writes, start_reports, Start, started_by, started}
 use Rattle.megaco.specs.Transaction.{start, command_steps, no_commands, steps, Course, begin, proceed, step, run, ran, run_transaction}
-use Rattle.protocol.specs.Types.{Context, Null, Numbered, Choose, All, Fails, Seen}
+use Rattle.protocol.specs.Types.{Context, Null, Numbered, Choose, All, Seen}
 use Rattle.megaco.proofs.Squares.{shape_of}
 use Rattle.laws.specs.Passed.{Passed}
 use Rattle.laws.specs.Sound.{Whole}
@@ -154,7 +155,7 @@ pub record SameWrites (x y : Start) : Type 0 where
 -- tests pass, or come to a code
 data PassOrFail (cs : List Check) : Type 0 where
   passed : Passed cs → PassOrFail cs
-  failed : (code : ℕ) → judge cs ≡ Fails code → PassOrFail cs
+  failed : (code : ℕ) → judge cs ≡ Err code → PassOrFail cs
 
 pass_or_fail : (cs : List Check) → PassOrFail cs
 unfolding judge pick

@@ -1,11 +1,12 @@
 -- A run keeps what its commands and its actions' starts keep; and so the length of any table.
+use Rattle.std.specs.Prelude.{Ok, Err}
 use Prim.Native.Nat.{ℕ, ◌-◌}
 use mathlib.Core.Path.{◌≡◌, refl, ◌∙◌}
 use mathlib.Core.Bool.{Bool, false}
 use mathlib.Core.List.{List, [], ◌∷◌}
 use mathlib.Core.Option.{Option, none, some}
 use lib.ListN.{length}
-use Rattle.protocol.specs.Types.{Context, Op, Judged, Wrong, Right, Seen, Values}
+use Rattle.protocol.specs.Types.{Context, Op, Judged, Seen, Values}
 use Rattle.megaco.specs.Topology.{triples_of, Link, links_of}
 use Rattle.megaco.specs.Tree.{Items, Command, command, Property, Transaction, transaction, Message, well_formed, fault400, fault403, fault406, Part, request, acknowledge}
 use Rattle.megaco.specs.Table.{line_terminations, fitted}
@@ -48,8 +49,8 @@ module _ (P : State → Type 0) (G : ℕ → Type 0) (K : Keeps P G) where
   test4_keeps : (op : Op) (name : List ℕ) (given : ℕ) (items : Bool) (j : Judged) (at : Context) (st : State) → P st → G given → JudgedInRange j → forbidden_in_null op at ≡ false
       → no_context op at (seen (number_of at) st.table).held ≡ false → P (from_test4 op name given items j at st).state
   unfolding from_test4 command_error
-  test4_keeps op name given items (Wrong code) at st p g f b l = p
-  test4_keeps op name given items (Right vs) at st p g (right f) b l = K.orders op name given vs (not_for_root op items vs) at st p g f b l
+  test4_keeps op name given items (Err code) at st p g f b l = p
+  test4_keeps op name given items (Ok vs) at st p g (right f) b l = K.orders op name given vs (not_for_root op items vs) at st p g f b l
 
   test2_keeps : (op : Op) (name : List ℕ) (items : Items) (given : ℕ) (at : Context) (st : State) → P st → G given → forbidden_in_null op at ≡ false
       → P (from_test2 op name items given at st).state

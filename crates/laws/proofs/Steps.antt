@@ -1,4 +1,5 @@
 -- A step acts in its footprint only, and by what it sees of its footprint only.
+use Rattle.std.specs.Prelude.{Ok, Err}
 use Prim.Native.Nat.{ℕ, ◌-◌}
 use mathlib.Core.Path.{◌≡◌, refl, sym, ap, ◌∙◌, subst}
 use mathlib.Core.Bool.{Bool, true, false, ◌&&◌, ◌||◌}
@@ -21,7 +22,7 @@ use Rattle.megaco.specs.Attempt.{seen, number_of, look, Effect, effect}
 use Rattle.megaco.specs.Command.{Outcome, outcome, attempts, command_error, action_error, Targets, no_target, gateway, targets, root_targets, targets_of, run_targets, op_of, forbidden_in_null, no_context, not_for_root, from_test4, from_test2, unless_optional, from_test1, run_command}
 use Rattle.megaco.specs.Action.{started}
 use Rattle.megaco.specs.Transaction.{Step, start, command_step, Progress, progress, Course, course, begin, advance, proceed, step}
-use Rattle.protocol.specs.Types.{Context, Op, Name, Termination, Root, Chosen, Unchosen, Wildcard, Unmatched, Unknown, Judged, Wrong, Right, Values, Seen, View, Absent, Outside, Member}
+use Rattle.protocol.specs.Types.{Context, Op, Name, Termination, Root, Chosen, Unchosen, Wildcard, Unmatched, Unknown, Judged, Values, Seen, View, Absent, Outside, Member}
 use Rattle.megaco.proofs.Sizes.{fitted_is, fitted_same}
 use Rattle.laws.proofs.Frame.{AllOurs, nothing, Foot, Closed, Agree}
 use Rattle.laws.proofs.Views.{Seat, seat_known, seat_same, place_same, look_same}
@@ -181,8 +182,8 @@ module _ (lines : ℕ) (N K : ℕ → Type 0) where
 
       local_named : (items : Bool) (j : Judged) → Means (name_of lines name) → Local (λ u. from_test4 op name given items j w u) st
       unfolding from_test4
-      local_named items (Wrong code) m = local_command_error st op name code w s
-      local_named items (Right vs) m =
+      local_named items (Err code) m = local_command_error st op name code w s
+      local_named items (Ok vs) m =
           local_reads st (λ u. name_of (fitted u.table) name) (λ n u. run_targets op name given vs (targets_of op w (not_for_root op items vs) n u.table) w u) (λ u a. ap (λ (k : ℕ). name_of k name) (fitted_same st.table u.table a.table.long))
           (local_targets (not_for_root op items vs) vs (name_of (fitted st.table) name) (subst (λ (k : ℕ). Means (name_of k name)) (sym fit) m))
 

@@ -1,10 +1,11 @@
 -- The values that a command's items give are values that there are, and a property word stays one with them.
+use Rattle.std.specs.Prelude.{Some, None, Ok, Err}
 use Prim.Native.Nat.{ℕ, ◌+◌, ◌*◌, ◌≤◌}
 use mathlib.Core.Bool.{Bool, true, false}
 use mathlib.Core.List.{List, [], ◌∷◌}
 use mathlib.Core.Option.{Option, none, some}
 use native.Mathlib.Omega.{arith}
-use Rattle.protocol.specs.Types.{Given, Keep, To, Judged, Wrong, Right, Kind, InControl, InState, Speech, Released, Session, Side, OfLocal, OfRemote, SdpText, EmptyText, Described, NotInSubset, Descriptors, Op, Add, Modify, Subtract, Move, AuditValue, Values}
+use Rattle.protocol.specs.Types.{Given, Judged, Kind, InControl, InState, Speech, Released, Session, Side, OfLocal, OfRemote, SdpText, EmptyText, Described, NotInSubset, Descriptors, Op, Add, Modify, Subtract, Move, AuditValue, Values}
 use Rattle.megaco.specs.Tree.{Value, plain, quoted, octets, ItemOf, item, Items}
 use Rattle.megaco.specs.Table.{mode_of, state_of}
 use Rattle.megaco.specs.Items.{change, update, onward, mode_given, state_given, value_given, set_value, property_items, items_in, set_speech, speech_given, speech_item, called_in, either, no_descriptors, descriptor_item, media_items, top_items, auditing, audited_items, audit_items, audit_given, unchanged, media_given, no_items, judge_items}
@@ -19,10 +20,10 @@ unfolding update
 update_sound vs w f s = by vs.mode vs.state f.mode f.state
   where
     by : (m n : Given) → change m 0 ≤ 4 → change n 0 ≤ 2 → SoundWord (change m (mode_of w) + 8 * change n (state_of w))
-    by Keep Keep p q = omega arith
-    by Keep (To y) p q = omega arith
-    by (To x) Keep p q = omega arith
-    by (To x) (To y) p q = omega arith
+    by None None p q = omega arith
+    by None (Some y) p q = omega arith
+    by (Some x) None p q = omega arith
+    by (Some x) (Some y) p q = omega arith
 
 -- ---- what items give
 
@@ -53,9 +54,9 @@ value_low InState (some (plain w)) = state_low w
 
 set_in_range : (k : Kind) (g : Given) (vs : Values) → UpTo (limit k) g → InRange vs → JudgedInRange (set_value k g vs)
 unfolding set_value
-set_in_range k Keep vs l f = wrong
-set_in_range InControl (To x) vs l f = right (record { mode = l; state = f.state; local = f.local; remote = f.remote })
-set_in_range InState (To x) vs l f = right (record { mode = f.mode; state = l; local = f.local; remote = f.remote })
+set_in_range k None vs l f = wrong
+set_in_range InControl (Some x) vs l f = right (record { mode = l; state = f.state; local = f.local; remote = f.remote })
+set_in_range InState (Some x) vs l f = right (record { mode = f.mode; state = l; local = f.local; remote = f.remote })
 
 speech_set : (d : Side) (x : Speech) (vs : Values) → SpeechInRange x → InRange vs → InRange (set_speech d x vs)
 unfolding set_speech
@@ -77,8 +78,8 @@ speech_in_range d (some (octets t)) vs f = text_in_range d (read_sdp t) vs (text
 
 onward_in_range : (j : Judged) (f : Values → Judged) → JudgedInRange j → ((vs : Values) → InRange vs → JudgedInRange (f vs)) → JudgedInRange (onward j f)
 unfolding onward
-onward_in_range (Wrong code) f h g = wrong
-onward_in_range (Right vs) f (right h) g = g vs h
+onward_in_range (Err code) f h g = wrong
+onward_in_range (Ok vs) f (right h) g = g vs h
 
 module _ {A : Type 0} where
   property_in_range : (k : Kind) (is : List (ItemOf A)) (seen : Bool) (vs : Values) → InRange vs → JudgedInRange (property_items k is seen vs)

@@ -1,7 +1,7 @@
 -- Where the speech goes (document 02, request 11), by attempts that are computed: R/1 is termination 248 and stands in context 1 with L/1/5, termination 4.
 -- Proved in proofs/SpeechSample.antt.
-use Rattle.std.specs.Prelude.{ℕ, ◌≡◌, false, List, [], ◌∷◌, ◌++◌}
-use Rattle.protocol.specs.Types.{Keep, Speech, Kept, Released, Session, Numbered, Op, Add, Modify, Subtract, Move, Values}
+use Rattle.std.specs.Prelude.{ℕ, ◌≡◌, false, List, [], ◌∷◌, ◌++◌, None}
+use Rattle.protocol.specs.Types.{Speech, Kept, Released, Session, Numbered, Op, Add, Modify, Subtract, Move, Values}
 use Rattle.megaco.specs.State.{state}
 use Rattle.megaco.specs.Table.{speech_words}
 use Rattle.megaco.specs.Reply.{Report, refused}
@@ -11,7 +11,7 @@ use Rattle.laws.specs.Witness.{with_words}
 
 -- what Local and Remote give, and nothing else
 abbrev pub saying : Speech → Speech → Values
-saying l r = record { mode = Keep; state = Keep; audited = false; local = l; remote = r }
+saying l r = record { mode = None; state = None; audited = false; local = l; remote = r }
 
 -- L/1/5 and R/1 in context 1, which hear each other, and L/1/1 in context 2; then the words of speech
 abbrev pub called : List (ℕ × ℕ) → List ℕ

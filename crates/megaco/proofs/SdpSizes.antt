@@ -1,4 +1,5 @@
 -- How large the numbers are that a text of SDP gives.
+use Rattle.std.specs.Prelude.{Some, None}
 use Prim.Native.Nat.{ℕ, ◌+◌, ◌*◌, ◌-◌, ◌^◌, ◌<◌, ◌≤◌}
 use mathlib.Core.Path.{◌≡◌, refl, sym, ◌∙◌}
 use mathlib.Core.Bool.{Bool, true, false}
@@ -13,8 +14,8 @@ use Rattle.base.specs.Lists.{is_at, same}
 use Rattle.megaco.specs.Bytes.{is_digit}
 use Rattle.megaco.specs.Tokens.{number_at, number_from, number_end}
 use Rattle.megaco.specs.Sdp.{lines_of, given_at, plus, joined, dotted_part_at, dotted_pair_at, dotted_at, ending, connection_of, payload_of, audio_of, is_skipped, sdp_line_of, sdp_step, stage_after, sdp_finish, read_sdp}
-use Rattle.megaco.specs.declared.Number.{Number}
-use Rattle.megaco.specs.declared.Number.TheVariants.{Got, Bad}
+use Rattle.megaco.specs.Results.{Number, number}
+use Rattle.megaco.proofs.NumberParts.{same_value, same_next}
 use Rattle.megaco.specs.declared.SdpLine.{SdpLine}
 use Rattle.megaco.specs.declared.SdpLine.TheVariants.{Skipped, Version, Connection, Audio, Strange}
 use Rattle.megaco.specs.declared.SdpStage.{SdpStage}
@@ -24,13 +25,13 @@ use Rattle.megaco.specs.declared.SdpText.TheVariants.{EmptyText, Described, NotI
 
 -- a number that was read is at most its limit
 abbrev pub Small : ℕ → Number → Type 0
-Small n r = (v p : ℕ) → r ≡ Got v p → v ≤ n
+Small n r = (v p : ℕ) → r ≡ number v p → v ≤ n
 
-bad_small : (n : ℕ) → Small n Bad
+bad_small : (n : ℕ) → Small n None
 bad_small n v p e = let z : ◌≡◌ {A = ℕ} 0 1 = cc in absurd (omega arith)
 
-got_small : (n w q : ℕ) → w ≤ n → Small n (Got w q)
-got_small n w q h v p e = let z : w ≡ v = cc in omega arith
+got_small : (n w q : ℕ) → w ≤ n → Small n (number w q)
+got_small n w q h v p e = let z : w ≡ v = same_value e in omega arith
 
 pick_small : (n : ℕ) (t : Bool) (x y : Number) → (t ≡ true → Small n x) → (t ≡ false → Small n y) → Small n (pick t x y)
 unfolding pick
@@ -53,14 +54,14 @@ part_least s at = number_small at 3 255 (drop at s) at 0 (omega arith)
 
 plus_small : (n m a : ℕ) (r : Number) → Small n r → a + n ≤ m → Small m (plus a r)
 unfolding plus
-plus_small n m a (Got w e) h l = got_small m (a + w) e (let k : w ≤ n = h w e refl in omega arith)
-plus_small n m a Bad h l = bad_small m
+plus_small n m a (Some (w, e)) h l = got_small m (a + w) e (let k : w ≤ n = h w e refl in omega arith)
+plus_small n m a None h l = bad_small m
 
 joined_small : (k n m : ℕ) (x : Number) (form s : List ℕ) (f : ℕ → Number) → Small n x → ((p : ℕ) → Small n (f p)) → ((v : ℕ) → v ≤ n → v * k + n ≤ m) → Small m (joined k x form s f)
 unfolding joined
-joined_small k n m (Got v p) form s f h g l =
+joined_small k n m (Some (v, p)) form s f h g l =
     pick_small m (given_at form s p) _ _ (λ _. plus_small n m (v * k) (f (p + length form)) (g (p + length form)) (l v (h v p refl))) (λ _. bad_small m)
-joined_small k n m Bad form s f h g l = bad_small m
+joined_small k n m None form s f h g l = bad_small m
 
 pub pair_least : (s : List ℕ) (at : ℕ) → Small 65535 (dotted_pair_at s at)
 unfolding dotted_pair_at
@@ -91,18 +92,18 @@ pick_line false x y h k = k
 
 connection_ends : (x : Number) (n : ℕ) → Small 4294967295 x → LineSmall (ending x n Connection)
 unfolding ending
-connection_ends (Got v e) n h = pick_line (leb n e) (Connection v) Strange (h v e refl) tt
-connection_ends Bad n h = tt
+connection_ends (Some (v, e)) n h = pick_line (leb n e) (Connection v) Strange (h v e refl) tt
+connection_ends None n h = tt
 
 audio_ends : (p : ℕ) (x : Number) (n : ℕ) → p ≤ 65535 → Small 127 x → LineSmall (ending x n (Audio p))
 unfolding ending
-audio_ends p (Got v e) n k h = pick_line (leb n e) (Audio p v) Strange (k, h v e refl) tt
-audio_ends p Bad n k h = tt
+audio_ends p (Some (v, e)) n k h = pick_line (leb n e) (Audio p v) Strange (k, h v e refl) tt
+audio_ends p None n k h = tt
 
 payload_line : (l : List ℕ) (x : Number) → Small 65535 x → LineSmall (payload_of l x)
 unfolding payload_of
-payload_line l (Got p q) h = pick_line (given_at (text " RTP/AVP ") l q) _ Strange (audio_ends p (number_at l (q + 9) 3 127) (length l) (h p q refl) (number_least l (q + 9) 3 127)) tt
-payload_line l Bad h = tt
+payload_line l (Some (p, q)) h = pick_line (given_at (text " RTP/AVP ") l q) _ Strange (audio_ends p (number_at l (q + 9) 3 127) (length l) (h p q refl) (number_least l (q + 9) 3 127)) tt
+payload_line l None h = tt
 
 line_small : (l : List ℕ) → LineSmall (sdp_line_of l)
 unfolding sdp_line_of connection_of audio_of

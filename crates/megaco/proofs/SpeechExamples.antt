@@ -1,4 +1,5 @@
 -- Local and Remote on a few texts, computed: the readings of document 02, CR 11.
+use Rattle.std.specs.Prelude.{Some, None, Ok, Err}
 use Prim.Native.Nat.{ℕ}
 use mathlib.Core.Path.{◌≡◌, refl}
 use mathlib.Core.Bool.{false}
@@ -10,9 +11,7 @@ use Rattle.megaco.specs.Items.{judge_items}
 use Rattle.megaco.specs.Sdp.{read_sdp}
 use Rattle.megaco.specs.declared.Op.{Op}
 use Rattle.megaco.specs.declared.Op.TheVariants.{Add, Modify, Subtract, AuditValue}
-use Rattle.megaco.specs.declared.Given.TheVariants.{Keep, To}
-use Rattle.megaco.specs.declared.Judged.{Judged}
-use Rattle.megaco.specs.declared.Judged.TheVariants.{Wrong, Right}
+use Rattle.megaco.specs.Results.{Judged}
 use Rattle.megaco.specs.declared.Speech.{Speech}
 use Rattle.megaco.specs.declared.Speech.TheVariants.{Kept, Released, Session}
 use Rattle.megaco.specs.declared.Values.{Values}
@@ -66,37 +65,37 @@ asked op s = by (command_r s 0)
   where
     by : Read Command → Judged
     by (got (command optional wild word name is) e) = judge_items op is
-    by fault = Wrong 403
+    by fault = Err 403
 
 abbrev speech : Speech → Speech → Judged
-speech l r = Right (record { mode = Keep; state = Keep; audited = false; local = l; remote = r })
+speech l r = Ok (record { mode = None; state = None; audited = false; local = l; remote = r })
 
 pub record Asked : Type 0 where
   pub both : asked Modify (text "MF=R/1{M{L{v=0\nc=IN IP4 1.2.3.4\nm=audio 9 RTP/AVP 0\n},Remote {}}}") ≡ speech (Session 16909060 9 0) Released
   -- white space behind the brace is not the text's, at its end it is
   pub blank : asked Add (text "A=$ { media { local { ;c\n } } }") ≡ speech Released Kept
-  pub behind : asked Add (text "A=${M{L{v=0\nc=IN IP4 1.2.3.4\nm=audio 9 RTP/AVP 0 }}}") ≡ Wrong 449
+  pub behind : asked Add (text "A=${M{L{v=0\nc=IN IP4 1.2.3.4\nm=audio 9 RTP/AVP 0 }}}") ≡ Err 449
   -- a brace behind a backslash does not end it, and braces in it do not count
   pub escaped : asked Add (text "A=${M{R{s=\\}{\nv=0\nc=IN IP4 1.2.3.4\nm=audio 9 RTP/AVP 0}}}") ≡ speech Kept (Session 16909060 9 0)
-  pub unended : asked Add (text "A=${M{R{v=0\\}}}") ≡ Wrong 403
-  pub comment : asked Add (text "A=${M{L{;c}}}") ≡ Wrong 403
+  pub unended : asked Add (text "A=${M{R{v=0\\}}}") ≡ Err 403
+  pub comment : asked Add (text "A=${M{L{;c}}}") ≡ Err 403
   -- with a value, with a second word, without braces
-  pub valued : asked Add (text "A=${M{L=5{x}}}") ≡ Wrong 442
-  pub valued_empty : asked Add (text "A=${M{L=5{}}}") ≡ Wrong 403
-  pub bare : asked Add (text "A=${M{R}}") ≡ Wrong 442
-  pub named : asked Add (text "A=${M{L/x{y}}}") ≡ Wrong 444
+  pub valued : asked Add (text "A=${M{L=5{x}}}") ≡ Err 442
+  pub valued_empty : asked Add (text "A=${M{L=5{}}}") ≡ Err 403
+  pub bare : asked Add (text "A=${M{R}}") ≡ Err 442
+  pub named : asked Add (text "A=${M{L/x{y}}}") ≡ Err 444
   -- elsewhere they are items like any other
-  pub top : asked Add (text "A=${L{}}") ≡ Wrong 403
-  pub top_item : asked Add (text "A=${L{x}}") ≡ Wrong 444
-  pub audited : asked AuditValue (text "AV=R/1{AT{M{L{}}}}") ≡ Wrong 403
-  pub other_media : asked Add (text "A=${M/x{L{}}}") ≡ Wrong 403
+  pub top : asked Add (text "A=${L{}}") ≡ Err 403
+  pub top_item : asked Add (text "A=${L{x}}") ≡ Err 444
+  pub audited : asked AuditValue (text "AV=R/1{AT{M{L{}}}}") ≡ Err 403
+  pub other_media : asked Add (text "A=${M/x{L{}}}") ≡ Err 403
   -- in reading order: unknown, repeated, shape, text
-  pub repeated : asked Add (text "A=${M{L{},local=5}}") ≡ Wrong 448
-  pub text_first : asked Add (text "A=${M{L{x},y}}") ≡ Wrong 449
-  pub on_subtract : asked Subtract (text "S=R/1{M{L{\\}x}}}") ≡ Wrong 447
-  pub on_audit : asked AuditValue (text "AV=R/1{M{L{\\}x}}}") ≡ Wrong 447
+  pub repeated : asked Add (text "A=${M{L{},local=5}}") ≡ Err 448
+  pub text_first : asked Add (text "A=${M{L{x},y}}") ≡ Err 449
+  pub on_subtract : asked Subtract (text "S=R/1{M{L{\\}x}}}") ≡ Err 447
+  pub on_audit : asked AuditValue (text "AV=R/1{M{L{\\}x}}}") ≡ Err 447
   -- beside the others
-  pub with_mode : asked Modify (text "MF=R/1{M{R{},O{MO=SR}}}") ≡ Right (record { mode = To 3; state = Keep; audited = false; local = Kept; remote = Released })
+  pub with_mode : asked Modify (text "MF=R/1{M{R{},O{MO=SR}}}") ≡ Ok (record { mode = Some 3; state = None; audited = false; local = Kept; remote = Released })
 
 pub asked_hold : Asked
 unfolding opened asked

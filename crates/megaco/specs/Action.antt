@@ -1,6 +1,6 @@
 -- An action's start (document 01, 'Running'): its tests, and what it sets and reports. `there` is what it sees of its context, `links` are its
 -- triples with their names looked up.
-use Rattle.std.specs.Prelude.{ℕ, ◌+◌, ◌*◌, Bool, true, false, ◌&&◌, ◌||◌, List, [], ◌∷◌, ltb, eqb}
+use Rattle.std.specs.Prelude.{ℕ, ◌+◌, ◌*◌, Bool, true, false, ◌&&◌, ◌||◌, List, [], ◌∷◌, ltb, eqb, Ok, Err}
 use Rattle.base.specs.Pick.{pick}
 use Rattle.megaco.specs.Tree.{Property, priority, emergency, topology}
 use Rattle.megaco.specs.Table.{rec, cell, Write, write, priority_of, emergency_of}
@@ -9,8 +9,7 @@ use Rattle.megaco.specs.Reply.{Report, failed, standing, Acted}
 use Rattle.megaco.specs.Attempt.{Check, judge, flows_of, flowing, check}
 use Rattle.megaco.specs.declared.Context.{Context}
 use Rattle.megaco.specs.declared.Context.TheVariants.{Null, Numbered, Choose, All}
-use Rattle.megaco.specs.declared.Checked.{Checked}
-use Rattle.megaco.specs.declared.Checked.TheVariants.{Passes, Fails}
+use Rattle.megaco.specs.Results.{Checked}
 use Rattle.megaco.specs.declared.Seen.{Seen}
 
 -- ---- its tests
@@ -73,9 +72,9 @@ start_reports ps alone r = pick alone (standing (set_properties ps r) ∷ []) []
 
 -- those of `$` "are given to the context when it comes to be": the record that it will have is kept with the action
 unfoldable pub started_by : Context → List Property → Bool → Seen → List Link → Checked → Start
-started_by c ps alone there links Passes =
+started_by c ps alone there links (Ok tt) =
     record { writes = start_writes c ps there links; acted = record { at = c; given = set_properties ps new_record; said = start_reports ps alone there.held }; going = true }
-started_by c ps alone there links (Fails code) =
+started_by c ps alone there links (Err code) =
     record { writes = []; acted = record { at = c; given = new_record; said = failed code ∷ [] }; going = false }
 
 unfoldable pub started : Context → List Property → Bool → Seen → List Link → Start

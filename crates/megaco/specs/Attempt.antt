@@ -1,6 +1,6 @@
 -- One attempt of a command (document 01, 'Running'): it takes a small view of the table, is judged by it alone (tests 5 and 6), and then writes
 -- a few words. `elim [ case ↦ result | .. ]` goes by cases, on one line.
-use Rattle.std.specs.Prelude.{ℕ, ◌+◌, ◌*◌, ◌-◌, Bool, true, false, not, ◌&&◌, ◌||◌, List, [], ◌∷◌, leb, eqb}
+use Rattle.std.specs.Prelude.{ℕ, ◌+◌, ◌*◌, ◌-◌, Bool, true, false, not, ◌&&◌, ◌||◌, List, [], ◌∷◌, leb, eqb, Ok, Err}
 use Rattle.base.specs.Pick.{pick}
 use Rattle.megaco.specs.Table.{prop, rec, used, flow, speech, low_flow, high_flow, speech_word, place_in, ctx, cell, Write, write, get, most, line_terminations, fitted, is_ephemeral, known, members, free_context, mode_of, state_of}
 use Rattle.megaco.specs.Blocks.{reported}
@@ -12,8 +12,7 @@ use Rattle.megaco.specs.declared.Context.{Context}
 use Rattle.megaco.specs.declared.Context.TheVariants.{Null, Numbered, Choose, All}
 use Rattle.megaco.specs.declared.Op.{Op}
 use Rattle.megaco.specs.declared.Op.TheVariants.{Add, Modify, Subtract, Move, AuditValue}
-use Rattle.megaco.specs.declared.Checked.{Checked}
-use Rattle.megaco.specs.declared.Checked.TheVariants.{Passes, Fails}
+use Rattle.megaco.specs.Results.{Checked}
 use Rattle.megaco.specs.declared.Speech.{Speech}
 use Rattle.megaco.specs.declared.Speech.TheVariants.{Kept, Released, Session}
 use Rattle.megaco.specs.declared.Values.{Values}
@@ -26,8 +25,8 @@ pub data Check : Type 0 where
   check : Bool → ℕ → Check
 
 unfoldable pub judge : List Check → Checked
-judge [] = Passes
-judge (check b code ∷ cs) = let r = judge cs in pick b (Fails code) r
+judge [] = Ok tt
+judge (check b code ∷ cs) = let r = judge cs in pick b (Err code) r
 
 -- ---- what an attempt sees of the table
 abbrev pub unseen : Seen
@@ -172,9 +171,9 @@ told_of op audited word n i x =
 
 -- "A success, and an attempt of a wildcard, bears the full name with capital letters; other failures the bytes received"
 unfoldable pub concluded : Op → Bool → List ℕ → ℕ → Values → ℕ → Context → View → Block → Checked → Effect
-concluded op wild name given vs i at v x Passes =
+concluded op wild name given vs i at v x (Ok tt) =
     record { writes = changes op at given i vs v; blocks = renews op v.lines i; report = done op (name_text v.lines i) (told_of op vs.audited v.word v.lines i x); at = settled at v; good = true }
-concluded op wild name given vs i at v x (Fails code) =
+concluded op wild name given vs i at v x (Err code) =
     record { writes = []; blocks = []; report = refused op (pick wild (name_text v.lines i) name) code; at = at; good = false }
 
 -- by the view and the block of termination i

@@ -1,5 +1,5 @@
 -- One command (document 01, 'Running'): its tests 1 to 6 in order, the last two for each attempt, and what it leaves.
-use Rattle.std.specs.Prelude.{ℕ, ◌+◌, ◌-◌, Bool, true, false, not, ◌&&◌, ◌||◌, List, [], ◌∷◌, eqb}
+use Rattle.std.specs.Prelude.{ℕ, ◌+◌, ◌-◌, Bool, true, false, not, ◌&&◌, ◌||◌, List, [], ◌∷◌, eqb, Ok, Err}
 use Rattle.std.proofs.Math.Option.{Option, none, some}
 use Rattle.base.specs.Pick.{pick}
 use Rattle.base.specs.Bytes.{text}
@@ -20,8 +20,7 @@ use Rattle.megaco.specs.declared.Op.TheVariants.{Add, Modify, Subtract, Move, Au
 use Rattle.megaco.specs.declared.Range.{Range}
 use Rattle.megaco.specs.declared.Name.{Name}
 use Rattle.megaco.specs.declared.Name.TheVariants.{Termination, Root, Chosen, Unchosen, Wildcard, Unmatched, Unknown}
-use Rattle.megaco.specs.declared.Judged.{Judged}
-use Rattle.megaco.specs.declared.Judged.TheVariants.{Wrong, Right}
+use Rattle.megaco.specs.Results.{Judged}
 use Rattle.megaco.specs.declared.Values.{Values}
 
 -- ---- what a command leaves
@@ -142,8 +141,8 @@ run_targets op name given vs (targets wild is) at st = attempts op wild name giv
 -- ---- the tests in order
 -- test 4 after test 3
 unfoldable pub from_test4 : Op → List ℕ → ℕ → Bool → Judged → Context → State → Outcome
-from_test4 op name given items (Wrong code) at st = command_error op name code at st
-from_test4 op name given items (Right vs) at st = run_targets op name given vs (targets_of op at (not_for_root op items vs) (name_of (fitted st.table) name) st.table) at st
+from_test4 op name given items (Err code) at st = command_error op name code at st
+from_test4 op name given items (Ok vs) at st = run_targets op name given vs (targets_of op at (not_for_root op items vs) (name_of (fitted st.table) name) st.table) at st
 
 -- tests 2 to 6
 unfoldable pub from_test2 : Op → List ℕ → Items → ℕ → Context → State → Outcome

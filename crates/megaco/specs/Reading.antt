@@ -1,5 +1,5 @@
 -- Bytes to tree (document 01, 'The text', in Annex B.2's order). A reader gives a part's tree and the place after it and its white space, or a fault.
-use Rattle.std.specs.Prelude.{ℕ, zero, suc, ◌+◌, ◌-◌, Bool, false, not, ◌&&◌, ◌||◌, List, [], ◌∷◌, length, get_or, ltb, eqb}
+use Rattle.std.specs.Prelude.{ℕ, zero, suc, ◌+◌, ◌-◌, Bool, false, not, ◌&&◌, ◌||◌, List, [], ◌∷◌, length, get_or, ltb, eqb, Some, None}
 use Rattle.std.proofs.Math.Option.{Option, none, some}
 use Rattle.base.specs.Pick.{pick}
 use Rattle.base.specs.Lists.{is_at, part}
@@ -12,10 +12,7 @@ use Rattle.megaco.specs.declared.Token.TheVariants.{AuditToken, MediaToken, Loca
 use Rattle.megaco.specs.Tokens.{mark_at, sign_at, row_at, word_at, keyword_at, termination_at, number_at, value_at, octets_at, m_id_at, at_least}
 use Rattle.megaco.specs.Tree.{Value, plain, quoted, octets, ItemOf, item, Item, Command, command, Triple, triple, Property, priority, emergency, topology, Action, action, Transaction, transaction, Message, well_formed, fault400, fault403, fault406, Part, request, acknowledge}
 use Rattle.megaco.specs.declared.Ack.{Ack}
-use Rattle.megaco.specs.declared.Parsed.{Parsed}
-use Rattle.megaco.specs.declared.Parsed.TheVariants.{Next, Fault}
-use Rattle.megaco.specs.declared.Number.{Number}
-use Rattle.megaco.specs.declared.Number.TheVariants.{Got, Bad}
+use Rattle.megaco.specs.Results.{Parsed, Number}
 use Rattle.megaco.specs.declared.Class.TheVariants.{WordByte}
 use Rattle.megaco.specs.declared.Context.{Context}
 use Rattle.megaco.specs.declared.Context.TheVariants.{Null, Numbered, Choose, All}
@@ -34,17 +31,17 @@ bind fault f = fault
 
 -- a part that leaves nothing in the tree
 unfoldable pub skip : {B : Type 0} → Parsed → (ℕ → Read B) → Read B
-skip (Next p) f = f p
-skip Fault f = fault
+skip (Some p) f = f p
+skip None f = fault
 
 -- a part whose tree is told by its place and its end
 unfoldable pub reading : {A : Type 0} → Parsed → (ℕ → A) → Read A
-reading (Next p) f = got (f p) p
-reading Fault f = fault
+reading (Some p) f = got (f p) p
+reading None f = fault
 
 unfoldable pub read_number : {A : Type 0} → Number → (ℕ → A) → Read A
-read_number (Got v p) f = got (f v) p
-read_number Bad f = fault
+read_number (Some (v, p)) f = got (f v) p
+read_number None f = fault
 
 -- a part and the white space after it
 unfoldable pub spaced : {A : Type 0} → List ℕ → Read A → Read A
@@ -120,8 +117,8 @@ unfoldable pub media_here : List ℕ → ℕ → Bool
 media_here s at = not (is_at s (row_at WordByte s at) slash) && spells MediaToken (word_here s at)
 
 unfoldable pub brace_from : List ℕ → Parsed → Bool
-brace_from s (Next p) = is_at s p left_brace
-brace_from s Fault = false
+brace_from s (Some p) = is_at s p left_brace
+brace_from s None = false
 
 -- Local or Remote stands here, and a brace comes next
 unfoldable pub speech_here : List ℕ → ℕ → Bool
@@ -277,16 +274,16 @@ acks_r s at =
 unfoldable pub actions_r : List ℕ → ℕ → Read (List Action)
 actions_r s at = skip (white_at s at) (λ p. bind (list_r (action_r s) s 16 p) (λ acts q. skip (mark_at right_brace s q) (got acts)))
 
--- "Fault elsewhere: ER=400{}": of a part, and of a number, that stands outside a transaction's braces
+-- "None elsewhere: ER=400{}": of a part, and of a number, that stands outside a transaction's braces
 unfoldable pub elsewhere : Parsed → (ℕ → Message) → Message
-elsewhere (Next p) f = f p
-elsewhere Fault f = fault400
+elsewhere (Some p) f = f p
+elsewhere None f = fault400
 
 unfoldable pub numbered : Number → (ℕ → ℕ → Message) → Message
-numbered (Got v p) f = f v p
-numbered Bad f = fault400
+numbered (Some (v, p)) f = f v p
+numbered None f = fault400
 
--- "Fault between a transaction's opening and closing brace": 403
+-- "None between a transaction's opening and closing brace": 403
 unfoldable pub inside : ℕ → Read (List Action) → (List Action → ℕ → Message) → Message
 inside id (got acts p) f = f acts p
 inside id fault f = fault403 id
@@ -329,7 +326,7 @@ transactions_r (suc k) s at =
 
 -- "MEGACO `/`", before the version
 unfoldable pub start_at : List ℕ → Parsed
-start_at s = after (white_at s 0) (λ p. after (pick (is_at s p 0x21) (Next (p + 1)) (keyword_at MegacopToken s p)) (mark_at slash s))
+start_at s = after (white_at s 0) (λ p. after (pick (is_at s p 0x21) (Some (p + 1)) (keyword_at MegacopToken s p)) (mark_at slash s))
 
 -- the mId, with white space on both sides
 unfoldable pub sender_at : List ℕ → ℕ → Parsed

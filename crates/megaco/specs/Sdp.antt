@@ -1,12 +1,11 @@
 -- Our SDP subset (document 02, CR 11; RFC 2327): what a text in the braces of Local or Remote says.
-use Rattle.std.specs.Prelude.{ℕ, ◌+◌, ◌*◌, Bool, true, false, ◌&&◌, ◌||◌, not, List, [], ◌∷◌, length, drop, eqb, leb}
+use Rattle.std.specs.Prelude.{ℕ, ◌+◌, ◌*◌, Bool, true, false, ◌&&◌, ◌||◌, not, List, [], ◌∷◌, length, drop, eqb, leb, Some, None}
 use Rattle.base.specs.Pick.{pick}
 use Rattle.base.specs.Bytes.{text}
 use Rattle.base.specs.Lists.{every, same, is_at}
 use Rattle.megaco.specs.Bytes.{equal, is_line_end}
 use Rattle.megaco.specs.Tokens.{letter_at, number_at}
-use Rattle.megaco.specs.declared.Number.{Number}
-use Rattle.megaco.specs.declared.Number.TheVariants.{Got, Bad}
+use Rattle.megaco.specs.Results.{Number, number}
 use Rattle.megaco.specs.declared.SdpLine.{SdpLine}
 use Rattle.megaco.specs.declared.SdpLine.TheVariants.{Skipped, Version, Connection, Audio, Strange}
 use Rattle.megaco.specs.declared.SdpStage.{SdpStage}
@@ -46,12 +45,12 @@ given_at form s at = begins form (drop at s)
 
 -- a number, then given bytes, then another number: the first counts k times
 unfoldable pub plus : ℕ → Number → Number
-plus a (Got w e) = Got (a + w) e
-plus a Bad = Bad
+plus a (Some (w, e)) = number (a + w) e
+plus a None = None
 
 unfoldable pub joined : ℕ → Number → List ℕ → List ℕ → (ℕ → Number) → Number
-joined k (Got v p) form s next = pick (given_at form s p) (plus (v * k) (next (p + length form))) Bad
-joined k Bad form s next = Bad
+joined k (Some (v, p)) form s next = pick (given_at form s p) (plus (v * k) (next (p + length form))) None
+joined k None form s next = None
 
 -- "an mId's dotted numbers", "first number highest"
 unfoldable pub dotted_part_at : List ℕ → ℕ → Number
@@ -65,8 +64,8 @@ dotted_at s at = joined 65536 (dotted_pair_at s at) (text ".") s (dotted_pair_at
 
 -- a number that ends the line
 unfoldable pub ending : Number → ℕ → (ℕ → SdpLine) → SdpLine
-ending (Got v e) n f = pick (leb n e) (f v) Strange
-ending Bad n f = Strange
+ending (Some (v, e)) n f = pick (leb n e) (f v) Strange
+ending None n f = Strange
 
 -- "`c=IN IP4` and an mId's dotted numbers"
 unfoldable pub connection_of : List ℕ → SdpLine
@@ -74,8 +73,8 @@ connection_of l = pick (given_at (text "c=IN IP4 ") l 0) (ending (dotted_at l 9)
 
 -- "`m=audio` port 0..65535 (1 to 5 digits) `RTP/AVP` and one payload type 0..127 (1 to 3), single spaces"
 unfoldable pub payload_of : List ℕ → Number → SdpLine
-payload_of l (Got p q) = pick (given_at (text " RTP/AVP ") l q) (ending (number_at l (q + 9) 3 127) (length l) (Audio p)) Strange
-payload_of l Bad = Strange
+payload_of l (Some (p, q)) = pick (given_at (text " RTP/AVP ") l q) (ending (number_at l (q + 9) 3 127) (length l) (Audio p)) Strange
+payload_of l None = Strange
 
 unfoldable pub audio_of : List ℕ → SdpLine
 audio_of l = pick (given_at (text "m=audio ") l 0) (payload_of l (number_at l 8 5 65535)) Strange

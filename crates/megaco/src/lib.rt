@@ -5,20 +5,6 @@ ghost use Rattle.std.specs.Prelude.{◌≡◌};
 ghost use Rattle.megaco.specs.Attempt.{number_of, is_choose};
 ghost use Rattle.megaco.specs.Command.{is_add, is_subtract, in_place, is_null};
 
-// What a reader of one part finds: the place after it, or that the part does not stand there.
-#[derive(Clone, Copy)]
-pub enum Parsed {
-    Next(usize),
-    Fault,
-}
-
-// What a reader of a number finds: the value and the place after it, or that no such number stands there.
-#[derive(Clone, Copy)]
-pub enum Number {
-    Got { value: u32, next: usize },
-    Bad,
-}
-
 // Classes of bytes that may stand in a row: in a word, a name, a plain value, a quoted value, a domain name.
 #[derive(Clone, Copy)]
 pub enum Class {
@@ -209,13 +195,6 @@ pub enum Name {
     Unknown,
 }
 
-// A value given by a command's items, or none.
-#[derive(Clone, Copy)]
-pub enum Given {
-    Keep,
-    To(u32),
-}
-
 // Where speech goes, as Local or Remote gives it: nothing is given; an empty text; an address, a port and a payload type.
 #[derive(Clone, Copy)]
 pub enum Speech {
@@ -227,25 +206,11 @@ pub enum Speech {
 // What a command's items ask: the mode and the state that they give, whether they audit both, and what Local and Remote give.
 #[derive(Clone, Copy)]
 pub struct Values {
-    pub mode: Given,
-    pub state: Given,
+    pub mode: Option<u32>,
+    pub state: Option<u32>,
     pub audited: bool,
     pub local: Speech,
     pub remote: Speech,
-}
-
-// A command's items: the first code in reading order, or the values given.
-#[derive(Clone, Copy)]
-pub enum Judged {
-    Wrong(u32),
-    Right(Values),
-}
-
-// What tests come to: every one is passed, or the code of the first that fails.
-#[derive(Clone, Copy)]
-pub enum Checked {
-    Passes,
-    Fails(u32),
 }
 
 // Which property a descriptor holds: Mode in LocalControl, ServiceStates in TerminationState.

@@ -2,14 +2,15 @@
 use Prim.Native.Nat.{ℕ, suc, ◌+◌, ◌*◌, ◌-◌, ◌<◌, ◌≤◌}
 use mathlib.Core.Path.{◌≡◌, refl, sym, ap, ◌∙◌}
 use mathlib.Core.List.{List, [], ◌∷◌}
-use mathlib.Core.Bool.{Bool, true, false, not, ◌&&◌, ◌||◌, and-false}
+use mathlib.Core.Bool.{Bool, true, false, cond, not, ◌&&◌, ◌||◌, and-false}
 use native.Mathlib.Numerals.{add-one}
-use native.Mathlib.Nat.{sub-zero}
 use native.Mathlib.Omega.{arith}
 use lib.ListN.{length, get_or, take, drop, length-drop, drop_of_length-le}
-use lib.Seq.{drop-cons, take_all, take-nil}
+use lib.Seq.{take_all, take-nil}
 use lib.Dec.{leb, eqb}
-use borrow.Author.Tests.{eq-eqb, ne_eqb, leb-true, lt-leb}
+use borrow.Author.Tests.{ne_eqb, leb-true, lt-leb}
+use Rattle.std.proofs.Common.{Some, None, nat_lt}
+use Rattle.std.specs.List.{list_any, position, position_or_len}
 use Rattle.base.specs.Pick.{pick}
 use Rattle.base.specs.Lists.{same, has, before, behind}
 use Rattle.base.specs.Bytes.{text}
@@ -20,35 +21,26 @@ use Rattle.megaco.specs.Names.{numeral, within, line_name, ephemeral_name, plain
 use Rattle.protocol.specs.Types.{ChannelsOf, Name, Termination, Root, Chosen, Unchosen, Wildcard, Unmatched, Unknown}
 use Rattle.names.specs.Digits.{one_digit, two_digits}
 
--- ---- loops over bytes
+-- ---- bytes that are looked for
 
-module _ (b : ℕ) (l : List ℕ) (i : ℕ) (q : Bool) (inv : q ≡ has b (drop i l)) where
-  pub has_on : i < length l → (get_or l i 0 ≡ b → ⊥) → q ≡ has b (drop (i + 1) l)
-  unfolding has pick
-  has_on h n = inv ∙ rw (drop-cons l i 0, ne_eqb _ _ n, add-one)
+pub has_is : (b : ℕ) (l : List ℕ) → has b l ≡ list_any (λ x. eqb x b) l
+unfolding has pick
+has_is b [] = refl
+has_is b (x ∷ l) = by (eqb x b) (has_is b l)
+  where
+    by : (t : Bool) → has b l ≡ list_any (λ y. eqb y b) l → pick t true (has b l) ≡ (t || list_any (λ y. eqb y b) l)
+    by true e = refl
+    by false e = e
 
-  pub has_here : i < length l → get_or l i 0 ≡ b → true ≡ q
-  unfolding has pick
-  has_here h e = sym (inv ∙ rw (drop-cons l i 0, eq-eqb _ _ e))
-
-  pub has_end : length l ≤ i → false ≡ q
-  unfolding has
-  has_end h = sym (inv ∙ rw (drop_of_length-le l h))
-
-module _ (b : ℕ) (l : List ℕ) (i q : ℕ) (inv : q ≡ i + length (before b (drop i l))) where
-  pub before_on : i < length l → (get_or l i 0 ≡ b → ⊥) → q ≡ i + 1 + length (before b (drop (i + 1) l))
-  unfolding before pick
-  before_on h n =
-      let s : length (before b (drop i l)) ≡ suc (length (before b (drop (i + 1) l))) = rw (drop-cons l i 0, ne_eqb _ _ n, add-one) in
-      omega arith
-
-  pub before_here : i < length l → get_or l i 0 ≡ b → i ≡ q
-  unfolding before pick
-  before_here h e = let s : length (before b (drop i l)) ≡ 0 = rw (drop-cons l i 0, eq-eqb _ _ e) in omega arith
-
-  pub before_end : length l ≤ i → i ≡ q
-  unfolding before
-  before_end h = let s : length (before b (drop i l)) ≡ 0 = rw (drop_of_length-le l h) in omega arith
+-- the place of a byte is the length of what stands before it
+place_is : (b : ℕ) (l : List ℕ) → position_or_len (λ x. eqb x b) l ≡ length (before b l)
+unfolding before pick
+place_is b [] = refl
+place_is b (x ∷ l) = by (eqb x b) (place_is b l)
+  where
+    by : (t : Bool) → position_or_len (λ y. eqb y b) l ≡ length (before b l) → cond (not t) (1 + position_or_len (λ y. eqb y b) l) 0 ≡ length (pick {A = List ℕ} t [] (x ∷ before b l))
+    by true e = refl
+    by false e = omega (arith, e)
 
 -- ---- parts of a name
 
@@ -69,22 +61,36 @@ drop_behind b (x ∷ l) = at (eqb x b) (drop_behind b l)
     at true e = refl
     at false e = e
 
-module _ (n : List ℕ) (p : ℕ) (e : p ≡ length (before slash n)) where
-  pub part_before : take (p - 0) n ≡ before slash n
-  part_before = rw (sub-zero, e) (take_before slash n)
+module _ (n : List ℕ) (p : ℕ) (e : Some p ≡ position (λ b. eqb b slash) n) where
+  place_found : p ≡ length (before slash n)
+  place_found = by (nat_lt (position_or_len (λ b. eqb b slash) n) (length n)) e ∙ place_is slash n
+    where
+      by : (t : Bool) → Some p ≡ cond t (Some (position_or_len (λ b. eqb b slash) n)) None → p ≡ position_or_len (λ b. eqb b slash) n
+      by true f = cc
+      by false f = absurd cc
 
-  rest : drop (p + 1) n ≡ behind slash n
-  rest = rw (add-one, e) (drop_behind slash n)
+  pub before_found : take p n ≡ before slash n
+  before_found = rw place_found (take_before slash n)
 
-  pub part_behind : take (length n - (p + 1)) (drop (p + 1) n) ≡ behind slash n
-  part_behind = take_all (length n - (p + 1)) (drop (p + 1) n) (omega (arith, length-drop (p + 1) n)) ∙ rest
+  pub behind_found : take (length n - (p + 1)) (drop (p + 1) n) ≡ behind slash n
+  behind_found = take_all (length n - (p + 1)) (drop (p + 1) n) (omega (arith, length-drop (p + 1) n)) ∙ rw (add-one, place_found) (drop_behind slash n)
 
-  -- no `/`
-  pub part_none : length n ≤ p → take (length n - p) (drop p n) ≡ behind slash n
-  part_none h =
-      let k : length n ≤ p + 1 = omega arith in
-      let none : drop (p + 1) n ≡ [] = drop_of_length-le n k in
-      rw (drop_of_length-le n h) (take-nil (length n - p) ∙ sym none ∙ rest)
+module _ (n : List ℕ) (e : None ≡ position (λ b. eqb b slash) n) where
+  no_place : length n ≤ length (before slash n)
+  no_place = by (nat_lt (position_or_len (λ b. eqb b slash) n) (length n)) refl e
+    where
+      by : (t : Bool) → nat_lt (position_or_len (λ b. eqb b slash) n) (length n) ≡ t → None ≡ cond t (Some (position_or_len (λ b. eqb b slash) n)) None → length n ≤ length (before slash n)
+      by true o f = absurd cc
+      by false o f = grind (arith, place_is slash n)
+
+  pub before_none : n ≡ before slash n
+  before_none = sym (take_all (length (before slash n)) n no_place) ∙ take_before slash n
+
+  pub behind_none : take (length n - length n) (drop (length n) n) ≡ behind slash n
+  behind_none =
+      let k : length n ≤ suc (length (before slash n)) = omega (arith, no_place) in
+      let h : length n ≤ length n = omega arith in
+      rw (drop_of_length-le n h) (take-nil (length n - length n) ∙ sym (drop_of_length-le n k) ∙ drop_behind slash n)
 
 -- ---- letter case
 

@@ -1,7 +1,7 @@
 // Names of terminations: what the bytes of a name mean. Letter case is folded as they are read.
 #![tactic(auto)]
 
-ghost use Rattle.std.specs.Prelude.{◌≡◌, ◌-◌, ◌≤◌, length};
+ghost use Rattle.std.specs.Prelude.{◌≡◌, ◌-◌, position, eqb};
 ghost use Rattle.base.specs.Lists.{has, before, behind};
 ghost use Rattle.megaco.specs.Bytes.{slash, capitals};
 ghost use Rattle.megaco.specs.Names.{numeral, within, line_name, ephemeral_name, plain_name, line_range, wildcard_name, name_of, in_range};
@@ -93,6 +93,7 @@ fn plain_name(lines: u32, n: &[u8]) -> Name
 }
 
 // `L/l/s`
+#[tactic(auto, using(crate::proofs::NameLaws::line_yes, crate::proofs::NameLaws::line_no))]
 fn line_name(lines: u32, l: u32, s: u32) -> Name
     ensures { result ≡ line_name lines l s }
 {
@@ -103,6 +104,7 @@ fn line_name(lines: u32, l: u32, s: u32) -> Name
 }
 
 // `R/n`
+#[tactic(auto, using(crate::proofs::NameLaws::ephemeral_yes, crate::proofs::NameLaws::ephemeral_no))]
 fn ephemeral_name(lines: u32, n: u32) -> Name
     ensures { result ≡ ephemeral_name lines n }
 {
@@ -114,7 +116,8 @@ fn ephemeral_name(lines: u32, n: u32) -> Name
 
 // ---- numbers in names
 
-// A number of one or two digits without a leading zero; 0 for any other bytes.
+// A number of one or two digits without a leading zero; 0 for any other bytes, as the definition `numeral` has it.
+#[tactic(auto, using(crate::proofs::NameLaws::numeral_one, crate::proofs::NameLaws::numeral_two, crate::proofs::NameLaws::numeral_none))]
 fn numeral(n: &[u8]) -> u32
     ensures { result ≡ numeral n.now }
 {
@@ -130,6 +133,7 @@ fn numeral(n: &[u8]) -> u32
 // The digit 0, as a number is reckoned with.
 const ZERO: u32 = b'0' as u32;
 
+#[tactic(auto, unfolding(crate::specs::Digits::one_digit, base::specs::Pick::pick))]
 fn one_digit(a: u8) -> u32
     ensures { result ≡ one_digit a }
 {
@@ -139,6 +143,7 @@ fn one_digit(a: u8) -> u32
     0
 }
 
+#[tactic(auto, using(crate::proofs::NameLaws::two_yes, crate::proofs::NameLaws::two_no))]
 fn two_digits(a: u8, b: u8) -> u32
     ensures { result ≡ two_digits a b }
 {
@@ -148,61 +153,55 @@ fn two_digits(a: u8, b: u8) -> u32
     0
 }
 
+#[tactic(auto, unfolding(megaco::specs::Names::within))]
 fn within(x: u32, most: u32) -> bool
     ensures { result ≡ within x most }
 {
-    (0 < x) & (x <= most)
+    (1..=most).contains(&x)
 }
 
 // A difference; 0 where there is none.
 fn less(x: u32, y: u32) -> u32
     ensures { result ≡ x - y }
 {
-    if x < y { 0 } else { x - y }
+    x.saturating_sub(y)
 }
 
 // ---- bytes
 
 // What stands before the first `/`, all if there is none.
+#[tactic(auto, using(crate::proofs::NameLaws::before_found, crate::proofs::NameLaws::before_none))]
 fn before_slash(n: &[u8]) -> &[u8]
     ensures { result.now ≡ before slash n.now }
 {
-    let p = slash_place(n);
-    &n[0..p]
+    match slash_place(n) {
+        Some(p) => &n[..p],
+        None => n,
+    }
 }
 
 // What stands behind the first `/`, nothing if there is none.
+#[tactic(auto, using(crate::proofs::NameLaws::behind_found, crate::proofs::NameLaws::behind_none))]
 fn behind_slash(n: &[u8]) -> &[u8]
     ensures { result.now ≡ behind slash n.now }
 {
-    let p = slash_place(n);
-    if p < n.len() { &n[p + 1..] } else { &n[p..] }
+    match slash_place(n) {
+        Some(p) => &n[p + 1..],
+        None => &n[n.len()..],
+    }
 }
 
-// The place of the first `/`, the end if there is none.
-fn slash_place(n: &[u8]) -> usize
-    ensures { (result ≡ length (before slash n.now)) × (result ≤ length n.now) }
+// The place of the first `/`.
+fn slash_place(n: &[u8]) -> Option<usize>
+    ensures { result ≡ position (λ b. eqb b slash) n.now }
 {
-    let mut i: usize = 0;
-    while i < n.len() {
-        if n[i] == b'/' {
-            return i;
-        }
-        i += 1;
-    }
-    i
+    n.iter().position(|b| *b == b'/')
 }
 
 // Whether a byte stands in a name.
+#[tactic(auto, using(std::proofs::lemmas::Grind::common_steps, crate::proofs::NameLaws::has_is))]
 fn has_byte(n: &[u8], b: u8) -> bool
     ensures { result ≡ has b n.now }
 {
-    let mut i: usize = 0;
-    while i < n.len() {
-        if n[i] == b {
-            return true;
-        }
-        i += 1;
-    }
-    false
+    n.contains(&b)
 }

@@ -7,25 +7,19 @@ ghost use Rattle.megaco.specs.Table.{priority_of, emergency_of};
 pub fn low(a: usize, b: usize) -> usize
     ensures { result ≡ min a b }
 {
-    if a < b { a } else { b }
+    a.min(b)
 }
 
 // The priority in a context's record.
 pub fn priority(held: u32) -> u32
     ensures { result ≡ priority_of held }
 {
-    if held == 0 {
-        return 0;
-    }
-    (held - 1) % 16
+    held.saturating_sub(1) % 16
 }
 
 // 1 where a context's record tells an emergency, else 0.
 pub fn emergency(held: u32) -> u32
     ensures { result ≡ emergency_of held }
 {
-    if held == 0 {
-        return 0;
-    }
-    (held - 1) / 16
+    held.saturating_sub(1) / 16
 }

@@ -11,10 +11,13 @@ use Rattle.base.specs.Pick.{pick}
 use Rattle.base.proofs.TestLaws.{clash, and_left, and_right}
 use Rattle.megaco.specs.Reading.{Read, got}
 use Rattle.digits.specs.Symbols.{symbol_of, symbols_of, takes, dotted}
-use Rattle.digits.specs.DigitMap.{element_at, element_then, string_f}
+use Rattle.digits.specs.DigitMap.{SelectorRead, element_at, element_then, string_f}
 use Rattle.digits.specs.Dialling.{at_end, matches_one}
+use Rattle.std.specs.Prelude.{Some, None, Ok, Err}
+use Rattle.std.specs.declared.option.Option.{Option as Maybe}
 use Rattle.digits.specs.declared.Selector.{Selector}
-use Rattle.digits.specs.declared.Selector.TheVariants.{Takes, Absent, Malformed}
+use Rattle.digits.specs.declared.Malformed.{Malformed}
+use Rattle.digits.specs.Ways.{either}
 use Rattle.digits.specs.declared.Reach.{Reach}
 use Rattle.digits.proofs.LanguageLaws.{at_start}
 use Rattle.digits.proofs.ReadLaws.{Proper, element_of}
@@ -40,27 +43,27 @@ some_left v h = omega arith
 
 -- ---- the pattern
 
-opened : (s : List ℕ) (y : Selector) → element_at s ≡ y → (k left : ℕ) (a : List ℕ) (n : ℕ) → string_f k s left ≡ got a n
+opened : (s : List ℕ) (y : SelectorRead) → element_at s ≡ y → (k left : ℕ) (a : List ℕ) (n : ℕ) → string_f k s left ≡ got a n
     → (j : ℕ) × (element_then y left (λ p l. string_f j (drop p s) l) ≡ got a n)
 unfolding string_f
 opened s y e zero left a n f = let z : true ≡ false = cc in absurd (clash z)
 opened s y e (suc j) left a n f = (j, rw (← e) f)
 
-module _ (s : List ℕ) (x : Selector) (e : x ≡ element_at s) where
-  pub tries_malformed : (w : List ℕ) (r : Reach) → x ≡ Malformed → Tries s w r
+module _ (s : List ℕ) (x : SelectorRead) (e : x ≡ element_at s) where
+  pub tries_malformed : (w : List ℕ) (r : Reach) (bad : Malformed) → x ≡ Err bad → Tries s w r
   unfolding element_then
-  tries_malformed w r f =
-      record { to = λ k left a n g. let y = opened s Malformed (sym e ∙ f) k left a n g in let q = y.1 in let z : true ≡ false = cc in absurd (clash z) }
+  tries_malformed w r bad f =
+      record { to = λ k left a n g. let y = opened s (Err bad) (sym e ∙ f) k left a n g in let q = y.1 in let z : true ≡ false = cc in absurd (clash z) }
 
-  pub tries_end : (v : List ℕ) → x ≡ Absent → Tries s (symbols_of v) (record { matched = eqb (length v) 0; longer = false })
+  pub tries_end : (v : List ℕ) (o : Maybe Selector) (m : Bool) → x ≡ Ok o → o ≡ None → m ≡ eqb (length v) 0 → Tries s (symbols_of v) (record { matched = m; longer = false })
   unfolding element_then matches_one
-  tries_end v f =
+  tries_end v o m f h d =
       record {
         to = λ k left a n g.
-            let y = opened s Absent (sym e ∙ f) k left a n g in
+            let y = opened s (Ok None) (sym e ∙ (rw h at f)) k left a n g in
             let q : ◌≡◌ {A = Read (List ℕ)} (got [] 0) (got a n) = y.1 in
             let z : a ≡ [] = cc in
-            rw z (record { matched = by v; longer = no v });
+            rw (d, z) (record { matched = by v; longer = no v });
       }
     where
       by : (v : List ℕ) → eqb (length v) 0 ≡ matches_one true [] (symbols_of v)
@@ -71,21 +74,21 @@ module _ (s : List ℕ) (x : Selector) (e : x ≡ element_at s) where
       no [] = unfold symbols_of at_end matches_one in refl
       no (b ∷ v) = unfold symbols_of at_end matches_one in refl
 
-  module _ (set size p : ℕ) (f : x ≡ Takes set size p) (t : List ℕ) (r : t ≡ drop p s) where
-    proper : Proper s 0 set size p
-    proper = element_of s set size p (sym e ∙ f)
+  module _ (o : Maybe Selector) (sel : Selector) (f₁ : x ≡ Ok o) (f₂ : o ≡ Some sel) (t : List ℕ) (r : t ≡ drop sel.next s) where
+    proper : Proper s 0 sel.set sel.size sel.next
+    proper = element_of s sel.set sel.size sel.next (sym e ∙ (rw f₂ at f₁))
 
     -- characters left fall: past the selector, whatever the string
     pub pattern_falls : (m n : ℕ) → length s + n ≡ m → length t + n < m
     pattern_falls m n h =
         let y = proper in
-        let d : length t ≡ length s - p = ap length r ∙ length-drop p s in
+        let d : length t ≡ length s - sel.next = ap length r ∙ length-drop sel.next s in
         omega (arith, y.fewer, y.sized, y.inside)
 
     pub both_fall : (v u : List ℕ) (m : ℕ) → u ≡ drop 1 v → length s + length v ≡ m → length t + length u < m
     both_fall v u m q h =
         let y = proper in
-        let d : length t ≡ length s - p = ap length r ∙ length-drop p s in
+        let d : length t ≡ length s - sel.next = ap length r ∙ length-drop sel.next s in
         let c : length u ≡ length v - 1 = ap length q ∙ length-drop 1 v in
         omega (arith, y.fewer, y.sized, y.inside)
 
@@ -95,50 +98,50 @@ module _ (s : List ℕ) (x : Selector) (e : x ≡ element_at s) where
       pub left : ℕ
       pub rest : List ℕ
       pub end : ℕ
-      pub is : a ≡ set ∷ rest
+      pub is : a ≡ sel.set ∷ rest
       pub reads : string_f fuel t left ≡ got rest end
 
     front : (k left : ℕ) (a : List ℕ) (n : ℕ) → string_f k s left ≡ got a n → Front a
     front k left a n g =
-        let y = opened s (Takes set size p) (sym e ∙ f) k left a n g in
-        let b = begun set size p left (λ p l. string_f y.0 (drop p s) l) a n y.1 in
+        let y = opened s (Ok (Some sel)) (sym e ∙ (rw f₂ at f₁)) k left a n g in
+        let b = begun sel.set sel.size sel.next left (λ at l. string_f y.0 (drop at s) l) a n y.1 in
         record { fuel = y.0; left = b.left; rest = b.more; end = b.end; is = b.is; reads = rw r b.reads }
 
     -- what is known of the rest tells of the whole
-    by_front : (w w₁ : List ℕ) (r₁ q : Reach) → Tries t w₁ r₁ → ((b : List ℕ) → Reaches b w₁ r₁ → Reaches (set ∷ b) w q) → Tries s w q
+    by_front : (w w₁ : List ℕ) (r₁ q : Reach) → Tries t w₁ r₁ → ((b : List ℕ) → Reaches b w₁ r₁ → Reaches (sel.set ∷ b) w q) → Tries s w q
     by_front w w₁ r₁ q g h =
         record { to = λ k left a n j. let y = front k left a n j in rw y.is (h y.rest (g.to y.fuel y.left y.rest y.end y.reads)) }
 
-    module _ (d : Bool) (i : d ≡ dotted set) (v : List ℕ) where
+    module _ (d : Bool) (i : d ≡ dotted sel.set) (v : List ℕ) where
       -- with a dot
       pub dotted_none : (a : Reach) → d ≡ true → length v ≡ 0 → Tries t (symbols_of v) a → Tries s (symbols_of v) (record { matched = a.matched; longer = true })
       dotted_none a h z g =
           let c : symbols_of v ≡ [] = no_symbols v z in
           by_front (symbols_of v) (symbols_of v) a (record { matched = a.matched; longer = true }) g
           (λ b y. record {
-            matched = y.matched ∙ rw c (sym (match_end set b ∙ unfold pick in rw (← i, h) (or-false (matches_one true b []))));
-            longer = rw c (sym (at_start set b));
+            matched = y.matched ∙ rw c (sym (match_end sel.set b ∙ unfold pick in rw (← i, h) (or-false (matches_one true b []))));
+            longer = rw c (sym (at_start sel.set b));
           })
 
-      module _ (n : length v ≡ 0 → ⊥) (x' : Bool) (k : x' ≡ takes set (symbol_of (get_or v 0 0))) where
-        next : (whole : Bool) (b : List ℕ) → matches_one whole (set ∷ b) (symbols_of v)
-            ≡ pick d (matches_one whole b (symbols_of v) || (x' && matches_one whole (set ∷ b) (symbols_of (drop 1 v)))) (x' && matches_one whole b (symbols_of (drop 1 v)))
-        next whole b = rw (some_symbols v n, i, k) (match_next whole set (symbol_of (get_or v 0 0)) b (symbols_of (drop 1 v)))
+      module _ (n : length v ≡ 0 → ⊥) (x' : Bool) (k : x' ≡ takes sel.set (symbol_of (get_or v 0 0))) where
+        next : (whole : Bool) (b : List ℕ) → matches_one whole (sel.set ∷ b) (symbols_of v)
+            ≡ pick d (matches_one whole b (symbols_of v) || (x' && matches_one whole (sel.set ∷ b) (symbols_of (drop 1 v)))) (x' && matches_one whole b (symbols_of (drop 1 v)))
+        next whole b = rw (some_symbols v n, i, k) (match_next whole sel.set (symbol_of (get_or v 0 0)) b (symbols_of (drop 1 v)))
 
-        pub dotted_with : (a c : Reach) (u : List ℕ) → d ≡ true → x' ≡ true → u ≡ drop 1 v → Tries t (symbols_of v) a → Tries s (symbols_of u) c
-            → Tries s (symbols_of v) (record { matched = a.matched || c.matched; longer = a.longer || c.longer })
+        pub dotted_with : (a c j₁ : Reach) (u : List ℕ) → j₁ ≡ either a c → d ≡ true → x' ≡ true → u ≡ drop 1 v → Tries t (symbols_of v) a → Tries s (symbols_of u) c
+            → Tries s (symbols_of v) j₁
         unfolding pick
-        dotted_with a c u h l m g j =
-            record {
+        dotted_with a c j₁ u e₁ h l m g j =
+            rw e₁ (record {
               to = λ fuel left b y z.
                   let q = front fuel left b y z in
                   let first : Reaches q.rest (symbols_of v) a = g.to q.fuel q.left q.rest q.end q.reads in
-                  let again : Reaches (set ∷ q.rest) (symbols_of (drop 1 v)) c = rw (← m, ← q.is) (j.to fuel left b y z) in
+                  let again : Reaches (sel.set ∷ q.rest) (symbols_of (drop 1 v)) c = rw (← m, ← q.is) (j.to fuel left b y z) in
                   rw q.is (record {
                     matched = rw (first.matched, again.matched) (sym (next true q.rest ∙ rw (h, l)));
                     longer = rw (first.longer, again.longer) (sym (next false q.rest ∙ rw (h, l)));
                   });
-            }
+            })
 
         pub dotted_without : (a : Reach) → d ≡ true → x' ≡ false → Tries t (symbols_of v) a → Tries s (symbols_of v) a
         unfolding pick
@@ -187,7 +190,7 @@ module _ (s : List ℕ) (x : Selector) (e : x ≡ element_at s) where
           record {
             to = λ fuel left b y j.
                 let q = front fuel left b y j in
-                rw (q.is, c) (record { matched = sym (match_end set q.rest ∙ unfold pick in rw (← i, h)); longer = sym (at_start set q.rest) });
+                rw (q.is, c) (record { matched = sym (match_end sel.set q.rest ∙ unfold pick in rw (← i, h)); longer = sym (at_start sel.set q.rest) });
           }
 
 pub by_symbol : (set b c : ℕ) (x : Bool) → c ≡ symbol_of b → x ≡ takes set c → x ≡ takes set (symbol_of b)

@@ -12,10 +12,8 @@ ghost use Rattle.digits.specs.DigitMap.{list_f, map_r};
 ghost use Rattle.digits.specs.Dialling.{load, dial};
 ghost use Rattle.plain_digits.specs.Tries.{Tries, TriesAny};
 
-use dialling::CELLS;
-use digits::{Dialled, Reach, Selector, ZeroStart};
-use map_text::Bounds;
-use megaco::Parsed;
+use dialling::{CELLS, MOST_ALTERNATIVES};
+use digits::{Answer, DialError, NEITHER, Reach, ZeroStart};
 
 // Whether a selector takes the string's first symbol.
 fn takes_first(set: u32, string: &[u8]) -> bool
@@ -29,13 +27,12 @@ fn takes_first(set: u32, string: &[u8]) -> bool
 fn tries(pattern: &[u8], string: &[u8]) -> Reach
     ensures { Tries pattern.now (symbols_of string.now) result }
 {
-    let x = map_text::element(pattern);
-    match x {
-        Selector::Takes { set, size: _, next } => {
-            let behind = map_text::rest(pattern, next);
-            if map_text::dotted(set) {
+    match map_text::element(pattern) {
+        Ok(Some(x)) => {
+            let behind = map_text::rest(pattern, x.next);
+            if map_text::dotted(x.set) {
                 let without = tries(behind, string);
-                if string.len() == 0 {
+                if string.is_empty() {
                     return Reach {
                         matched: without.matched,
                         longer: true,
@@ -44,37 +41,28 @@ fn tries(pattern: &[u8], string: &[u8]) -> Reach
                 if without.matched & without.longer {
                     return without;
                 }
-                if takes_first(set, string) {
+                if takes_first(x.set, string) {
                     let with = tries(pattern, map_text::rest(string, 1));
-                    return Reach {
-                        matched: without.matched | with.matched,
-                        longer: without.longer | with.longer,
-                    };
+                    return without.or(with);
                 }
                 return without;
             }
-            if string.len() == 0 {
+            if string.is_empty() {
                 return Reach {
                     matched: false,
                     longer: true,
                 };
             }
-            if takes_first(set, string) {
+            if takes_first(x.set, string) {
                 return tries(behind, map_text::rest(string, 1));
             }
-            Reach {
-                matched: false,
-                longer: false,
-            }
+            NEITHER
         }
-        Selector::Absent => Reach {
-            matched: string.len() == 0,
+        Ok(None) => Reach {
+            matched: string.is_empty(),
             longer: false,
         },
-        Selector::Malformed => Reach {
-            matched: false,
-            longer: false,
-        },
+        Err(_) => NEITHER,
     }
 }
 
@@ -82,53 +70,31 @@ fn tries(pattern: &[u8], string: &[u8]) -> Reach
 fn tries_list(s: &[u8], string: &[u8]) -> Reach
     ensures { TriesAny (list_f 16 s.now) (symbols_of string.now) result }
 {
-    let mut matched = false;
-    let mut longer = false;
+    let mut known = NEITHER;
     let mut i: usize = 0;
-    let mut left: usize = 16;
-    while 0 < left {
-        if matched & longer {
-            return Reach {
-                matched: matched,
-                longer: longer,
-            };
+    for _ in 0..MOST_ALTERNATIVES {
+        if known.matched & known.longer {
+            return known;
         }
         let u = map_text::rest(s, i);
-        let b = map_text::alternative(u);
-        let Bounds::Within { from, to } = b else {
-            return Reach {
-                matched: matched,
-                longer: longer,
-            };
+        let Some(b) = map_text::alternative(u) else {
+            return known;
         };
-        let r = tries(map_text::rest(u, from), string);
-        matched = matched | r.matched;
-        longer = longer | r.longer;
-        if text::is_at(u, to, b'|') {
-            i += to + 1;
-            left -= 1;
-        } else {
-            return Reach {
-                matched: matched,
-                longer: longer,
-            };
+        known = known.or(tries(map_text::rest(u, b.from), string));
+        if !text::is_at(u, b.to, b'|') {
+            return known;
         }
+        i += b.to + 1;
     }
-    Reach {
-        matched: matched,
-        longer: longer,
-    }
+    known
 }
 
 fn tries_map(s: &[u8], string: &[u8]) -> Reach
     ensures { TriesAny (map_r s.now) (symbols_of string.now) result }
 {
     let w = text::white(s, 0);
-    let Parsed::Next(p) = w else {
-        return Reach {
-            matched: false,
-            longer: false,
-        };
+    let Some(p) = w else {
+        return NEITHER;
     };
     if text::is_at(s, p, b'(') {
         return tries_list(map_text::rest(s, p + 1), string);
@@ -137,18 +103,20 @@ fn tries_map(s: &[u8], string: &[u8]) -> Reach
 }
 
 // What the first matcher answers and refuses, from the text of the map.
-pub fn dial_plain(map: &[u8], start: u32, zero: ZeroStart, string: &[u8]) -> Dialled
+pub fn dial_plain(
+    map: &[u8],
+    start: u32,
+    zero: ZeroStart,
+    string: &[u8],
+) -> Result<Answer, DialError>
     ensures { result ≡ dial (load map.now start zero) string.now }
 {
     let mut cells = [0u32; CELLS];
-    let l = dialling::load(map, start, zero, &mut cells);
-    let good = l.good;
-    if good {
-        if dialling::is_dialled(string) {
-            let first = l.first;
-            return dialling::answer(first, string, tries_map(map, string));
-        }
-        return Dialled::BadString;
+    let Some(l) = dialling::load(map, start, zero, &mut cells) else {
+        return Err(DialError::BadMap);
+    };
+    if !dialling::is_dialled(string) {
+        return Err(DialError::BadString);
     }
-    Dialled::BadMap
+    Ok(dialling::answer(l.first, string, tries_map(map, string)))
 }

@@ -40,6 +40,7 @@ pub fn read_full<R: Read>(input: &mut R, buf: &mut [u8]) -> usize
 }
 
 // How many bytes the first line of a text has.
+#[tactic(auto, using(sessions::proofs::LineLaws::length_before))]
 pub fn line_length(s: &[u8]) -> usize
     ensures value { result ≡ length (before 10 s.now) }
     ensures upper_bound { result ≤ length s.now }
@@ -47,7 +48,7 @@ pub fn line_length(s: &[u8]) -> usize
     sessions::line_end(s, 0)
 }
 
-// The number that a text's first five digits write; 0 where it is shorter.
+// The number that a text's first five digits write; 0 where it is shorter. (One sum: as a fold its bound would need powers of ten.)
 pub fn number(s: &[u8]) -> usize
     ensures { result < 100000 }
 {
@@ -61,23 +62,19 @@ pub fn number(s: &[u8]) -> usize
 pub fn digit(b: u8) -> usize
     ensures { result ≤ 9 }
 {
-    if b < b'0' {
-        return 0;
+    match b {
+        b'0'..=b'9' => (b - b'0') as usize,
+        _ => 0,
     }
-    if b'9' < b {
-        return 0;
-    }
-    (b - b'0') as usize
 }
 
 // ---- tables
 
 // One word from a place up to another.
 pub fn put_run(table: &mut [u32], from: usize, to: usize, v: u32) {
-    let mut i = from;
-    while i < to {
-        table::put_word(table, i, v);
-        i += 1;
+    let end = to.min(table.len());
+    if from < end {
+        table[from..end].fill(v);
     }
 }
 

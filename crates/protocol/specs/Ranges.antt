@@ -1,7 +1,7 @@
 -- The values that a command's items can give.
-use Rattle.std.specs.Prelude.{ℕ, ◌^◌, ◌≤◌, ◌<◌}
+use Rattle.std.specs.Prelude.{ℕ, ◌^◌, ◌≤◌, ◌<◌, Ok, Err}
 use Rattle.megaco.specs.Items.{change}
-use Rattle.protocol.specs.Types.{Speech, Kept, Released, Session, Values, Judged, Wrong, Right}
+use Rattle.protocol.specs.Types.{Speech, Kept, Released, Session, Values, Judged}
 
 -- an address of 32 bits, ports 0..65535, payload types 0..127
 pub data SpeechInRange : Speech → Type 0 where
@@ -18,5 +18,5 @@ pub record InRange (vs : Values) : Type 0 where
 
 -- the same of what items come to
 pub data JudgedInRange : Judged → Type 0 where
-  wrong : {code : ℕ} → JudgedInRange (Wrong code)
-  right : {vs : Values} → InRange vs → JudgedInRange (Right vs)
+  wrong : {code : ℕ} → JudgedInRange (Err code)
+  right : {vs : Values} → InRange vs → JudgedInRange (Ok vs)

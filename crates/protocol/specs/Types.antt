@@ -1,9 +1,6 @@
 -- The types that definitions, contracts and proofs share (crates/megaco/src/lib.rt) and their cases. A file of another crate names them from here; a facade
 -- does not pass on what its own crate's file passes on, so this file stands in a crate of its own.
-pub use Rattle.megaco.specs.declared.Parsed.{Parsed}
-pub use Rattle.megaco.specs.declared.Parsed.TheVariants.{Next, Fault}
-pub use Rattle.megaco.specs.declared.Number.{Number}
-pub use Rattle.megaco.specs.declared.Number.TheVariants.{Got, Bad}
+pub use Rattle.megaco.specs.Results.{Parsed, Number, number, Given, Judged, Checked}
 pub use Rattle.megaco.specs.declared.Class.{Class}
 pub use Rattle.megaco.specs.declared.Class.TheVariants.{WordByte, NameByte, SafeByte, QuotedByte, DomainByte}
 pub use Rattle.megaco.specs.declared.Token.{Token}
@@ -22,15 +19,9 @@ pub use Rattle.megaco.specs.declared.Range.{Range}
 pub use Rattle.megaco.specs.declared.Range.TheVariants.{Everyone, EveryLine, EveryEphemeral, ChannelsOf}
 pub use Rattle.megaco.specs.declared.Name.{Name}
 pub use Rattle.megaco.specs.declared.Name.TheVariants.{Termination, Root, Chosen, Unchosen, Wildcard, Unmatched, Unknown}
-pub use Rattle.megaco.specs.declared.Given.{Given}
-pub use Rattle.megaco.specs.declared.Given.TheVariants.{Keep, To}
 pub use Rattle.megaco.specs.declared.Speech.{Speech}
 pub use Rattle.megaco.specs.declared.Speech.TheVariants.{Kept, Released, Session}
 pub use Rattle.megaco.specs.declared.Values.{Values}
-pub use Rattle.megaco.specs.declared.Judged.{Judged}
-pub use Rattle.megaco.specs.declared.Judged.TheVariants.{Wrong, Right}
-pub use Rattle.megaco.specs.declared.Checked.{Checked}
-pub use Rattle.megaco.specs.declared.Checked.TheVariants.{Passes, Fails}
 pub use Rattle.megaco.specs.declared.Kind.{Kind}
 pub use Rattle.megaco.specs.declared.Kind.TheVariants.{InControl, InState}
 pub use Rattle.megaco.specs.declared.Ack.{Ack}

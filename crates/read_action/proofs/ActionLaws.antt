@@ -1,6 +1,7 @@
 -- Laws of properties and of an action's body, in the form in which `search` uses them.
-use Prim.Native.Nat.{ℕ, suc, ◌+◌, ◌-◌, ◌<◌}
-use mathlib.Core.Path.{◌≡◌, refl, sym, ◌∙◌}
+use Rattle.std.specs.Prelude.{Some, None}
+use Prim.Native.Nat.{ℕ, suc, ◌+◌, ◌-◌, ◌<◌, ◌≤◌}
+use mathlib.Core.Path.{◌≡◌, sym, ap, ◌∙◌}
 use mathlib.Core.List.{List}
 use mathlib.Core.Bool.{Bool, true, false, ◌||◌}
 use native.Mathlib.Omega.{arith}
@@ -10,27 +11,23 @@ use Rattle.base.specs.Lists.{part}
 use Rattle.megaco.specs.Tokens.{row_at, after_number}
 use Rattle.megaco.specs.Keywords.{spells}
 use Rattle.megaco.specs.Reading.{unlimited, is_property, word_here}
-use Rattle.protocol.specs.Types.{Parsed, Next, Fault, Number, Bad, WordByte, Token, IsolateToken, OnewayToken, BothwayToken}
+use Rattle.protocol.specs.Types.{Parsed, Number, WordByte, Token, IsolateToken, OnewayToken, BothwayToken}
 use Rattle.read_command.specs.declared.Piece.{Piece}
-use Rattle.read_command.specs.declared.Following.{Following}
-use Rattle.read_command.specs.declared.Following.TheVariants.{Another, Ends}
 use Rattle.read_command.specs.Pieces.{Holds}
-use Rattle.read_command.specs.Production.{number_after, joined_at, following_of}
+use Rattle.read_command.specs.Production.{number_after, joined_at}
 use Rattle.read_command.specs.Places.{commands_at, is_direction, triple_at, triples_at, property_at, body_place}
-use Rattle.read_command.proofs.Onward.{triple_on, property_on}
-use Rattle.read_command.proofs.ListLaws as lists
-use Rattle.read_command.proofs.ListLaws.{steps, joined_ends, joined_more, goes_more, comma_falls}
+use Rattle.read_command.proofs.ListLaws.{steps}
 
 -- the place after a number that a call read
-pub place_by_lem : (r : Parsed) (x y : Number) → r ≡ after_number y Next → y ≡ x → r ≡ after_number x Next
+pub place_by_lem : (r : Parsed) (x y : Number) → r ≡ after_number y Some → y ≡ x → r ≡ after_number x Some
 place_by_lem r x y h e = rw (← e) h
 
 -- a number behind another part
-pub behind_next : (x y : Parsed) (f : ℕ → Number) (r : Number) (p : ℕ) → y ≡ x → y ≡ Next p → r ≡ f p → r ≡ number_after x f
+pub behind_next : (x y : Parsed) (f : ℕ → Number) (r : Number) (p : ℕ) → y ≡ x → y ≡ Some p → r ≡ f p → r ≡ number_after x f
 unfolding number_after
 behind_next x y f r p e n h = rw (← e, n) h
 
-pub behind_fault : (x y : Parsed) (f : ℕ → Number) → y ≡ x → y ≡ Fault → Bad ≡ number_after x f
+pub behind_fault : (x y : Parsed) (f : ℕ → Number) → y ≡ x → y ≡ None → None ≡ number_after x f
 unfolding number_after
 behind_fault x y f e n = rw (← e, n)
 
@@ -51,56 +48,22 @@ pub direction_word : (w : List ℕ) (x y z : Bool) → x ≡ spells IsolateToken
 unfolding is_direction
 direction_word w x y z e f g = rw (e, f, g)
 
--- triples, from the place that was reached
+-- ---- an action's body: what it reads as, from the place that n of its properties were read up to
 
-pub triples_start : (s : List ℕ) (at : ℕ) → lists.Goes (triples_at s at).place (λ j. (triple_at s j).place) s at
-unfolding triples_at unlimited
-triples_start s at = record { left = length s + 1; enough = omega arith; same = refl }
-
-module _ (s : List ℕ) (i u : ℕ) (y : Parsed) (f : Following) (e : y ≡ (triple_at s i).place) (g : f ≡ following_of s y) (n : f ≡ Another u) where
-  pub triples_less : length s - u < length s - i
-  triples_less = (comma_falls s i u y (rw e (triple_on s i)) (sym g ∙ n)).1
-
-  pub triples_more : (q : Parsed) → lists.Goes q (λ j. (triple_at s j).place) s i → lists.Goes q (λ j. (triple_at s j).place) s u
-  triples_more q inv = goes_more q (λ j. (triple_at s j).place) s i inv y e f g u (triple_on s i) n
-
--- ---- an action's body, from the place that was reached: enough of the counter is left for the bytes that are left
-
-pub record Goes (q : Parsed) (s : List ℕ) (i : ℕ) : Type 0 where
-  pub left : ℕ
-  pub enough : length s - i < left
-  pub same : q ≡ body_place left s i
-
-pub body_start_lem : (s : List ℕ) (at : ℕ) → Goes (body_place (unlimited s) s at) s at
-unfolding unlimited
-body_start_lem s at = record { left = length s + 1; enough = omega arith; same = refl }
-
-module _ (q : Parsed) (s : List ℕ) (i : ℕ) (inv : Goes q s i) (z : Bool) (d : z ≡ is_property (word_here s i)) where
-  turn : q ≡ pick z (joined_at (body_place (inv.left - 1) s) s (property_at s i).place) (commands_at s i).place
+module _ (s : List ℕ) (most n i : ℕ) (q : Parsed) (inv : body_place (most - n) s i ≡ q) where
+  pub body_none : most ≤ n → None ≡ q
   unfolding body_place
-  turn = let h : length s - i < inv.left = inv.enough in let n : inv.left ≡ suc (inv.left - 1) = omega arith in by inv.left (inv.left - 1) n inv.same
-    where
-      by : (k m : ℕ) → k ≡ suc m → q ≡ body_place k s i → q ≡ pick z (joined_at (body_place m s) s (property_at s i).place) (commands_at s i).place
-      by k m n e = rw d (rw n at e)
+  body_none h = let z : most - n ≡ 0 = omega arith in ap (λ k. body_place k s i) (sym z) ∙ inv
 
-  pub body_commands : (r : Parsed) → z ≡ false → r ≡ (commands_at s i).place → r ≡ q
-  unfolding pick
-  body_commands r f h = h ∙ sym (turn ∙ rw f)
+  module _ (h : n < most) (z : Bool) (d : z ≡ is_property (word_here s i)) where
+    turn : pick (is_property (word_here s i)) (joined_at (body_place (most - (n + 1)) s) s (property_at s i).place) (commands_at s i).place ≡ q
+    unfolding body_place
+    turn = let k : most - n ≡ suc (most - (n + 1)) = omega arith in ap (λ m. body_place m s i) (sym k) ∙ inv
 
-  module _ (b : z ≡ true) (y : Parsed) (e : y ≡ (property_at s i).place) (f : Following) (g : f ≡ following_of s y) where
-    properties : q ≡ joined_at (body_place (inv.left - 1) s) s (property_at s i).place
+    pub body_commands : (r : Parsed) → z ≡ false → r ≡ (commands_at s i).place → r ≡ q
     unfolding pick
-    properties = turn ∙ rw b
+    body_commands r f g = g ∙ sym (rw (← d, f)) ∙ turn
 
-    pub body_ends : (r : Parsed) → f ≡ Ends r → r ≡ q
-    body_ends r n = joined_ends _ s (property_at s i).place y q properties e f g r n
-
-    module _ (u : ℕ) (n : f ≡ Another u) where
-      pub body_less : length s - u < length s - i
-      body_less = (comma_falls s i u y (rw e (property_on s i)) (sym g ∙ n)).1
-
-      pub body_more : Goes q s u
-      body_more =
-          let h : length s - i < inv.left = inv.enough in
-          let k : length s - u < length s - i = body_less in
-          record { left = inv.left - 1; enough = omega arith; same = joined_more _ s (property_at s i).place y q properties e f g u n }
+    pub body_property : z ≡ true → joined_at (body_place (most - (n + 1)) s) s (property_at s i).place ≡ q
+    unfolding pick
+    body_property t = sym (rw (← d, t)) ∙ turn

@@ -1,6 +1,7 @@
 -- Laws of reading one part after another and of lists joined by commas, in the form in which `search` uses them.
+use Rattle.std.specs.Prelude.{Some, None}
 use Prim.Native.Nat.{ℕ, suc, ◌+◌, ◌-◌, ◌<◌, ◌≤◌}
-use mathlib.Core.Path.{◌≡◌, refl, sym, ◌∙◌}
+use mathlib.Core.Path.{◌≡◌, refl, sym, ap, ◌∙◌}
 use mathlib.Core.List.{List}
 use mathlib.Core.Bool.{Bool, true, false}
 use native.Mathlib.Omega.{arith}
@@ -11,12 +12,9 @@ use Rattle.base.specs.Lists.{is_at}
 use Rattle.megaco.specs.Bytes.{comma}
 use Rattle.megaco.specs.White.{after, white_at}
 use Rattle.megaco.specs.Tokens.{mark_at, sign_at}
-use Rattle.protocol.specs.Types.{Parsed, Next, Fault}
-use Rattle.read_command.specs.declared.Following.{Following}
-use Rattle.read_command.specs.declared.Following.TheVariants.{Another, Ends}
-use Rattle.read_command.specs.Production.{spaced_at, joined_at, behind_comma, following_of, list_at}
+use Rattle.protocol.specs.Types.{Parsed}
+use Rattle.read_command.specs.Production.{spaced_at, joined_at, list_at}
 use Rattle.text.proofs.TextLaws.{within, reads}
-use Rattle.read_command.proofs.Onward.{Onward, sign_on}
 
 -- a sign that was tested, and the white space after it
 pub sign_by : (b : ℕ) (s : List ℕ) (at : ℕ) (x : Bool) (y : Parsed) → x ≡ is_at s at b → x ≡ true → y ≡ white_at s (at + 1) → y ≡ sign_at b s at
@@ -29,103 +27,34 @@ spaced_by s r x y h e = rw (← e) h
 
 pub ruleset steps = (reads, sign_by, spaced_by)
 
--- ---- a part that was read, and what follows it behind a comma
+-- ---- a part that was read, and what follows it behind a comma: q is what both read as
 
-module _ (s : List ℕ) (x : Parsed) where
-  pub follows_fault : x ≡ Fault → Ends Fault ≡ following_of s x
-  unfolding following_of
-  follows_fault e = rw e
+module _ (rest : ℕ → Parsed) (s : List ℕ) (x q : Parsed) (inv : joined_at rest s x ≡ q) where
+  pub joined_fault : None ≡ x → None ≡ q
+  unfolding joined_at after
+  joined_fault f = ap (joined_at rest s) f ∙ inv
 
-  module _ (p : ℕ) (n : x ≡ Next p) (c : Bool) (g : c ≡ is_at s p comma) where
-    pub follows_none : c ≡ false → Ends (Next p) ≡ following_of s x
-    unfolding following_of pick
-    follows_none f = rw (n, ← g, f)
+  module _ (e : ℕ) (l : Some e ≡ x) (c : Bool) (g : c ≡ is_at s e comma) where
+    pub joined_ends : c ≡ false → Some e ≡ q
+    unfolding joined_at after pick
+    joined_ends f = sym (rw (← l, ← g, f)) ∙ inv
 
-    module _ (t : c ≡ true) (w : Parsed) (l : w ≡ white_at s (p + 1)) where
-      pub follows_cut : w ≡ Fault → Ends Fault ≡ following_of s x
-      unfolding following_of behind_comma pick
-      follows_cut f = rw (n, ← g, t, ← sign_by comma s p c w g t l, f)
+    module _ (t : c ≡ true) (w : Parsed) (d : w ≡ white_at s (e + 1)) where
+      pub joined_cut : w ≡ None → None ≡ q
+      unfolding joined_at after pick
+      joined_cut f = sym (rw (← l, ← g, t, ← sign_by comma s e c w g t d, f)) ∙ inv
 
-      pub follows_one : (u : ℕ) → w ≡ Next u → Another u ≡ following_of s x
-      unfolding following_of behind_comma pick
-      follows_one u f = rw (n, ← g, t, ← sign_by comma s p c w g t l, f)
+      pub joined_more : (p : ℕ) → w ≡ Some p → rest p ≡ q
+      unfolding joined_at after pick
+      joined_more p f = sym (rw (← l, ← g, t, ← sign_by comma s e c w g t d, f)) ∙ inv
 
--- the rest of a list, by what follows
-unfoldable go_on : (ℕ → Parsed) → Following → Parsed
-go_on rest (Another u) = rest u
-go_on rest (Ends r) = r
+-- ---- a list of at most `most` parts: what it reads as, from the place that n of them were read up to
 
-joined_is : (rest : ℕ → Parsed) (s : List ℕ) (x : Parsed) → joined_at rest s x ≡ go_on rest (following_of s x)
-unfolding joined_at after following_of behind_comma go_on pick
-joined_is rest s Fault = refl
-joined_is rest s (Next p) = by (is_at s p comma) (sign_at comma s p)
-  where
-    by : (t : Bool) (w : Parsed) → pick t (after w rest) (Next p) ≡ go_on rest (pick t (behind_comma w) (Ends (Next p)))
-    by true (Next q) = refl
-    by true Fault = refl
-    by false w = refl
-
-module _ (rest : ℕ → Parsed) (s : List ℕ) (x y q : Parsed) (inv : q ≡ joined_at rest s x) (e : y ≡ x) (f : Following) (g : f ≡ following_of s y) where
-  pub joined_ends : (r : Parsed) → f ≡ Ends r → r ≡ q
-  unfolding go_on
-  joined_ends r n = sym (inv ∙ joined_is rest s x ∙ rw (← e, ← g, n))
-
-  pub joined_more : (u : ℕ) → f ≡ Another u → q ≡ rest u
-  unfolding go_on
-  joined_more u n = inv ∙ joined_is rest s x ∙ rw (← e, ← g, n)
-
--- ---- a list, from the place that was reached: the definition from the start, q, is the definition from here
-
-module _ (part : ℕ → Parsed) (s : List ℕ) (k i : ℕ) (q : Parsed) (inv : q ≡ list_at part s k i) where
-  pub list_none : k ≤ 0 → Fault ≡ q
+module _ (one : ℕ → Parsed) (s : List ℕ) (most n i : ℕ) (q : Parsed) (inv : list_at one s (most - n) i ≡ q) where
+  pub list_none : most ≤ n → None ≡ q
   unfolding list_at
-  list_none h = let z : k ≡ 0 = omega arith in sym (inv ∙ rw z)
+  list_none h = let z : most - n ≡ 0 = omega arith in ap (λ k. list_at one s k i) (sym z) ∙ inv
 
-  module _ (y : Parsed) (e : y ≡ part i) (h : 0 < k) (f : Following) (g : f ≡ following_of s y) where
-    list_open : q ≡ joined_at (list_at part s (k - 1)) s (part i)
-    unfolding list_at
-    list_open = let z : k ≡ suc (k - 1) = omega arith in by k (k - 1) z inv
-      where
-        by : (n m : ℕ) → n ≡ suc m → q ≡ list_at part s n i → q ≡ joined_at (list_at part s m) s (part i)
-        by n m z f = rw z at f
-
-    pub list_ends : (r : Parsed) → f ≡ Ends r → r ≡ q
-    list_ends r n = joined_ends _ s (part i) y q list_open e f g r n
-
-    pub list_more : (u : ℕ) → f ≡ Another u → q ≡ list_at part s (k - 1) u
-    list_more u n = joined_more _ s (part i) y q list_open e f g u n
-
--- ---- a list without a limit: enough of the counter is left for the bytes that are left
-
-pub record Goes (q : Parsed) (part : ℕ → Parsed) (s : List ℕ) (i : ℕ) : Type 0 where
-  pub left : ℕ
-  pub enough : length s - i < left
-  pub same : q ≡ list_at part s left i
-
--- a part and a comma bring the list onward
-pub comma_falls : (s : List ℕ) (i u : ℕ) (y : Parsed) → Onward i y → following_of s y ≡ Another u → (i < u) × (length s - u < length s - i)
-unfolding following_of behind_comma pick
-comma_falls s i u Fault on n = let z : ◌≡◌ {A = ℕ} 0 1 = cc in absurd (omega arith)
-comma_falls s i u (Next p) on n = by (is_at s p comma) (sign_at comma s p) refl refl n
-  where
-    by : (t : Bool) (w : Parsed) → t ≡ is_at s p comma → w ≡ sign_at comma s p → pick t (behind_comma w) (Ends (Next p)) ≡ Another u → (i < u) × (length s - u < length s - i)
-    by true (Next q) h l m =
-        let a : i ≤ p = on p refl in
-        let b : p < length s = within s p comma true h refl (lit< tt) in
-        let d : p + 1 ≤ q = sign_on comma s p q (sym l) in
-        let z : q ≡ u = cc in (omega arith, omega arith)
-    by true Fault h l m = let z : ◌≡◌ {A = ℕ} 0 1 = cc in absurd (omega arith)
-    by false w h l m = let z : ◌≡◌ {A = ℕ} 0 1 = cc in absurd (omega arith)
-
-module _ (q : Parsed) (part : ℕ → Parsed) (s : List ℕ) (i : ℕ) (inv : Goes q part s i) (y : Parsed) (e : y ≡ part i) (f : Following) (g : f ≡ following_of s y) where
-  some_left : 0 < inv.left
-  some_left = let h : length s - i < inv.left = inv.enough in omega arith
-
-  pub goes_ends : (r : Parsed) → f ≡ Ends r → r ≡ q
-  goes_ends r n = list_ends part s inv.left i q inv.same y e some_left f g r n
-
-  pub goes_more : (u : ℕ) → Onward i (part i) → f ≡ Another u → Goes q part s u
-  goes_more u on n =
-      let h : length s - i < inv.left = inv.enough in
-      let d : (i < u) × (length s - u < length s - i) = comma_falls s i u y (rw e on) (sym g ∙ n) in
-      record { left = inv.left - 1; enough = omega (arith, d.0, d.1); same = list_more part s inv.left i q inv.same y e some_left f g u n }
+  pub list_opened : n < most → joined_at (list_at one s (most - (n + 1))) s (one i) ≡ q
+  unfolding list_at
+  list_opened h = let z : most - n ≡ suc (most - (n + 1)) = omega arith in ap (λ k. list_at one s k i) (sym z) ∙ inv

@@ -1,4 +1,6 @@
 -- No reader goes back: what it finds is at or past the place where it began.
+use Rattle.megaco.proofs.NumberParts.{same_next}
+use Rattle.std.specs.Prelude.{Some, None}
 use Prim.Native.Nat.{ℕ, zero, suc, ◌+◌, ◌-◌, ◌≤◌}
 use mathlib.Core.Path.{◌≡◌, refl}
 use mathlib.Core.Bool.{Bool, false, not, ◌&&◌, ◌||◌}
@@ -14,18 +16,18 @@ use Rattle.megaco.specs.White.{after, goes_on, inside_after, stop_at, white_from
 use Rattle.megaco.specs.Keywords.{spells}
 use Rattle.megaco.specs.Tokens.{mark_at, sign_at, row_at, up_to64, letter_at, word_at, keyword_at, path_start, path_name_at, termination_at, number_end, number_from, number_at, after_number, quoted_at, plain_at, value_at, octets_from, octets_at, at_least}
 use Rattle.megaco.specs.Reading.{Read, unlimited, key_at, word_here, media_here, speech_here, identifier_from}
-use Rattle.protocol.specs.Types.{Parsed, Next, Fault, Number, Got, Bad, Class, WordByte, NameByte, SafeByte, QuotedByte, Token, PriorityToken, EmergencyToken, TopologyToken}
+use Rattle.protocol.specs.Types.{Parsed, Number, number, Class, WordByte, NameByte, SafeByte, QuotedByte, Token, PriorityToken, EmergencyToken, TopologyToken}
 use Rattle.tokens.proofs.TokenLaws.{pick_ind, row_ahead}
 use Rattle.read_command.specs.Production.{Production, number_after, spaced_at, joined_at, list_at, value_in}
 use Rattle.read_command.specs.Places.{second_at, value_item_at, braces_at, head_at, empty_at, or_none_at, item_at, items_at, speech_at, media_item_at, media_at, top_item_at, priority_at, property_at, is_direction, direction_at, party_at, triple_at, triples_at, topology_at, range_at, ack_at}
 
 abbrev pub Onward : ℕ → Parsed → Type 0
-Onward at x = (p : ℕ) → x ≡ Next p → at ≤ p
+Onward at x = (p : ℕ) → x ≡ Some p → at ≤ p
 
-fault_on : (at : ℕ) → Onward at Fault
+fault_on : (at : ℕ) → Onward at None
 fault_on at p e = let z : ◌≡◌ {A = ℕ} 0 1 = cc in absurd (omega arith)
 
-next_on : (at e : ℕ) → at ≤ e → Onward at (Next e)
+next_on : (at e : ℕ) → at ≤ e → Onward at (Some e)
 next_on at e h p n = let z : e ≡ p = cc in omega arith
 
 pick_on : (at : ℕ) (t : Bool) (x y : Parsed) → Onward at x → Onward at y → Onward at (pick t x y)
@@ -33,8 +35,8 @@ pick_on at t x y h k = pick_ind (Onward at) t x y h k
 
 after_on : (at : ℕ) (x : Parsed) (f : ℕ → Parsed) → Onward at x → ((p : ℕ) → Onward p (f p)) → Onward at (after x f)
 unfolding after
-after_on at (Next q) f h k p e = le_trans (h q refl) (k q p e)
-after_on at Fault f h k p e = fault_on at p e
+after_on at (Some q) f h k p e = le_trans (h q refl) (k q p e)
+after_on at None f h k p e = fault_on at p e
 
 -- from a place before
 earlier : (a at : ℕ) (x : Parsed) → a ≤ at → Onward at x → Onward a x
@@ -229,14 +231,14 @@ topology_on s at =
 -- ---- properties
 
 abbrev NumberOn : ℕ → Number → Type 0
-NumberOn at x = (v p : ℕ) → x ≡ Got v p → at ≤ p
+NumberOn at x = (v p : ℕ) → x ≡ number v p → at ≤ p
 
-bad_on : (at : ℕ) → NumberOn at Bad
+bad_on : (at : ℕ) → NumberOn at None
 bad_on at v p e = let z : ◌≡◌ {A = ℕ} 0 1 = cc in absurd (omega arith)
 
 number_end_on : (at n v : ℕ) → NumberOn n (number_end at n v)
 unfolding number_end
-number_end_on at n v = pick_ind (NumberOn n) (ltb at n) _ _ (λ w p e. let z : n ≡ p = cc in omega arith) (bad_on n)
+number_end_on at n v = pick_ind (NumberOn n) (ltb at n) _ _ (λ w p e. let z : n ≡ p = same_next e in omega arith) (bad_on n)
 
 number_from_lem : (at most limit : ℕ) (l : List ℕ) (n v : ℕ) → NumberOn n (number_from at most limit l n v)
 unfolding number_from
@@ -251,15 +253,15 @@ number_on : (s : List ℕ) (at most limit : ℕ) → NumberOn at (number_at s at
 unfolding number_at
 number_on s at most limit = number_from_lem at most limit (drop at s) at 0
 
-after_number_on : (at : ℕ) (n : Number) → NumberOn at n → Onward at (after_number n Next)
+after_number_on : (at : ℕ) (n : Number) → NumberOn at n → Onward at (after_number n Some)
 unfolding after_number
-after_number_on at (Got v q) h p e = let z : q ≡ p = cc in let m : at ≤ q = h v q refl in omega arith
-after_number_on at Bad h p e = fault_on at p e
+after_number_on at (Some (v, q)) h p e = let z : q ≡ p = cc in let m : at ≤ q = h v q refl in omega arith
+after_number_on at None h p e = fault_on at p e
 
 number_after_on : (at : ℕ) (x : Parsed) (f : ℕ → Number) → Onward at x → ((p : ℕ) → NumberOn p (f p)) → NumberOn at (number_after x f)
 unfolding number_after
-number_after_on at (Next q) f h k v p e = le_trans (h q refl) (k q v p e)
-number_after_on at Fault f h k v p e = bad_on at v p e
+number_after_on at (Some q) f h k v p e = le_trans (h q refl) (k q v p e)
+number_after_on at None f h k v p e = bad_on at v p e
 
 keyword_on : (k : Token) (s : List ℕ) (at : ℕ) → Onward at (keyword_at k s at)
 unfolding keyword_at
@@ -281,8 +283,8 @@ property_on s at =
 
 at_least_on : (at low : ℕ) (n : Number) → NumberOn at n → NumberOn at (at_least low n)
 unfolding at_least
-at_least_on at low (Got v q) h = pick_ind (NumberOn at) (leb low v) _ _ h (bad_on at)
-at_least_on at low Bad h = bad_on at
+at_least_on at low (Some (v, q)) h = pick_ind (NumberOn at) (leb low v) _ _ h (bad_on at)
+at_least_on at low None h = bad_on at
 
 identifier_from_on : (s : List ℕ) (at low : ℕ) → NumberOn at (identifier_from low s at)
 unfolding identifier_from
@@ -291,7 +293,7 @@ identifier_from_on s at low = at_least_on at low _ (number_on s at 10 4294967295
 range_on : (s : List ℕ) (at : ℕ) → Onward at (range_at s at).place
 unfolding range_at
 range_on s at =
-    after_on at (after_number (identifier_from 1 s at) Next) _ (after_number_on at _ (identifier_from_on s at 1))
+    after_on at (after_number (identifier_from 1 s at) Some) _ (after_number_on at _ (identifier_from_on s at 1))
     (λ p. pick_on p (is_at s p dash) _ _
     (earlier p (p + 1) _ (le-add_right p 1) (after_number_on (p + 1) _ (identifier_from_on s (p + 1) (value_in (identifier_from 1 s at)))))
     (next_on p p (le_refl p)))

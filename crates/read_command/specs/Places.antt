@@ -1,7 +1,7 @@
 -- The productions by position, in Reading's order and words: `commandAt s at` stands beside `commandR s at` (crate `megaco`, Reading), as its type
 -- says. Its `.place` is what the first pass promises (the place after the part, white space included, or a fault), its `.tree` and `.end` what
 -- the second pass does; where the part does not read, these have no meaning. Places inside a production have names of their own.
-use Rattle.std.specs.Prelude.{ℕ, zero, suc, ◌+◌, ◌≡◌, refl, Bool, true, false, ◌&&◌, ◌||◌, List, [], ◌∷◌, eqb}
+use Rattle.std.specs.Prelude.{ℕ, zero, suc, ◌+◌, ◌≡◌, refl, Bool, true, false, ◌&&◌, ◌||◌, List, [], ◌∷◌, eqb, Some, None}
 use Rattle.std.proofs.Common.{sym}
 use Rattle.std.proofs.Math.Option.{Option, none, some}
 use Rattle.base.specs.Pick.{pick}
@@ -13,7 +13,7 @@ use Rattle.megaco.specs.Items.{called}
 use Rattle.megaco.specs.Tokens.{mark_at, sign_at, word_at, termination_at, number_at, value_at, octets_at}
 use Rattle.megaco.specs.Tree.{octets, item, Command, command, triple, Property, priority, emergency, topology}
 use Rattle.megaco.specs.Reading.{Read, got, list_r, unlimited, key_at, second_r, value_of, value_r, braces_r, may_be_empty, or_none_r, item_r, items_r, media_here, speech_here, speech_r, media_item_r, media_r, top_item_r, top_r, prefix_at, prefix_end, is_property, order_r, command_r, context_r, word_here, property_r, Body, body, with_property, property_then, body_r, action_of, action_r, actions_r, fault, direction_r, party_r, triple_r, topology_r, ack, identifier_from, range_r, ack_r, acks_r}
-use Rattle.protocol.specs.Types.{Parsed, Next, Fault, Number, Null, Numbered, Choose, All, AuditToken, CtxToken, PriorityToken, EmergencyToken, TopologyToken, IsolateToken, OnewayToken, BothwayToken, Direction, Isolate, Oneway, Bothway}
+use Rattle.protocol.specs.Types.{Parsed, Number, Null, Numbered, Choose, All, AuditToken, CtxToken, PriorityToken, EmergencyToken, TopologyToken, IsolateToken, OnewayToken, BothwayToken, Direction, Isolate, Oneway, Bothway}
 use Rattle.read_command.specs.Production.{end_of, number_after, past_white, past_sign, word_end, spaced_at, joined_at, Reads, Production, fault_reads, got_reads, bind_reads, map_reads, skip_reads, word_reads, after_assoc, fault_p, got_p, token_p, number_p, pick_p, unless_p, bind_p, map_p, skip_p, sign_p, last_p, close_p, spaced_p, behind_p, placed_p, keyword_p, word_p, word_then_p, list_p, past_word_p}
 use Rattle.read_command.specs.declared.Rest.{Rest}
 
@@ -52,8 +52,8 @@ head_end s at = (value_item_at s (equal_place s at)).end
 
 pub head_cut : (x : Parsed) (f g h : ℕ → Parsed) → after x (λ p. after (f p) (λ q. after (g q) h)) ≡ after (after x (λ p. after (f p) g)) h
 unfolding after
-head_cut Fault f g h = refl
-head_cut (Next p) f g h = sym (after_assoc (f p) g h)
+head_cut None f g h = refl
+head_cut (Some p) f g h = sym (after_assoc (f p) g h)
 
 -- whether the item that begins here is called Audit, and whether its braces may be empty
 unfoldable pub audit_at : List ℕ → ℕ → Bool
@@ -74,11 +74,11 @@ pub word_cut : (s : List ℕ) (at : ℕ) (h : Option (List ℕ) → ℕ → Pars
 unfolding head_at after
 word_cut s at h = by (word_at s at) (word_reads s at).ends
   where
-    by : (x : Parsed) → ((p : ℕ) → x ≡ Next p → word_end s at ≡ p)
+    by : (x : Parsed) → ((p : ℕ) → x ≡ Some p → word_end s at ≡ p)
         → after x (λ p. after (spaced_at s (second_at s p).place) (λ q. after (value_item_at s q).place (h (second_at s p).tree)))
         ≡ after (after x (λ p. after (spaced_at s (second_at s p).place) (λ q. (value_item_at s q).place))) (h (second_at s (word_end s at)).tree)
-    by Fault n = refl
-    by (Next p) n = rw (n p refl) (sym (after_assoc (spaced_at s (second_at s p).place) (λ q. (value_item_at s q).place) (h (second_at s p).tree)))
+    by None n = refl
+    by (Some p) n = rw (n p refl) (sym (after_assoc (spaced_at s (second_at s p).place) (λ q. (value_item_at s q).place) (h (second_at s p).tree)))
 
 unfoldable pub item_at : {A : Type 0} {r : ℕ → Read (List A)} (left : ℕ) (inner : (i : ℕ) → Production (r i)) (s : List ℕ) (at : ℕ)
     → Production (item_r left r s at)
@@ -194,7 +194,7 @@ unfoldable pub direction_of : List ℕ → Direction
 direction_of w = pick (spells IsolateToken w) Isolate (pick (spells OnewayToken w) Oneway Bothway)
 
 pub direction_reads : (x y z : Bool) (p : ℕ)
-    → Reads (pick x (got Isolate p) (pick y (got Oneway p) (pick z (got Bothway p) fault))) (pick (x || y || z) (Next p) Fault) (pick x Isolate (pick y Oneway Bothway)) p
+    → Reads (pick x (got Isolate p) (pick y (got Oneway p) (pick z (got Bothway p) fault))) (pick (x || y || z) (Some p) None) (pick x Isolate (pick y Oneway Bothway)) p
 unfolding pick
 direction_reads true y z p = got_reads Isolate p
 direction_reads false true z p = got_reads Oneway p
@@ -205,7 +205,7 @@ unfoldable pub direction_at : (s : List ℕ) (at : ℕ) → Production (directio
 unfolding direction_r is_direction direction_of
 direction_at s at =
     word_then_p s at (λ w p.
-    record { place = pick (is_direction w) (Next p) Fault; tree = direction_of w; end = p; law = direction_reads (spells IsolateToken w) (spells OnewayToken w) (spells BothwayToken w) p })
+    record { place = pick (is_direction w) (Some p) None; tree = direction_of w; end = p; law = direction_reads (spells IsolateToken w) (spells OnewayToken w) (spells BothwayToken w) p })
 
 -- a name in a triple, and where it ends
 unfoldable pub party_at : (s : List ℕ) (at : ℕ) → Production (party_r s at)
@@ -254,7 +254,7 @@ property_at s at =
 
 -- what stands in an action's braces. The second pass goes over the properties and over the commands by themselves, so its tree is told by both
 unfoldable pub body_place : ℕ → List ℕ → ℕ → Parsed
-body_place zero s at = Fault
+body_place zero s at = None
 body_place (suc k) s at =
     let properties = joined_at (body_place k s) s (property_at s at).place in
     pick (is_property (word_here s at)) properties (commands_at s at).place
@@ -285,7 +285,7 @@ body_end s r = pick r.commands (commands_at s r.at).end r.at
 
 body_turn : (s : List ℕ) (t : Bool) (x : Property) (p : ℕ) {m : Read Body} {y : Parsed} {ps : List Property} (r : Rest)
     → Reads m y (body (x ∷ ps) (commands_in s r)) (body_end s r)
-    → Reads (pick t m (got (body (x ∷ []) []) p)) (pick t y (Next p)) (body (x ∷ pick t ps []) (commands_in s (pick t r (rest false p)))) (body_end s (pick t r (rest false p)))
+    → Reads (pick t m (got (body (x ∷ []) []) p)) (pick t y (Some p)) (body (x ∷ pick t ps []) (commands_in s (pick t r (rest false p)))) (body_end s (pick t r (rest false p)))
 unfolding pick commands_in body_end
 body_turn s true x p r h = h
 body_turn s false x p r h = got_reads (body (x ∷ []) []) p

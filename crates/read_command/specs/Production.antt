@@ -2,7 +2,7 @@
 -- tree stops there, and, told without failing, the tree and the end; with the law that r says the same. There is one combinator for each of
 -- Reading's, so a production is written once, in Reading's words, and its type says which reader it follows.
 use Prim.Native.Nat.{ℕ, zero, suc, ◌+◌}
-use Rattle.std.specs.Prelude.{◌≡◌, refl, Bool}
+use Rattle.std.specs.Prelude.{◌≡◌, refl, Bool, Some, None}
 use Rattle.std.proofs.Math.Bool.{true, false}
 use mathlib.Core.List.{List, [], ◌∷◌}
 use Rattle.base.specs.Pick.{pick}
@@ -11,29 +11,27 @@ use Rattle.megaco.specs.Bytes.{comma}
 use Rattle.megaco.specs.White.{after, white_at}
 use Rattle.megaco.specs.Tokens.{sign_at, up_to64, row_at, word_at, letter_at, after_number}
 use Rattle.megaco.specs.Reading.{Read, got, fault, bind, skip, reading, read_number, spaced, list_r, word_r}
-use Rattle.protocol.specs.Types.{Parsed, Next, Fault, Number, Got, Bad, WordByte}
-use Rattle.read_command.specs.declared.Following.{Following}
-use Rattle.read_command.specs.declared.Following.TheVariants.{Another, Ends}
+use Rattle.protocol.specs.Types.{Parsed, Number, WordByte}
 
 -- ---- places
 
 -- where a reader stopped
 unfoldable pub end_of : Parsed → ℕ
-end_of (Next p) = p
-end_of Fault = 0
+end_of (Some p) = p
+end_of None = 0
 
 unfoldable pub value_in : Number → ℕ
-value_in (Got v p) = v
-value_in Bad = 0
+value_in (Some (v, p)) = v
+value_in None = 0
 
 unfoldable pub next_in : Number → ℕ
-next_in (Got v p) = p
-next_in Bad = 0
+next_in (Some (v, p)) = p
+next_in None = 0
 
 -- a number behind another part
 unfoldable pub number_after : Parsed → (ℕ → Number) → Number
-number_after (Next p) f = f p
-number_after Fault f = Bad
+number_after (Some p) f = f p
+number_after None f = None
 
 unfoldable pub past_white : List ℕ → ℕ → ℕ
 past_white s at = end_of (white_at s at)
@@ -55,19 +53,10 @@ unfoldable pub joined_at : (ℕ → Parsed) → List ℕ → Parsed → Parsed
 joined_at rest s x =
     after x (λ p.
     let more = after (sign_at comma s p) rest in
-    pick (is_at s p comma) more (Next p))
-
--- what follows it: another part, or the end of the list
-unfoldable pub behind_comma : Parsed → Following
-behind_comma (Next q) = Another q
-behind_comma Fault = Ends Fault
-
-unfoldable pub following_of : List ℕ → Parsed → Following
-following_of s (Next p) = pick (is_at s p comma) (behind_comma (sign_at comma s p)) (Ends (Next p))
-following_of s Fault = Ends Fault
+    pick (is_at s p comma) more (Some p))
 
 unfoldable pub list_at : (ℕ → Parsed) → List ℕ → ℕ → ℕ → Parsed
-list_at one s zero at = Fault
+list_at one s zero at = None
 list_at one s (suc k) at = joined_at (list_at one s k) s (one at)
 
 unfoldable pub list_of : {A : Type 0} → (ℕ → A) → (ℕ → ℕ) → List ℕ → ℕ → ℕ → List A
@@ -93,7 +82,7 @@ found x a = reading x (λ e. a)
 
 pub record Reads {A : Type 0} (r : Read A) (x : Parsed) (a : A) (e : ℕ) : Type 0 where
   pub tree : r ≡ found x a
-  pub ends : (p : ℕ) → x ≡ Next p → e ≡ p
+  pub ends : (p : ℕ) → x ≡ Some p → e ≡ p
 
 pub record Production {A : Type 0} (r : Read A) : Type 0 where
   pub place : Parsed
@@ -104,26 +93,26 @@ pub record Production {A : Type 0} (r : Read A) : Type 0 where
 -- ---- the combinators
 
 module _ {A : Type 0} where
-  pub fault_reads : (a : A) (e : ℕ) → Reads fault Fault a e
+  pub fault_reads : (a : A) (e : ℕ) → Reads fault None a e
   unfolding reading
   fault_reads a e = record { tree = refl; ends = λ p n. cc }
 
-  pub got_reads : (a : A) (e : ℕ) → Reads (got a e) (Next e) a e
+  pub got_reads : (a : A) (e : ℕ) → Reads (got a e) (Some e) a e
   unfolding reading
   got_reads a e = record { tree = refl; ends = λ p n. cc }
 
   -- nothing reads here: what is told has no meaning
   abbrev pub fault_p : (a : A) (e : ℕ) → Production {A = A} fault
-  fault_p a e = record { place = Fault; tree = a; end = e; law = fault_reads a e }
+  fault_p a e = record { place = None; tree = a; end = e; law = fault_reads a e }
 
   abbrev pub got_p : (a : A) (e : ℕ) → Production (got a e)
-  got_p a e = record { place = Next e; tree = a; end = e; law = got_reads a e }
+  got_p a e = record { place = Some e; tree = a; end = e; law = got_reads a e }
 
   -- a token told by its place and its end, which is found by itself
-  pub reading_to : (x : Parsed) (f : ℕ → A) (e : ℕ) → ((p : ℕ) → x ≡ Next p → e ≡ p) → Reads (reading x f) x (f e) e
+  pub reading_to : (x : Parsed) (f : ℕ → A) (e : ℕ) → ((p : ℕ) → x ≡ Some p → e ≡ p) → Reads (reading x f) x (f e) e
   unfolding reading
-  reading_to (Next p) f e h = rw (h p refl) (got_reads (f p) p)
-  reading_to Fault f e h = fault_reads (f e) e
+  reading_to (Some p) f e h = rw (h p refl) (got_reads (f p) p)
+  reading_to None f e h = fault_reads (f e) e
 
   pub reading_reads : (x : Parsed) (f : ℕ → A) → Reads (reading x f) x (f (end_of x)) (end_of x)
   unfolding end_of
@@ -132,13 +121,13 @@ module _ {A : Type 0} where
   abbrev pub token_p : (x : Parsed) (f : ℕ → A) → Production (reading x f)
   token_p x f = record { place = x; tree = f (end_of x); end = end_of x; law = reading_reads x f }
 
-  pub number_reads : (n : Number) (f : ℕ → A) → Reads (read_number n f) (after_number n Next) (f (value_in n)) (next_in n)
+  pub number_reads : (n : Number) (f : ℕ → A) → Reads (read_number n f) (after_number n Some) (f (value_in n)) (next_in n)
   unfolding read_number after_number value_in next_in
-  number_reads (Got v p) f = got_reads (f v) p
-  number_reads Bad f = fault_reads (f 0) 0
+  number_reads (Some (v, p)) f = got_reads (f v) p
+  number_reads None f = fault_reads (f 0) 0
 
   abbrev pub number_p : (n : Number) (f : ℕ → A) → Production (read_number n f)
-  number_p n f = record { place = after_number n Next; tree = f (value_in n); end = next_in n; law = number_reads n f }
+  number_p n f = record { place = after_number n Some; tree = f (value_in n); end = next_in n; law = number_reads n f }
 
   pub pick_reads : (t : Bool) {r r' : Read A} {x x' : Parsed} {a a' : A} {e e' : ℕ} → Reads r x a e → Reads r' x' a' e' → Reads (pick t r r') (pick t x x') (pick t a a') (pick t e e')
   unfolding pick
@@ -150,13 +139,13 @@ module _ {A : Type 0} where
       record { place = pick t x.place y.place; tree = pick t x.tree y.tree; end = pick t x.end y.end; law = pick_reads t x.law y.law }
 
   -- what must not be
-  pub unless_reads : (t : Bool) (a : A) (e : ℕ) → Reads (pick t fault (got a e)) (pick t Fault (Next e)) a e
+  pub unless_reads : (t : Bool) (a : A) (e : ℕ) → Reads (pick t fault (got a e)) (pick t None (Some e)) a e
   unfolding pick
   unless_reads true a e = fault_reads a e
   unless_reads false a e = got_reads a e
 
   abbrev pub unless_p : (t : Bool) (a : A) (e : ℕ) → Production (pick t fault (got a e))
-  unless_p t a e = record { place = pick t Fault (Next e); tree = a; end = e; law = unless_reads t a e }
+  unless_p t a e = record { place = pick t None (Some e); tree = a; end = e; law = unless_reads t a e }
 
 module _ {A B : Type 0} where
   -- a part, and what follows it from its end
@@ -165,9 +154,9 @@ module _ {A B : Type 0} where
   unfolding bind reading after
   bind_reads {r} {x} {a} {e} {e'} f g {b} h k = rw h.tree (by x h.ends)
     where
-      by : (y : Parsed) → ((p : ℕ) → y ≡ Next p → e ≡ p) → Reads (bind (found y a) f) (after y g) b e'
-      by (Next p) n = rw (n p refl) at k
-      by Fault n = fault_reads b e'
+      by : (y : Parsed) → ((p : ℕ) → y ≡ Some p → e ≡ p) → Reads (bind (found y a) f) (after y g) b e'
+      by (Some p) n = rw (n p refl) at k
+      by None n = fault_reads b e'
 
   abbrev pub bind_p : {r : Read A} {f : A → ℕ → Read B} → Production r → ((a : A) (p : ℕ) → Production (f a p)) → Production (bind r f)
   bind_p {r} {f} x k =
@@ -183,9 +172,9 @@ module _ {A B : Type 0} where
   unfolding bind reading
   map_reads {r} {x} {a} {e} f h = rw h.tree (by x h.ends)
     where
-      by : (y : Parsed) → ((p : ℕ) → y ≡ Next p → e ≡ p) → Reads (bind (found y a) (λ z p. got (f z) p)) y (f a) e
-      by (Next p) n = rw (n p refl) (got_reads (f a) p)
-      by Fault n = fault_reads (f a) e
+      by : (y : Parsed) → ((p : ℕ) → y ≡ Some p → e ≡ p) → Reads (bind (found y a) (λ z p. got (f z) p)) y (f a) e
+      by (Some p) n = rw (n p refl) (got_reads (f a) p)
+      by None n = fault_reads (f a) e
 
   abbrev pub map_p : (f : A → B) {r : Read A} → Production r → Production (bind r (λ y p. got (f y) p))
   map_p f x = record { place = x.place; tree = f x.tree; end = x.end; law = map_reads f x.law }
@@ -194,19 +183,19 @@ module _ {B : Type 0} where
   -- a part that leaves nothing in the tree
   pub skip_reads : (x : Parsed) {e : ℕ} (f : ℕ → Read B) (g : ℕ → Parsed) {b : B} → Reads (f (end_of x)) (g (end_of x)) b e → Reads (skip x f) (after x g) b e
   unfolding skip after end_of
-  skip_reads (Next p) f g h = h
-  skip_reads Fault {e} f g {b} h = fault_reads b e
+  skip_reads (Some p) f g h = h
+  skip_reads None {e} f g {b} h = fault_reads b e
 
   abbrev pub skip_p : (x : Parsed) {f : ℕ → Read B} → ((p : ℕ) → Production (f p)) → Production (skip x f)
   skip_p x {f} k =
       record { place = after x (λ p. (k p).place); tree = (k (end_of x)).tree; end = (k (end_of x)).end; law = skip_reads x f (λ p. (k p).place) (k (end_of x)).law }
 
   -- the same where the part's end is found by itself
-  pub skip_to : (x : Parsed) (e : ℕ) {f : ℕ → Read B} (k : (p : ℕ) → Production (f p)) → ((p : ℕ) → x ≡ Next p → e ≡ p)
+  pub skip_to : (x : Parsed) (e : ℕ) {f : ℕ → Read B} (k : (p : ℕ) → Production (f p)) → ((p : ℕ) → x ≡ Some p → e ≡ p)
       → Reads (skip x f) (after x (λ p. (k p).place)) (k e).tree (k e).end
   unfolding skip after
-  skip_to (Next p) e k h = rw (h p refl) (k p).law
-  skip_to Fault e k h = fault_reads _ _
+  skip_to (Some p) e k h = rw (h p refl) (k p).law
+  skip_to None e k h = fault_reads _ _
 
   pub sign_reads : (b : ℕ) (s : List ℕ) (at : ℕ) {f : ℕ → Read B} (k : (p : ℕ) → Production (f p))
       → Reads (skip (sign_at b s at) f) (after (sign_at b s at) (λ p. (k p).place)) (k (past_sign b s at)).tree (k (past_sign b s at)).end
@@ -219,8 +208,8 @@ module _ {B : Type 0} where
 
   pub skip_last : (x : Parsed) (b : B) → Reads (skip x (got b)) x b (end_of x)
   unfolding skip end_of
-  skip_last (Next p) b = got_reads b p
-  skip_last Fault b = fault_reads b 0
+  skip_last (Some p) b = got_reads b p
+  skip_last None b = fault_reads b 0
 
   abbrev pub last_p : (x : Parsed) (b : B) → Production (skip x (got b))
   last_p x b = record { place = x; tree = b; end = end_of x; law = skip_last x b }
@@ -241,14 +230,14 @@ module _ {B : Type 0} where
 
   -- a number behind another part, and white space
   pub behind_reads : (s : List ℕ) (x : Parsed) (n : ℕ → Number) (f : ℕ → B)
-      → let m = number_after x n in Reads (skip x (λ p. spaced s (read_number (n p) f))) (spaced_at s (after_number m Next)) (f (value_in m)) (past_white s (next_in m))
+      → let m = number_after x n in Reads (skip x (λ p. spaced s (read_number (n p) f))) (spaced_at s (after_number m Some)) (f (value_in m)) (past_white s (next_in m))
   unfolding skip number_after
-  behind_reads s (Next p) n f = spaced_reads s (number_reads (n p) f)
-  behind_reads s Fault n f = unfold after_number spaced_at after in fault_reads _ _
+  behind_reads s (Some p) n f = spaced_reads s (number_reads (n p) f)
+  behind_reads s None n f = unfold after_number spaced_at after in fault_reads _ _
 
   abbrev pub behind_p : (s : List ℕ) (x : Parsed) (n : ℕ → Number) (f : ℕ → B) → Production (skip x (λ p. spaced s (read_number (n p) f)))
   behind_p s x n f =
-      record { place = spaced_at s (after_number (number_after x n) Next); tree = f (value_in (number_after x n)); end = past_white s (next_in (number_after x n)); law = behind_reads s x n f }
+      record { place = spaced_at s (after_number (number_after x n) Some); tree = f (value_in (number_after x n)); end = past_white s (next_in (number_after x n)); law = behind_reads s x n f }
 
   -- the same reader in other words
   abbrev pub placed_p : {r : Read B} (y : Parsed) (x : Production r) → x.place ≡ y → Production r
@@ -256,22 +245,22 @@ module _ {B : Type 0} where
 
 pub after_assoc : (x : Parsed) (f g : ℕ → Parsed) → after (after x f) g ≡ after x (λ p. after (f p) g)
 unfolding after
-after_assoc (Next p) f g = refl
-after_assoc Fault f g = refl
+after_assoc (Some p) f g = refl
+after_assoc None f g = refl
 
 -- ---- words
 
-ends_yes : (t : Bool) (x : Parsed) (e p : ℕ) → ((q : ℕ) → x ≡ Next q → e ≡ q) → pick t x Fault ≡ Next p → e ≡ p
+ends_yes : (t : Bool) (x : Parsed) (e p : ℕ) → ((q : ℕ) → x ≡ Some q → e ≡ q) → pick t x None ≡ Some p → e ≡ p
 unfolding pick
 ends_yes true x e p h n = h p n
 ends_yes false x e p h n = cc
 
-ends_no : (t : Bool) (e p : ℕ) → pick t Fault (Next e) ≡ Next p → e ≡ p
+ends_no : (t : Bool) (e p : ℕ) → pick t None (Some e) ≡ Some p → e ≡ p
 unfolding pick
 ends_no true e p n = cc
 ends_no false e p n = cc
 
-word_ends : (s : List ℕ) (at p : ℕ) → word_at s at ≡ Next p → word_end s at ≡ p
+word_ends : (s : List ℕ) (at p : ℕ) → word_at s at ≡ Some p → word_end s at ≡ p
 unfolding word_at word_end up_to64
 word_ends s at p n = ends_yes (letter_at s at) _ _ p (λ q. ends_no _ _ q) n
 
@@ -312,7 +301,7 @@ past_word_p s at k =
 -- ---- lists joined by commas
 
 turn : {A : Type 0} (t : Bool) (a : A) (p : ℕ) {x : Read (List A)} {y : Parsed} {l : List A} {e : ℕ}
-    → Reads x y (a ∷ l) e → Reads (pick t x (got (a ∷ []) p)) (pick t y (Next p)) (a ∷ pick t l []) (pick t e p)
+    → Reads x y (a ∷ l) e → Reads (pick t x (got (a ∷ []) p)) (pick t y (Some p)) (a ∷ pick t l []) (pick t e p)
 unfolding pick
 turn true a p h = h
 turn false a p h = got_reads (a ∷ []) p

@@ -1,37 +1,29 @@
 // Reading whole messages: the types of what is found, and the readers of items and commands. Actions and messages are read by the crates above.
 #![tactic(auto)]
 
-ghost use Rattle.std.specs.Prelude.{◌≡◌, ◌&&◌, ◌||◌, suc};
-ghost use Rattle.protocol.specs.Types.{Next, LocalToken, RemoteToken, TopologyToken};
+ghost use Rattle.std.specs.Prelude.{◌≡◌, ◌<◌, ◌^◌, ℕ, ◌&&◌, ◌||◌, suc, Some};
+ghost use Rattle.protocol.specs.Types.{Parsed, LocalToken, RemoteToken, TopologyToken};
 ghost use Rattle.megaco.specs.Keywords.{spells};
 ghost use Rattle.megaco.specs.Tokens.{word_at};
 ghost use Rattle.megaco.specs.Reading.{prefix_end, is_property, media_here, brace_from, speech_here};
 ghost use Rattle.read_command.specs.Pieces.{Holds};
-ghost use Rattle.read_command.specs.Production.{spaced_at, following_of};
+ghost use Rattle.read_command.specs.Production.{list_at};
 ghost use Rattle.base.specs.Lists.{is_at};
 ghost use Rattle.megaco.specs.Bytes.{right_brace};
 ghost use Rattle.read_command.specs.Places.{second_at, value_item_at, braces_at, head_from, head_at, audit_at, empty_at, or_none_at, item_at, items_at, speech_at, media_item_at, media_at, top_item_at, top_at, order_at, order_start, command_head_at, command_at, commands_at};
 
-use megaco::{Class, Parsed, Token};
+use megaco::{Class, Token};
 
-// What a message reads as: well-formed, or the fault that is told, a fault inside a transaction's braces with the identifier.
-#[derive(Clone, Copy)]
-pub enum Verdict {
-    WellFormed,
+// The fault that is told of a message: one inside a transaction's braces with the identifier, one elsewhere, another version than 1.
+#[derive(Clone, Copy, PartialEq, Eq)]
+pub enum Fault {
     Fault400,
     Fault403(u32),
     WrongVersion406,
 }
 
-// What a transaction's braces read as: the place after them and the white space there; or a fault outside them, or one between them.
-#[derive(Clone, Copy)]
-pub enum Braces {
-    Past(usize),
-    Outside,
-    Within,
-}
-
 // What follows an action's properties: commands, or none; and the place where they begin, or where the properties end.
+// One place is told either way, and whether commands follow is asked by itself: as an enum it would be matched for the place three times.
 #[derive(Clone, Copy)]
 pub struct Rest {
     pub commands: bool,
@@ -45,98 +37,82 @@ pub struct Piece {
     pub to: usize,
 }
 
-// What follows a part of a list: another part, which begins here, or the list ends, and this is what it reads as.
-#[derive(Clone, Copy)]
-pub enum Following {
-    Another(usize),
-    Ends(Parsed),
-}
-
 // The bytes from a place up to another, brought within the message.
+#[tactic(auto, using(crate::proofs::PartLaws::piece_is, crate::proofs::PartLaws::part_within))]
 pub fn piece_of(s: &[u8], a: usize, e: usize) -> Piece
     ensures { Holds s.now a e result }
 {
-    let to = numbers::low(e, s.len());
-    let from = numbers::low(a, to);
+    let to = e.min(s.len());
+    let from = a.min(to);
     Piece { from: from, to: to }
 }
 
-// A part that was read, and the white space after it.
-pub fn spaced(s: &[u8], x: Parsed) -> Parsed
-    ensures { result ≡ spaced_at s.now x }
+// At most so many parts joined by commas, each read by `part`.
+pub fn list<F: Fn(usize) -> Option<usize>>(
+    s: &[u8],
+    most: usize,
+    at: usize,
+    part: F,
+) -> Option<usize>
+    requires { F.IsAlwaysCallable part }
+    ensures { (one : ℕ → Parsed) → ((i : ℕ) (r : Parsed) → i < 2 ^ 64 → F.post part i r → r ≡ one i) → result ≡ list_at one s.now most at }
 {
-    match x {
-        Parsed::Next(p) => text::white(s, p),
-        Parsed::Fault => Parsed::Fault,
+    let mut i = at;
+    for n in 0..most {
+        let e = part(i)?;
+        if !text::is_at(s, e, b',') {
+            return Some(e);
+        }
+        i = text::white(s, e + 1)?;
     }
-}
-
-// What follows a part that was read: another one behind a comma, or nothing.
-pub fn after_part(s: &[u8], x: Parsed) -> Following
-    ensures { result ≡ following_of s.now x }
-{
-    let Parsed::Next(p) = x else {
-        return Following::Ends(Parsed::Fault);
-    };
-    if text::is_at(s, p, b',') {
-        let c = text::white(s, p + 1);
-        let Parsed::Next(q) = c else {
-            return Following::Ends(Parsed::Fault);
-        };
-        return Following::Another(q);
-    }
-    Following::Ends(Parsed::Next(p))
+    None
 }
 
 // ---- items
 
 // An optional second word.
-fn second(s: &[u8], at: usize) -> Parsed
+#[tactic(auto, using(crate::proofs::ListLaws::steps), unfolding(crate::specs::Places::second_at))]
+fn second(s: &[u8], at: usize) -> Option<usize>
     ensures { result ≡ (second_at s.now at).place }
 {
     if text::is_at(s, at, b'/') {
         return tokens::word(s, at + 1);
     }
-    Parsed::Next(at)
+    Some(at)
 }
 
 // An optional value.
-fn item_value(s: &[u8], at: usize) -> Parsed
+#[tactic(auto, using(crate::proofs::ListLaws::steps), unfolding(crate::specs::Production::spaced_at, crate::specs::Places::value_item_at, base::specs::Pick::pick, megaco::specs::White::after))]
+fn item_value(s: &[u8], at: usize) -> Option<usize>
     ensures { result ≡ (value_item_at s.now at).place }
 {
     if text::is_at(s, at, b'=') {
-        let a = text::white(s, at + 1);
-        let Parsed::Next(p) = a else {
-            return Parsed::Fault;
-        };
-        return spaced(s, tokens::value(s, p));
+        let p = text::white(s, at + 1)?;
+        return text::white(s, tokens::value(s, p)?);
     }
-    Parsed::Next(at)
+    Some(at)
 }
 
 // An item before its braces, behind its word, which ends here.
-fn head_from(s: &[u8], e: usize) -> Parsed
+#[tactic(auto, using(crate::proofs::ListLaws::steps), unfolding(crate::specs::Places::head_from, crate::specs::Production::spaced_at, base::specs::Pick::pick, megaco::specs::White::after))]
+fn head_from(s: &[u8], e: usize) -> Option<usize>
     ensures { result ≡ head_from s.now e }
 {
-    let x = spaced(s, second(s, e));
-    let Parsed::Next(q) = x else {
-        return Parsed::Fault;
-    };
+    let q = text::white(s, second(s, e)?)?;
     item_value(s, q)
 }
 
 // An item before its braces.
-fn head(s: &[u8], at: usize) -> Parsed
+#[tactic(auto, using(crate::proofs::ListLaws::steps), unfolding(crate::specs::Places::head_at, base::specs::Pick::pick, megaco::specs::White::after))]
+fn head(s: &[u8], at: usize) -> Option<usize>
     ensures { result ≡ head_at s.now at }
 {
-    let w = tokens::word(s, at);
-    let Parsed::Next(e) = w else {
-        return Parsed::Fault;
-    };
+    let e = tokens::word(s, at)?;
     head_from(s, e)
 }
 
 // Whether the item that begins here is called Audit: a name with `/` is not.
+#[tactic(auto, using(crate::proofs::ItemLaws::audit_is), unfolding(base::specs::Lists::part))]
 fn is_audit(s: &[u8], at: usize) -> bool
     ensures { result ≡ audit_at s.now at }
 {
@@ -148,6 +124,7 @@ fn is_audit(s: &[u8], at: usize) -> bool
 }
 
 // Whether the braces of the item that begins at `start`, opened before this place, are empty and may be, where `left` more levels are left.
+#[tactic(auto, using(crate::proofs::ItemLaws::empty_deep, crate::proofs::ItemLaws::empty_yes, crate::proofs::ItemLaws::empty_no))]
 pub fn empty_here(s: &[u8], left: usize, start: usize, at: usize) -> bool
     ensures { result ≡ (empty_at left s.now start && is_at s.now at right_brace) }
 {
@@ -162,59 +139,49 @@ pub fn empty_here(s: &[u8], left: usize, start: usize, at: usize) -> bool
 
 // One item: its head, and the items in its braces, where `left` more levels may be opened.
 #[cycle(braced_items_item_items)]
-fn item(s: &[u8], left: usize, at: usize) -> Parsed
+#[tactic(auto, unfolding(crate::specs::Places::item_at, megaco::specs::White::after))]
+fn item(s: &[u8], left: usize, at: usize) -> Option<usize>
     ensures { result ≡ (item_at left (items_at left s.now) s.now at).place }
 {
-    let h = head(s, at);
-    let Parsed::Next(p) = h else {
-        return Parsed::Fault;
-    };
+    let p = head(s, at)?;
     braced_items(s, left, at, p)
 }
 
 // Items joined by commas, in each of which `left` more levels may be opened.
 #[cycle(braced_items_item_items)]
-fn items(s: &[u8], left: usize, at: usize) -> Parsed
+fn items(s: &[u8], left: usize, at: usize) -> Option<usize>
     ensures { result ≡ (items_at (suc left) s.now at).place }
 {
-    let mut i = at;
-    loop {
-        let f = after_part(s, item(s, left, i));
-        match f {
-            Following::Another(q) => i = q,
-            Following::Ends(r) => return r,
-        }
-    }
+    let part = |i: usize| -> Option<usize>
+        ensures { result ≡ (item_at left (items_at left s.entry.now) s.entry.now i).place }
+    { item(s, left, i) };
+    list(s, s.len() + 1, at, part)
 }
 
 // Items of at most `left` levels in braces, if they stand here, or none in those of an item that begins at `start` and may have none.
 #[cycle(braced_items_item_items)]
-fn braced_items(s: &[u8], left: usize, start: usize, at: usize) -> Parsed
+#[tactic(auto, using(crate::proofs::ListLaws::steps, crate::proofs::ItemLaws::items_level), unfolding(crate::specs::Places::braces_at, crate::specs::Places::or_none_at, crate::specs::Places::empty_at, megaco::specs::White::after, base::specs::Pick::pick))]
+fn braced_items(s: &[u8], left: usize, start: usize, at: usize) -> Option<usize>
     ensures { result ≡ (braces_at (or_none_at (empty_at left s.now start) (items_at left s.now) s.now) s.now at).place }
 {
     if text::is_at(s, at, b'{') {
         if left == 0 {
-            return Parsed::Fault;
+            return None;
         }
-        let o = text::white(s, at + 1);
-        let Parsed::Next(p) = o else {
-            return Parsed::Fault;
-        };
+        let p = text::white(s, at + 1)?;
         if empty_here(s, left, start, p) {
             return text::sign(s, p, b'}');
         }
-        let i = items(s, left - 1, p);
-        let Parsed::Next(q) = i else {
-            return Parsed::Fault;
-        };
+        let q = items(s, left - 1, p)?;
         return text::sign(s, q, b'}');
     }
-    Parsed::Next(at)
+    Some(at)
 }
 
 // ---- Local and Remote in a level 1 Media
 
 // Whether an item that is called Media begins here: a name with `/` is not.
+#[tactic(auto, using(crate::proofs::ItemLaws::media_is), unfolding(base::specs::Lists::part))]
 pub fn media_here(s: &[u8], at: usize) -> bool
     ensures { result ≡ media_here s.now at }
 {
@@ -233,16 +200,18 @@ fn holds_text(w: &[u8]) -> bool
 }
 
 // Whether a brace stands behind white space that was read.
-fn brace_from(s: &[u8], w: Parsed) -> bool
+#[tactic(auto, using(crate::proofs::ItemLaws::brace_next, crate::proofs::ItemLaws::brace_fault))]
+fn brace_from(s: &[u8], w: Option<usize>) -> bool
     ensures { result ≡ brace_from s.now w }
 {
     match w {
-        Parsed::Next(p) => text::is_at(s, p, b'{'),
-        Parsed::Fault => false,
+        Some(p) => text::is_at(s, p, b'{'),
+        None => false,
     }
 }
 
 // Whether Local or Remote stands here, and a brace comes next.
+#[tactic(auto, using(crate::proofs::ItemLaws::speech_yes, crate::proofs::ItemLaws::speech_no), unfolding(base::specs::Lists::part))]
 pub fn speech_here(s: &[u8], at: usize) -> bool
     ensures { result ≡ speech_here s.now at }
 {
@@ -258,27 +227,19 @@ pub fn speech_here(s: &[u8], at: usize) -> bool
 }
 
 // Local or Remote, with the text in its braces.
-fn speech(s: &[u8], at: usize) -> Parsed
+#[tactic(auto, using(crate::proofs::ListLaws::steps), unfolding(crate::specs::Production::spaced_at, crate::specs::Places::speech_at, base::specs::Pick::pick, megaco::specs::White::after))]
+fn speech(s: &[u8], at: usize) -> Option<usize>
     ensures { result ≡ (speech_at s.now at).place }
 {
-    let w = spaced(s, tokens::word(s, at));
-    let Parsed::Next(p) = w else {
-        return Parsed::Fault;
-    };
-    let o = text::sign(s, p, b'{');
-    let Parsed::Next(q) = o else {
-        return Parsed::Fault;
-    };
-    let t = text::octets(s, q);
-    let Parsed::Next(e) = t else {
-        return Parsed::Fault;
-    };
+    let p = text::white(s, tokens::word(s, at)?)?;
+    let q = text::sign(s, p, b'{')?;
+    let e = text::octets(s, q)?;
     text::sign(s, e, b'}')
 }
 
 // The same, where a word that may be Local or Remote is read already.
 fn speech_from(s: &[u8], at: usize, e: usize) -> bool
-    requires { word_at s.now at ≡ Next e }
+    requires { word_at s.now at ≡ Some e }
     ensures { result ≡ speech_here s.now at }
 {
     if holds_text(&s[at..e]) {
@@ -289,117 +250,91 @@ fn speech_from(s: &[u8], at: usize, e: usize) -> bool
 }
 
 // What a level 1 Media holds.
-fn media_item(s: &[u8], at: usize) -> Parsed
+#[tactic(auto, using(crate::proofs::ItemLaws::media_no_word, crate::proofs::ItemLaws::word_got, crate::proofs::ListLaws::steps, crate::proofs::ItemLaws::media_fault, crate::proofs::ItemLaws::media_item), unfolding(crate::specs::Places::media_item_at, base::specs::Pick::pick, megaco::specs::White::after))]
+fn media_item(s: &[u8], at: usize) -> Option<usize>
     ensures { result ≡ (media_item_at s.now at).place }
 {
-    let w = tokens::word(s, at);
-    let Parsed::Next(e) = w else {
-        return Parsed::Fault;
-    };
+    let e = tokens::word(s, at)?;
     if speech_from(s, at, e) {
         return speech(s, at);
     }
-    let h = head_from(s, e);
-    let Parsed::Next(p) = h else {
-        return Parsed::Fault;
-    };
+    let p = head_from(s, e)?;
     braced_items(s, 6, at, p)
 }
 
-fn media_items(s: &[u8], at: usize) -> Parsed
+fn media_items(s: &[u8], at: usize) -> Option<usize>
     ensures { result ≡ (media_at s.now at).place }
 {
-    let mut i = at;
-    loop {
-        let f = after_part(s, media_item(s, i));
-        match f {
-            Following::Another(q) => i = q,
-            Following::Ends(r) => return r,
-        }
-    }
+    let part = |i: usize| -> Option<usize>
+        ensures { result ≡ (media_item_at s.entry.now i).place }
+    { media_item(s, i) };
+    list(s, s.len() + 1, at, part)
 }
 
 // The same in braces, if they stand here, of an item that begins at `start`.
-fn braced_media(s: &[u8], start: usize, at: usize) -> Parsed
+#[tactic(auto, using(crate::proofs::ListLaws::steps, crate::proofs::ItemLaws::media_empty, crate::proofs::ItemLaws::media_inside), unfolding(crate::specs::Places::braces_at, base::specs::Pick::pick, megaco::specs::White::after))]
+fn braced_media(s: &[u8], start: usize, at: usize) -> Option<usize>
     ensures { result ≡ (braces_at (or_none_at (empty_at 7 s.now start) (media_at s.now) s.now) s.now at).place }
 {
     if text::is_at(s, at, b'{') {
-        let o = text::white(s, at + 1);
-        let Parsed::Next(p) = o else {
-            return Parsed::Fault;
-        };
+        let p = text::white(s, at + 1)?;
         if empty_here(s, 7, start, p) {
             return text::sign(s, p, b'}');
         }
-        let i = media_items(s, p);
-        let Parsed::Next(q) = i else {
-            return Parsed::Fault;
-        };
+        let q = media_items(s, p)?;
         return text::sign(s, q, b'}');
     }
-    Parsed::Next(at)
+    Some(at)
 }
 
 // Whether an item whose word is read already is called Media.
+#[tactic(auto, using(crate::proofs::ItemLaws::media_read, crate::proofs::ItemLaws::read_ahead, crate::proofs::ItemLaws::read_within), unfolding(base::specs::Lists::part))]
 fn media_from(s: &[u8], at: usize, e: usize) -> bool
-    requires { word_at s.now at ≡ Next e }
+    requires { word_at s.now at ≡ Some e }
     ensures { result ≡ media_here s.now at }
 {
     !text::is_at(s, e, b'/') & keywords::spells(Token::MediaToken, &s[at..e])
 }
 
 // An item of level 1.
-fn top_item(s: &[u8], at: usize) -> Parsed
+#[tactic(auto, using(crate::proofs::ItemLaws::top_no_word, crate::proofs::ItemLaws::top_fault, crate::proofs::ItemLaws::word_got, crate::proofs::ItemLaws::top_media, crate::proofs::ItemLaws::top_other), unfolding(base::specs::Pick::pick, megaco::specs::White::after))]
+fn top_item(s: &[u8], at: usize) -> Option<usize>
     ensures { result ≡ (top_item_at s.now at).place }
 {
-    let w = tokens::word(s, at);
-    let Parsed::Next(e) = w else {
-        return Parsed::Fault;
-    };
-    let h = head_from(s, e);
-    let Parsed::Next(p) = h else {
-        return Parsed::Fault;
-    };
+    let e = tokens::word(s, at)?;
+    let p = head_from(s, e)?;
     if media_from(s, at, e) {
         return braced_media(s, at, p);
     }
     braced_items(s, 7, at, p)
 }
 
-fn top_items(s: &[u8], at: usize) -> Parsed
+fn top_items(s: &[u8], at: usize) -> Option<usize>
     ensures { result ≡ (top_at s.now at).place }
 {
-    let mut i = at;
-    loop {
-        let f = after_part(s, top_item(s, i));
-        match f {
-            Following::Another(q) => i = q,
-            Following::Ends(r) => return r,
-        }
-    }
+    let part = |i: usize| -> Option<usize>
+        ensures { result ≡ (top_item_at s.entry.now i).place }
+    { top_item(s, i) };
+    list(s, s.len() + 1, at, part)
 }
 
 // A command's items in braces, if they stand here.
-fn braced_top(s: &[u8], at: usize) -> Parsed
+#[tactic(auto, using(crate::proofs::ListLaws::steps), unfolding(crate::specs::Places::braces_at, base::specs::Pick::pick, megaco::specs::White::after))]
+fn braced_top(s: &[u8], at: usize) -> Option<usize>
     ensures { result ≡ (braces_at (top_at s.now) s.now at).place }
 {
     if text::is_at(s, at, b'{') {
-        let o = text::white(s, at + 1);
-        let Parsed::Next(p) = o else {
-            return Parsed::Fault;
-        };
-        let i = top_items(s, p);
-        let Parsed::Next(q) = i else {
-            return Parsed::Fault;
-        };
+        let p = text::white(s, at + 1)?;
+        let q = top_items(s, p)?;
         return text::sign(s, q, b'}');
     }
-    Parsed::Next(at)
+    Some(at)
 }
 
 // ---- commands
 
 // The place past `O-` or `W-`, if it stands here; the letter is given as a capital.
+#[tactic(auto, using(crate::proofs::CommandLaws::prefix_yes, crate::proofs::CommandLaws::prefix_no, crate::proofs::CommandLaws::prefix_beyond))]
 pub fn prefix_end(s: &[u8], at: usize, b: u8) -> usize
     ensures { result ≡ prefix_end b s.now at }
 {
@@ -412,6 +347,7 @@ pub fn prefix_end(s: &[u8], at: usize, b: u8) -> usize
 }
 
 // Where a command's word begins.
+#[tactic(auto, using(crate::proofs::ListLaws::steps), unfolding(crate::specs::Places::order_start))]
 fn order_start(s: &[u8], at: usize) -> usize
     ensures { result ≡ order_start s.now at }
 {
@@ -420,6 +356,7 @@ fn order_start(s: &[u8], at: usize) -> usize
 }
 
 // Whether a word is a property's.
+#[tactic(auto, unfolding(megaco::specs::Reading::is_property))]
 pub fn is_property(w: &[u8]) -> bool
     ensures { result ≡ is_property w.now }
 {
@@ -429,21 +366,19 @@ pub fn is_property(w: &[u8]) -> bool
 }
 
 // A command's word.
-fn order(s: &[u8], at: usize) -> Parsed
+#[tactic(auto, using(crate::proofs::ListLaws::steps, tokens::proofs::TokenLaws::word_ahead, tokens::proofs::TokenLaws::word_within), unfolding(crate::specs::Places::order_at, base::specs::Lists::part, base::specs::Pick::pick, megaco::specs::White::after))]
+fn order(s: &[u8], at: usize) -> Option<usize>
     ensures { result ≡ (order_at s.now at).place }
 {
-    let w = tokens::word(s, at);
-    let Parsed::Next(e) = w else {
-        return Parsed::Fault;
-    };
+    let e = tokens::word(s, at)?;
     if is_property(&s[at..e]) {
-        return Parsed::Fault;
+        return None;
     }
-    Parsed::Next(e)
+    Some(e)
 }
 
 // A command's marks and its word.
-fn command_word(s: &[u8], at: usize) -> Parsed
+fn command_word(s: &[u8], at: usize) -> Option<usize>
     ensures { result ≡ (order_at s.now (order_start s.now at)).place }
 {
     let o = order_start(s, at);
@@ -451,45 +386,29 @@ fn command_word(s: &[u8], at: usize) -> Parsed
 }
 
 // A command before its braces.
-fn command_head(s: &[u8], at: usize) -> Parsed
+#[tactic(auto, using(crate::proofs::ListLaws::steps), unfolding(crate::specs::Production::spaced_at, crate::specs::Places::command_head_at, base::specs::Pick::pick, megaco::specs::White::after))]
+fn command_head(s: &[u8], at: usize) -> Option<usize>
     ensures { result ≡ command_head_at s.now at }
 {
-    let w = spaced(s, command_word(s, at));
-    let Parsed::Next(p) = w else {
-        return Parsed::Fault;
-    };
-    let e = text::sign(s, p, b'=');
-    let Parsed::Next(q) = e else {
-        return Parsed::Fault;
-    };
-    spaced(s, tokens::termination(s, q))
+    let p = text::white(s, command_word(s, at)?)?;
+    let q = text::sign(s, p, b'=')?;
+    text::white(s, tokens::termination(s, q)?)
 }
 
-fn command(s: &[u8], at: usize) -> Parsed
+#[tactic(auto, using(crate::proofs::ListLaws::steps), unfolding(crate::specs::Places::command_at, base::specs::Pick::pick, megaco::specs::White::after))]
+fn command(s: &[u8], at: usize) -> Option<usize>
     ensures { result ≡ (command_at s.now at).place }
 {
-    let h = command_head(s, at);
-    let Parsed::Next(p) = h else {
-        return Parsed::Fault;
-    };
+    let p = command_head(s, at)?;
     braced_top(s, p)
 }
 
 // One to 64 commands.
-pub fn commands(s: &[u8], at: usize) -> Parsed
+pub fn commands(s: &[u8], at: usize) -> Option<usize>
     ensures { result ≡ (commands_at s.now at).place }
 {
-    let mut i = at;
-    let mut left: usize = 64;
-    while 0 < left {
-        let f = after_part(s, command(s, i));
-        match f {
-            Following::Another(q) => {
-                i = q;
-                left -= 1;
-            }
-            Following::Ends(r) => return r,
-        }
-    }
-    Parsed::Fault
+    let part = |i: usize| -> Option<usize>
+        ensures { result ≡ (command_at s.entry.now i).place }
+    { command(s, i) };
+    list(s, 64, at, part)
 }

@@ -12,12 +12,13 @@ use megaco::Context;
 pub const TRANSACTION_ROOM: usize = 2049;
 
 // An action's context.
+#[tactic(auto, unfolding(megaco::specs::Reply::context_text))]
 fn put_context(out: &mut [u8], at: usize, c: Context) -> usize
     ensures { Appended out.old at (context_text c) out.new result }
 {
     match c {
         Context::Null => writer::put_byte(out, at, b'-'),
-        Context::Numbered(n) => writer::put_decimal(out, at, n),
+        Context::Numbered(n) => writer::put_decimal(out, at, n as usize),
         Context::Choose => writer::put_byte(out, at, b'$'),
         Context::All => writer::put_byte(out, at, b'*'),
     }
@@ -28,7 +29,7 @@ pub fn put_reply_open(out: &mut [u8], at: usize, id: u32) -> usize
     ensures { Appended out.old at (reply_open id) out.new result }
 {
     let p = writer::put_bytes(out, at, b"P=");
-    let q = writer::put_decimal(out, p, id);
+    let q = writer::put_decimal(out, p, id as usize);
     writer::put_byte(out, q, b'{')
 }
 
@@ -66,12 +67,13 @@ pub fn put_fault403(out: &mut [u8], at: usize, id: u32) -> usize
     put_fault(out, at, id, 403)
 }
 
-// A transaction's `P=id{..}` of n bytes from a scratch buffer: copied, or 533 where it is over 2,048 bytes.
+// A transaction's `P=id{..}` of n bytes from a scratch buffer: copied, or 533 where it is over 2,048 bytes. The definition `limited_from` has n beside the bytes,
+// for it may be more than they are.
 pub fn put_limited(out: &mut [u8], at: usize, id: u32, scratch: &[u8], n: usize) -> usize
     ensures { Appended out.old at (limited_from id scratch.now n) out.new result }
 {
     if n < TRANSACTION_ROOM {
-        let e = numbers::low(n, scratch.len());
+        let e = n.min(scratch.len());
         return writer::put_bytes(out, at, &scratch[0..e]);
     }
     put_fault(out, at, id, 533)

@@ -16,7 +16,7 @@ pub fn put_error(out: &mut [u8], at: usize, code: u32) -> usize
     ensures { Appended out.old at (error_text code) out.new result }
 {
     let p = writer::put_bytes(out, at, b"ER=");
-    let q = writer::put_decimal(out, p, code);
+    let q = writer::put_decimal(out, p, code as usize);
     writer::put_bytes(out, q, b"{}")
 }
 
@@ -50,12 +50,12 @@ pub fn put_name(out: &mut [u8], at: usize, lines: u32, i: usize) -> usize
     let first = CHANNELS * lines as usize;
     if first <= i {
         let p = writer::put_bytes(out, at, b"R/");
-        return writer::put_count(out, p, i - first + 1);
+        return writer::put_decimal(out, p, i - first + 1);
     }
     let p = writer::put_bytes(out, at, b"L/");
-    let q = writer::put_count(out, p, i / CHANNELS + 1);
+    let q = writer::put_decimal(out, p, i / CHANNELS + 1);
     let u = writer::put_byte(out, q, b'/');
-    writer::put_count(out, u, i % CHANNELS + 1)
+    writer::put_decimal(out, u, i % CHANNELS + 1)
 }
 
 // The short keyword and the bytes received.
@@ -77,7 +77,7 @@ pub fn put_named(out: &mut [u8], at: usize, op: Op, lines: u32, i: usize) -> usi
     put_name(out, q, lines, i)
 }
 
-// A state's short keyword.
+// A state's short keyword. State and mode are the numbers that a property word holds, as in the definitions `state_text` and `mode_text`.
 fn put_state(out: &mut [u8], at: usize, state: u32) -> usize
     ensures { Appended out.old at (state_text state) out.new result }
 {
@@ -149,7 +149,7 @@ fn put_packets(out: &mut [u8], at: usize, packets: u32) -> usize
     ensures { Appended out.old at (packets_text packets) out.new result }
 {
     let p = writer::put_bytes(out, at, b"rtp/pr=");
-    writer::put_decimal(out, p, packets)
+    writer::put_decimal(out, p, packets as usize)
 }
 
 // The jitter.
@@ -157,7 +157,7 @@ fn put_jitter(out: &mut [u8], at: usize, jitter: u64) -> usize
     ensures { Appended out.old at (jitter_text jitter) out.new result }
 {
     let p = writer::put_bytes(out, at, b"rtp/jit=");
-    writer::put_count(out, p, jitter as usize)
+    writer::put_decimal(out, p, jitter as usize)
 }
 
 fn put_figures(out: &mut [u8], at: usize, packets: u32, jitter: u64) -> usize
@@ -188,6 +188,7 @@ pub fn put_detail(out: &mut [u8], at: usize, audited: bool, word: u32) -> usize
 }
 
 // An action error.
+#[tactic(auto, unfolding(megaco::specs::Reply::report_text))]
 pub fn put_failed(out: &mut [u8], at: usize, code: u32) -> usize
     ensures { Appended out.old at (report_text (failed code)) out.new result }
 {
@@ -209,7 +210,7 @@ pub fn put_standing(out: &mut [u8], at: usize, held: u32) -> usize
     ensures { Appended out.old at (report_text (standing held)) out.new result }
 {
     let p = writer::put_bytes(out, at, b"PR=");
-    let q = writer::put_decimal(out, p, numbers::priority(held));
+    let q = writer::put_decimal(out, p, numbers::priority(held) as usize);
     put_emergency(out, q, held)
 }
 

@@ -5,17 +5,20 @@ use mathlib.Core.Bool.{Bool, true, false}
 use mathlib.Core.List.{List, [], ◌∷◌, ◌++◌, append_assoc, append-nil}
 use native.Mathlib.Numerals.{add-one}
 use native.Mathlib.Omega.{arith}
-use lib.Dec.{leb, eqb}
-use lib.ListN.{length, get_or, take, drop, set, replicate, length-append, length-take, length-drop, drop_of_length-le, replicate-append-replicate}
+use Rattle.std.specs.List.{copy_within}
+use lib.Dec.{eqb}
+use lib.ListN.{length, get_or, take, drop, set, replicate, length-append, length-take, drop_of_length-le}
 use lib.Seq.{drop-cons, take-take, get_or-take, get_or-drop}
-use borrow.Author.Tests.{eq-eqb, ne_eqb, le-leb, lt-leb}
+use borrow.Author.Tests.{eq-eqb, ne_eqb, le-leb}
 use Rattle.base.specs.Pick.{pick}
 use Rattle.base.specs.Lists.{before}
 use Rattle.base.specs.Bytes.{put, ◌then◌}
 use Rattle.base.specs.Out.{Appended}
-use Rattle.base.proofs.OutLaws.{none, more, all, after, drop_put, same_length_by}
+use Rattle.base.proofs.OutLaws.{none, byte, after, drop_put, same_length_by}
+use Rattle.room.proofs.RoomLaws.{before_short}
+use Rattle.room.proofs.PutLaws.{moved}
 use Rattle.megaco.specs.Kept.{Kept, kept_under, youngest, acked}
-use Rattle.megaco.specs.Room.{Room, room, row_of, slot_place, slot_id, slot_sender, slot_reply, slot_of, held_in, lowest_free, slot_for, lined, noted, stored, keep_at, keep_in, left, closed, drop_in}
+use Rattle.megaco.specs.Room.{Room, room, row_of, slot_id, slot_sender, slot_reply, slot_of, held_in, lined, keep_in, left, closed, drop_in}
 use Rattle.room.specs.Keeping.{keep_fitting}
 
 -- what stands behind a text that was put stays
@@ -26,15 +29,6 @@ behind_put w l cur p k a h =
     rw z at (sym (get_or-drop k cur 0 0) ∙ ap (λ (x : List ℕ). get_or x 0 0) e ∙ get_or-drop k w 0 0)
 
 -- ---- the slots that are held
-
-pub before_short : (l : List ℕ) → length (before 0 l) ≤ length l
-unfolding before pick
-before_short [] = omega arith
-before_short (x ∷ l) = by (eqb x 0) (before_short l)
-  where
-    by : (t : Bool) → length (before 0 l) ≤ length l → length (pick t [] (x ∷ before 0 l)) ≤ suc (length l)
-    by true h = omega arith
-    by false h = omega arith
 
 pub before_take : (l : List ℕ) → before 0 l ≡ take (length (before 0 l)) l
 unfolding before pick
@@ -65,14 +59,6 @@ module _ (w l : List ℕ) (k : ℕ) (e : l ≡ take 16 w) (f : k ≡ length (bef
   unfolding held_in
   k_is = f ∙ ap (λ (x : List ℕ). length (before 0 x)) e
 
-  pub slot_full : (x : ℕ) → 16 ≤ k → x ≡ get_or w 0 0 → x ≡ slot_for w
-  unfolding slot_for pick
-  slot_full x h g = g ∙ rw (le-leb 16 (length (held_in w)) (omega (arith, k_is)))
-
-  pub slot_free : (x : ℕ) → k < 16 → x ≡ lowest_free 16 1 l → x ≡ slot_for w
-  unfolding slot_for pick
-  slot_free x h g = g ∙ rw (e, lt-leb 16 (length (held_in w)) (omega (arith, k_is)))
-
   pub long_row : 16 ≤ k → 16 ≤ length w
   long_row h = omega (arith, k_is, held_most w)
 
@@ -84,87 +70,20 @@ module _ (w l : List ℕ) (k : ℕ) (e : l ≡ take 16 w) (f : k ≡ length (bef
       let z : length (held_in w) - 15 ≡ 0 = omega (arith, k_is) in
       (after w 0 (held_in w) (n ∷ []) w w' k q a b).text ∙ rw z
 
-  pub line_full : (n : ℕ) (w₁ w₂ : List ℕ) (q : ℕ) → 16 ≤ k → Appended w 0 (drop 1 (take 16 w)) w₁ 15 → Appended w₁ 15 (n ∷ []) w₂ q → w₂ ≡ lined n w
+  pub line_full : (n : ℕ) → 16 ≤ k → set (copy_within w 1 16 0) 15 n ≡ lined n w
   unfolding lined youngest ◌then◌
-  line_full n w₁ w₂ q h a b =
+  line_full n h =
       let z : length (held_in w) ≡ 16 = omega (arith, k_is, held_most w) in
       let o : length (held_in w) - 15 ≡ 1 = omega arith in
       let own : held_in w ≡ take 16 w = held_take w ∙ rw z in
-      (after w 0 (drop 1 (take 16 w)) (n ∷ []) w₁ w₂ 15 q a b).text ∙ rw (o, own)
-
--- ---- the row moved up by one
-module _ (w cur : List ℕ) (i p : ℕ) (g : 16 ≤ length w) (a : Appended w 0 (take i (drop 1 (take 16 w))) cur p) where
-  row_long : length (drop 1 (take 16 w)) ≡ 15
-  row_long = omega (arith, length-drop 1 (take 16 w), length-take 16 w)
-
-  module _ (e : p ≡ i) (h : i < 15) (v : ℕ) (f : v ≡ get_or cur (i + 1) 0) (w' : List ℕ) (p' : ℕ) (b : Appended cur p (v ∷ []) w' p') where
-    v_is : v ≡ get_or (drop 1 (take 16 w)) i 0
-    v_is =
-        let z : 1 + i ≡ i + 1 = omega arith in
-        f ∙ behind_put w (take i (drop 1 (take 16 w))) cur p (i + 1) a (omega (arith, length-take i (drop 1 (take 16 w))))
-        ∙ sym (get_or-take 16 w (i + 1) 0 (omega arith)) ∙ sym (rw z at (get_or-drop 1 (take 16 w) i 0))
-
-    pub shift_on : Appended w 0 (take (i + 1) (drop 1 (take 16 w))) w' p'
-    shift_on = more w 0 (drop 1 (take 16 w)) cur w' i p p' (omega (arith, row_long)) a (rw v_is at b)
-
-    pub shift_next : p' ≡ i + 1
-    shift_next = omega (arith, b.next, same_length_by w 0 (take i (drop 1 (take 16 w))) cur p a)
-
-  pub shift_end : p ≡ i → i ≤ 15 → 15 ≤ i → Appended w 0 (drop 1 (take 16 w)) cur 15
-  shift_end e h k =
-      let z : p ≡ 15 = omega arith in
-      rw z at (all w 0 (drop 1 (take 16 w)) cur i p (omega (arith, row_long)) a)
-
-pub shift_begin : (w : List ℕ) → Appended w 0 (take 0 (drop 1 (take 16 w))) w 0
-shift_begin w = none w 0
-
--- ---- a slot's words and bytes
-
-pub note_is : (n id a b : ℕ) (w w₁ w₂ w₃ : List ℕ) → w₁ ≡ set w (15 + n) id → w₂ ≡ set w₁ (31 + n) a → w₃ ≡ set w₂ (47 + n) b → w₃ ≡ noted n id a b w
-unfolding noted
-note_is n id a b w w₁ w₂ w₃ e f g = g ∙ rw (f, e)
-
-pub store_is : (n : ℕ) (m x b b₁ b₂ : List ℕ) (a e p q : ℕ) → a ≡ slot_place n → Appended b a m b₁ p → e ≡ slot_place n + 72 → Appended b₁ e x b₂ q → b₂ ≡ stored n m x b
-unfolding stored
-store_is n m x b b₁ b₂ a e p q f g h k = k.text ∙ rw (g.text, f, h)
+      let a = moved w (long_row h) in
+      let b = byte (copy_within w 1 16 0) 15 n (omega (arith, same_length_by w 0 (drop 1 (take 16 w)) (copy_within w 1 16 0) 15 a, long_row h)) in
+      (after w 0 (drop 1 (take 16 w)) (n ∷ []) (copy_within w 1 16 0) (set (copy_within w 1 16 0) 15 n) 15 16 a b).text ∙ rw (o, own)
 
 -- a reply that fits
 pub keep_fits : (m : List ℕ) (id : ℕ) (x : List ℕ) (r : Room) → length m ≤ 72 → length x ≤ 2048 → keep_fitting m id x r ≡ keep_in (kept_under m id x) r
 unfolding keep_fitting pick
 keep_fits m id x r h k = rw (le-leb (length m) 72 h, le-leb (length x) 2048 k)
-
-pub keep_is : (n id : ℕ) (m x w b w₁ w₂ b' : List ℕ) → length m ≤ 72 → length x ≤ 2048 → n ≡ slot_for w → w₁ ≡ lined n w → w₂ ≡ noted n id (length m) (length x) w₁ → b' ≡ stored n m x b
-    → room w₂ b' ≡ keep_fitting m id x (room w b)
-unfolding keep_in keep_at
-keep_is n id m x w b w₁ w₂ b' h k e f g i = rw (keep_fits m id x (room w b) h k, g, f, i, e)
-
-pub keep_long : (id : ℕ) (m x w b : List ℕ) → 2048 < length x → room w b ≡ keep_fitting m id x (room w b)
-unfolding keep_fitting pick
-keep_long id m x w b k = by (leb (length m) 72)
-  where
-    by : (t : Bool) → room w b ≡ pick t (pick (leb (length x) 2048) (keep_in (kept_under m id x) (room w b)) (room w b)) (room w b)
-    by true = rw (lt-leb (length x) 2048 k)
-    by false = refl
-
-pub keep_long_mid : (id : ℕ) (m x w b : List ℕ) → 72 < length m → room w b ≡ keep_fitting m id x (room w b)
-unfolding keep_fitting pick
-keep_long_mid id m x w b h = rw (lt-leb (length m) 72 h)
-
--- ---- zeros to the row's end
-
-pub clear_begin : (w : List ℕ) (at : ℕ) → Appended w at (replicate (at - at) 0) w at
-clear_begin w at = let z : at - at ≡ 0 = omega arith in rw z (none w at)
-
-module _ (w cur : List ℕ) (at i p : ℕ) (h : at ≤ i) (a : Appended w at (replicate (i - at) 0) cur p) where
-  pub clear_on : (w' : List ℕ) (p' : ℕ) → Appended cur p (0 ∷ []) w' p' → Appended w at (replicate (i + 1 - at) 0) w' p'
-  unfolding ◌then◌
-  clear_on w' p' b =
-      let z : i + 1 - at ≡ i - at + 1 = omega arith in
-      let e : ◌++◌ {A = ℕ} (replicate (i - at) 0) (0 ∷ []) ≡ replicate (i + 1 - at) 0 = replicate-append-replicate (i - at) 1 0 ∙ rw z in
-      rw e at (after w at (replicate (i - at) 0) (0 ∷ []) cur w' p p' a b)
-
-  pub clear_end : 16 ≤ i → i ≤ max 16 at → cur ≡ put w at (replicate (16 - at) 0)
-  clear_end k l = let z : i - at ≡ 16 - at = omega arith in a.text ∙ rw z
 
 -- ---- the row with some left out, as far as place i
 
@@ -249,9 +168,6 @@ module _ (r : Room) (q : Kept → Bool) where
     cut_end h w' f =
         let e : length (row_of r) ≤ i = omega (arith, length-take 16 r.words) in
         ended (rw (drop_of_length-le (row_of r) e)) w' f
-
-pub fall : (i : ℕ) → i < 16 → 16 - (i + 1) < 16 - i
-fall i h = omega arith
 
 module _ (w b m : List ℕ) (first last : ℕ) (cur : List ℕ) (p i : ℕ) (c : Cut (room w b) (acked m first last) cur p i) (w' : List ℕ) (f : w' ≡ put cur p (replicate (16 - p) 0)) where
   pub range_stop : i < 16 → (n : ℕ) → n ≡ get_or cur i 0 → n ≡ 0 → room w' b ≡ drop_in (acked m first last) (room w b)

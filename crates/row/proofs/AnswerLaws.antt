@@ -1,13 +1,15 @@
 -- Writing and reading as a whole, in the form in which `search` uses the laws.
+use Rattle.std.specs.Prelude.{Ok, Err}
+use Rattle.row_laws.specs.declared.RowError.TheVariants.{LinesUnfit, OutputTooShort, TableUnsound, RowUnfit}
+use Rattle.row_laws.specs.Answers.{Answer}
 use Prim.Native.Nat.{ℕ, ◌+◌, ◌-◌, ◌<◌, ◌≤◌}
 use mathlib.Core.Path.{◌≡◌, refl, sym, ap, ◌∙◌}
 use mathlib.Core.Bool.{Bool, true, false}
 use mathlib.Core.List.{List, ◌++◌}
-use native.Mathlib.Numerals.{add-one}
 use native.Mathlib.Nat.{zero-add}
 use native.Mathlib.Omega.{arith}
-use lib.ListN.{length, get_or, take, drop, set, length-set}
-use lib.Seq.{take-suc-set, take-suc, take_all, take_at, length-take-le}
+use lib.ListN.{length, take, drop}
+use lib.Seq.{take_at, length-take-le}
 use lib.Dec.{ltb, leb}
 use borrow.Author.Tests.{ltb-true, leb-true, lt-ltb, le-ltb}
 use Rattle.base.specs.Pick.{pick}
@@ -25,8 +27,6 @@ use Rattle.row_laws.specs.Answers.{sound_of}
 use Rattle.megaco.specs.Names.{within}
 use Rattle.row_laws.specs.Answers.{least_output, write_answer, written, Wrote, RowTaken, read, none, Read}
 use Rattle.row.specs.Steps.{Built, Rebuilt}
-use Rattle.row_laws.specs.declared.Answer.{Answer}
-use Rattle.row_laws.specs.declared.Answer.TheVariants.{Done, Refused}
 use Rattle.row_laws.proofs.OrderLaws.{row_is}
 use Rattle.row_laws.proofs.TableLaws.{row_gives, gives}
 use Rattle.row_laws.proofs.SoundLaws.{long, sound_fit, sound_below}
@@ -39,46 +39,24 @@ count_lines n x e h = let b = and_both (ltb 0 n) (leb n most_lines) (sym e ∙ h
 pub count_few : (n : ℕ) (x : Bool) → x ≡ within n most_lines → x ≡ true → n ≤ 16
 count_few n x e h = (count_lines n x e h).few
 
--- ---- copying
-
-pub record Copied (from to₀ to : List ℕ) (i : ℕ) : Type 0 where
-  pub long : length to ≡ length to₀
-  pub front : take i to ≡ take i from
-
-pub copied_start : (from to : List ℕ) → Copied from to to 0
-copied_start from to = record { long = refl; front = refl }
-
-pub copied_on : (from to₀ to : List ℕ) (i : ℕ) → Copied from to₀ to i → length to₀ ≤ length from → i < length to → Copied from to₀ (set to i (get_or from i 0)) (i + 1)
-copied_on from to₀ to i c h l =
-    let k : i < length from = omega (arith, c.long) in
-    record {
-      long = length-set to i (get_or from i 0) ∙ c.long;
-      front = rw (add-one i) (take-suc-set to i (get_or from i 0) l ∙ rw c.front (sym (take-suc from i 0 k)));
-    }
-
-pub copied_end : (from to₀ to : List ℕ) (i : ℕ) → Copied from to₀ to i → length to ≤ i → i ≤ length to → to ≡ take (length to₀) from
-copied_end from to₀ to i c h l =
-    let e : i ≡ length to₀ = omega (arith, c.long) in
-    sym (take_all i to h) ∙ c.front ∙ rw e
-
 -- ---- writing
 
 module _ (n : ℕ) (t o : List ℕ) (x : Bool) (e : x ≡ within n most_lines) where
-  pub wrote_count : x ≡ false → Wrote n t o o (Refused 8)
+  pub wrote_count : x ≡ false → Wrote n t o o (Err LinesUnfit)
   unfolding write_answer written pick
   wrote_count f = record { answer = rw (← e, f); bytes = rw (← e, f) }
 
   module _ (f : x ≡ true) where
-    pub wrote_short : length o < least_output → Wrote n t o o (Refused 11)
+    pub wrote_short : length o < least_output → Wrote n t o o (Err OutputTooShort)
     unfolding write_answer written pick
     wrote_short h = record { answer = rw (← e, f, lt-ltb (length o) least_output h); bytes = rw (← e, f, lt-ltb (length o) least_output h) }
 
     module _ (h : least_output ≤ length o) (y : Bool) (g : y ≡ sound_of n t) where
-      pub wrote_unsound : y ≡ false → Wrote n t o o (Refused 2)
+      pub wrote_unsound : y ≡ false → Wrote n t o o (Err TableUnsound)
       unfolding write_answer written pick
       wrote_unsound k = record { answer = rw (← e, f, le-ltb (length o) least_output h, ← g, k); bytes = rw (← e, f, le-ltb (length o) least_output h, ← g, k) }
 
-      pub wrote_row : (o₁ o₂ : List ℕ) (p r : ℕ) → y ≡ true → Appended o 0 (number n) o₁ p → Appended o₁ p (encode (numbers_from n t (items n) 0)) o₂ r → Wrote n t o o₂ (Done r)
+      pub wrote_row : (o₁ o₂ : List ℕ) (p r : ℕ) → y ≡ true → Appended o 0 (number n) o₁ p → Appended o₁ p (encode (numbers_from n t (items n) 0)) o₂ r → Wrote n t o o₂ (Ok r)
       unfolding write_answer written pick ◌then◌
       wrote_row o₁ o₂ p r k a b =
           let w : Appended o 0 (row_of n t) o₂ r = rw (row_is n (count_lines n x e f) t) (after o 0 (number n) (encode (numbers_from n t (items n) 0)) o₁ o₂ p r a b) in
@@ -86,7 +64,7 @@ module _ (n : ℕ) (t o : List ℕ) (x : Bool) (e : x ≡ within n most_lines) w
           let m : r ≡ 0 + length (row_of n t) = end_within o 0 (row_of n t) o₂ r w (omega arith) in
           let q : r ≡ length (row_of n t) = m ∙ zero-add (length (row_of n t)) in
           record {
-            answer = rw (← e, f, le-ltb (length o) least_output h, ← g, k) (ap Done q);
+            answer = rw (← e, f, le-ltb (length o) least_output h, ← g, k) (ap Ok q);
             bytes = rw (← e, f, le-ltb (length o) least_output h, ← g, k) w.text;
           }
 
@@ -118,11 +96,11 @@ module _ (n : ℕ) (l : Lines n) (s t u v : List ℕ) (r : Bool) (h : length t �
 -- ---- reading
 
 module _ (n : ℕ) (s t : List ℕ) (x : Bool) (e : x ≡ within n most_lines) where
-  pub read_count : x ≡ false → Read n s t t (Refused 8)
+  pub read_count : x ≡ false → Read n s t t (Err LinesUnfit)
   read_count f = record { count = λ h. (refl, refl); sized = λ h. absurd (clash (sym h ∙ (sym e ∙ f))); taken = λ h. absurd (clash (sym h ∙ (sym e ∙ f))) }
 
   module _ (f : x ≡ true) (m : ℕ) (g : m ≡ words n) where
-    pub read_size : (length t ≡ m → ⊥) → Read n s t t (Refused 2)
+    pub read_size : (length t ≡ m → ⊥) → Read n s t t (Err TableUnsound)
     read_size h =
         record {
           count = λ k. absurd (clash (sym f ∙ e ∙ k));
@@ -134,8 +112,8 @@ module _ (n : ℕ) (s t : List ℕ) (x : Bool) (e : x ≡ within n most_lines) w
     as_taken t' r h k = record { count = λ j. absurd (clash (sym f ∙ e ∙ j)); sized = λ j d. absurd (d (h ∙ g)); taken = λ j d. k }
 
     module _ (h : length t ≡ m) (r : Bool) (t' : List ℕ) (b : Rebuilt n s t t' r) where
-      pub read_none : r ≡ false → Read n s t t' (Refused 10)
-      read_none o = let w : t' ≡ t = b.stays o in rw w (as_taken t (Refused 10) h (none (λ u y j. b.no o u y (sym j))))
+      pub read_none : r ≡ false → Read n s t t' (Err RowUnfit)
+      read_none o = let w : t' ≡ t = b.stays o in rw w (as_taken t (Err RowUnfit) h (none (λ u y j. b.no o u y (sym j))))
 
-      pub read_row : Bytes s → r ≡ true → Read n s t t' (Done (length s))
-      read_row p o = let y = b.yes o p in as_taken t' (Done (length s)) h (read t' y.0 (sym y.1))
+      pub read_row : Bytes s → r ≡ true → Read n s t t' (Ok (length s))
+      read_row p o = let y = b.yes o p in as_taken t' (Ok (length s)) h (read t' y.0 (sym y.1))

@@ -1,4 +1,5 @@
 -- Building a table from numbers, in the form in which `search` uses the laws.
+use Rattle.std.specs.Prelude.{Some, None}
 use Prim.Native.Nat.{ℕ, suc, ◌+◌, ◌-◌, ◌<◌, ◌≤◌}
 use mathlib.Core.Path.{◌≡◌, refl, sym, ap, ◌∙◌}
 use mathlib.Core.Bool.{Bool, true, false}
@@ -10,31 +11,31 @@ use borrow.Author.Tests.{eqb-true, eq-eqb, ne_eqb}
 use Rattle.base.specs.Pick.{pick}
 use Rattle.base.proofs.TestLaws.{clash}
 use Rattle.groups.specs.Groups.{take_at}
-use Rattle.protocol.specs.Types.{Number, Got, Bad}
+use Rattle.protocol.specs.Types.{Number, number}
 use Rattle.row_laws.specs.Filling.{items, item_at, Filled, at, unfit, on_filled, on_number, set4, fill_three, fill_item, fill_from, mapped, table, no_table, finished, table_after, table_over}
 use Rattle.row_laws.specs.Answers.{sound_of}
 use Rattle.row.specs.Steps.{filled_by, whole_by, table_by, Built}
 use Rattle.row_laws.specs.declared.Item.{Item}
 use Rattle.row_laws.specs.declared.Item.TheVariants.{Word, Side}
-use Rattle.protocol.specs.Types.{Parsed, Next, Fault}
+use Rattle.protocol.specs.Types.{Parsed}
 
 -- ---- one item
 
 module _ (s : List ℕ) (p k : ℕ) (t t' : List ℕ) (g : Number) (e : g ≡ take_at s p) where
-  pub word_past : g ≡ Bad → filled_by Fault t' ≡ fill_item (Word k) s p t
+  pub word_past : g ≡ None → filled_by None t' ≡ fill_item (Word k) s p t
   unfolding filled_by fill_item on_number
   word_past o = rw (← e, o)
 
-  pub side_past : g ≡ Bad → filled_by Fault t' ≡ fill_item (Side k) s p t
+  pub side_past : g ≡ None → filled_by None t' ≡ fill_item (Side k) s p t
   unfolding filled_by fill_item on_number
   side_past o = rw (← e, o)
 
-  module _ (v q : ℕ) (o : g ≡ Got v q) where
-    pub word_filled : t' ≡ set t k v → filled_by (Next q) t' ≡ fill_item (Word k) s p t
+  module _ (v q : ℕ) (o : g ≡ number v q) where
+    pub word_filled : t' ≡ set t k v → filled_by (Some q) t' ≡ fill_item (Word k) s p t
     unfolding filled_by fill_item on_number
     word_filled f = rw (← e, o, f)
 
-    pub side_empty : v ≡ 0 → t' ≡ set4 t k 0 0 0 0 → filled_by (Next q) t' ≡ fill_item (Side k) s p t
+    pub side_empty : v ≡ 0 → t' ≡ set4 t k 0 0 0 0 → filled_by (Some q) t' ≡ fill_item (Side k) s p t
     unfolding filled_by fill_item on_number pick
     side_empty z f = rw (← e, o, eq-eqb v 0 z, f)
 
@@ -43,26 +44,26 @@ module _ (s : List ℕ) (p k : ℕ) (t t' : List ℕ) (g : Number) (e : g ≡ ta
       unfolding fill_item on_number pick
       side_filled r y f = f ∙ rw (← e, o, ne_eqb v 0 z, eq-eqb v 1 y)
 
-      pub side_wrong : (v ≡ 1 → ⊥) → filled_by Fault t' ≡ fill_item (Side k) s p t
+      pub side_wrong : (v ≡ 1 → ⊥) → filled_by None t' ≡ fill_item (Side k) s p t
       unfolding filled_by fill_item on_number pick
       side_wrong y = rw (← e, o, ne_eqb v 0 z, ne_eqb v 1 y)
 
 module _ (s : List ℕ) (p k : ℕ) (t t' : List ℕ) (g : Number) (e : g ≡ take_at s p) where
-  pub no_address : g ≡ Bad → filled_by Fault t' ≡ fill_three k s p t
+  pub no_address : g ≡ None → filled_by None t' ≡ fill_three k s p t
   unfolding filled_by fill_three on_number
   no_address o = rw (← e, o)
 
-  module _ (a q : ℕ) (o : g ≡ Got a q) (g₁ : Number) (e₁ : g₁ ≡ take_at s q) where
-    pub no_port_lem : g₁ ≡ Bad → filled_by Fault t' ≡ fill_three k s p t
+  module _ (a q : ℕ) (o : g ≡ number a q) (g₁ : Number) (e₁ : g₁ ≡ take_at s q) where
+    pub no_port_lem : g₁ ≡ None → filled_by None t' ≡ fill_three k s p t
     unfolding filled_by fill_three on_number
     no_port_lem o₁ = rw (← e, o, ← e₁, o₁)
 
-    module _ (b q₁ : ℕ) (o₁ : g₁ ≡ Got b q₁) (g₂ : Number) (e₂ : g₂ ≡ take_at s q₁) where
-      pub no_kind : g₂ ≡ Bad → filled_by Fault t' ≡ fill_three k s p t
+    module _ (b q₁ : ℕ) (o₁ : g₁ ≡ number b q₁) (g₂ : Number) (e₂ : g₂ ≡ take_at s q₁) where
+      pub no_kind : g₂ ≡ None → filled_by None t' ≡ fill_three k s p t
       unfolding filled_by fill_three on_number
       no_kind o₂ = rw (← e, o, ← e₁, o₁, ← e₂, o₂)
 
-      pub three_filled : (c q₂ : ℕ) → g₂ ≡ Got c q₂ → t' ≡ set4 t k 1 a b c → filled_by (Next q₂) t' ≡ fill_three k s p t
+      pub three_filled : (c q₂ : ℕ) → g₂ ≡ number c q₂ → t' ≡ set4 t k 1 a b c → filled_by (Some q₂) t' ≡ fill_three k s p t
       unfolding filled_by fill_three on_number
       three_filled c q₂ o₂ f = rw (← e, o, ← e₁, o₁, ← e₂, o₂, f)
 
@@ -76,11 +77,11 @@ fill_start n s p t = let z : items n - 0 ≡ items n = omega arith in rw z
 
 module _ (n : ℕ) (s : List ℕ) (m j p : ℕ) (t : List ℕ) (q : Filled) (g : m ≡ items n) (inv : q ≡ fill_from n s (items n - j) j p t) where
   module _ (h : j < m) (r : Parsed) (t' : List ℕ) (e : filled_by r t' ≡ fill_item (item_at n j) s p t) where
-    pub fill_on : (p' : ℕ) → r ≡ Next p' → q ≡ fill_from n s (items n - (j + 1)) (j + 1) p' t'
+    pub fill_on : (p' : ℕ) → r ≡ Some p' → q ≡ fill_from n s (items n - (j + 1)) (j + 1) p' t'
     unfolding fill_from on_filled filled_by
     fill_on p' o = let k : items n - j ≡ suc (items n - (j + 1)) = omega arith in inv ∙ rw (k, ← e, o)
 
-    pub fill_unfit : (l : ℕ) → r ≡ Fault → whole_by false l t' ≡ q
+    pub fill_unfit : (l : ℕ) → r ≡ None → whole_by false l t' ≡ q
     unfolding fill_from on_filled filled_by whole_by
     fill_unfit l o = let k : items n - j ≡ suc (items n - (j + 1)) = omega arith in sym (inv ∙ rw (k, ← e, o))
 
@@ -96,11 +97,11 @@ module _ (n : ℕ) (s : List ℕ) (m j p : ℕ) (t : List ℕ) (q : Filled) (g :
 
 module _ (n : ℕ) (s z u : List ℕ) where
   module _ (g : Number) (d : g ≡ take_at s 0) where
-    pub build_none : g ≡ Bad → table_by false u ≡ table_over n s z
+    pub build_none : g ≡ None → table_by false u ≡ table_over n s z
     unfolding table_by table_over table_after
     build_none o = rw (← d, o)
 
-    module _ (v q : ℕ) (o : g ≡ Got v q) where
+    module _ (v q : ℕ) (o : g ≡ number v q) where
       pub build_other : (v ≡ n → ⊥) → table_by false u ≡ table_over n s z
       unfolding table_by table_over table_after pick
       build_other e = rw (← d, o, ne_eqb v n e)

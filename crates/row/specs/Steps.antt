@@ -1,15 +1,15 @@
 -- The steps of reading a row.
-use Rattle.std.specs.Prelude.{ℕ, ◌≡◌, Bool, true, false, List}
+use Rattle.std.specs.Prelude.{ℕ, ◌≡◌, Bool, true, false, List, Some, None}
 use Rattle.groups.specs.Rows.{Bytes}
 use Rattle.row_laws.specs.Row.{row_of}
 use Rattle.row_laws.specs.Filling.{Filled, at, unfit, Table, table, no_table, table_over}
 use Rattle.row_laws.specs.Answers.{sound_of}
-use Rattle.protocol.specs.Types.{Parsed, Next, Fault}
+use Rattle.protocol.specs.Types.{Parsed}
 
 -- a place and a table, as one value
 unfoldable pub filled_by : Parsed → List ℕ → Filled
-filled_by (Next q) u = at q u
-filled_by Fault u = unfit
+filled_by (Some q) u = at q u
+filled_by None u = unfit
 
 -- all bytes were taken
 unfoldable pub whole_by : Bool → ℕ → List ℕ → Filled

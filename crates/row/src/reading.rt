@@ -7,62 +7,50 @@ ghost use Rattle.row.specs.Steps.{filled_by, whole_by, table_by, Built, Rebuilt}
 ghost use Rattle.row_laws.specs.declared.Item.TheVariants.{Word, Side};
 
 use crate::{MOST_WORDS, items, words};
-use megaco::{Number, Parsed};
 use row_laws::Item;
 
 // One word.
-fn fill_word(row: &[u8], p: usize, k: usize, table: &mut [u32]) -> Parsed
+#[tactic(auto, using(crate::proofs::ReadLaws::word_past, crate::proofs::ReadLaws::word_filled))]
+fn fill_word(row: &[u8], p: usize, k: usize, table: &mut [u32]) -> Option<usize>
     ensures { filled_by result table.new ≡ fill_item (Word k) row.now p table.old }
 {
-    let t = groups::take_number(row, p);
-    let Number::Got { value: v, next: q } = t else {
-        return Parsed::Fault;
-    };
+    let (v, q) = groups::take_number(row, p)?;
     table::put_word(table, k, v);
-    Parsed::Next(q)
+    Some(q)
 }
 
 // Address, port and type after a 1.
-fn fill_three(row: &[u8], p: usize, k: usize, table: &mut [u32]) -> Parsed
+#[tactic(auto, using(crate::proofs::ReadLaws::no_address, crate::proofs::ReadLaws::no_port_lem, crate::proofs::ReadLaws::no_kind, crate::proofs::ReadLaws::three_filled))]
+fn fill_three(row: &[u8], p: usize, k: usize, table: &mut [u32]) -> Option<usize>
     requires { k ≤ 4096 }
     ensures { filled_by result table.new ≡ fill_three k row.now p table.old }
 {
-    let address = groups::take_number(row, p);
-    let Number::Got { value: a, next: q } = address else {
-        return Parsed::Fault;
-    };
-    let port = groups::take_number(row, q);
-    let Number::Got { value: b, next: q1 } = port else {
-        return Parsed::Fault;
-    };
-    let payload = groups::take_number(row, q1);
-    let Number::Got { value: c, next: q2 } = payload else {
-        return Parsed::Fault;
-    };
+    let (a, q) = groups::take_number(row, p)?;
+    let (b, q1) = groups::take_number(row, q)?;
+    let (c, q2) = groups::take_number(row, q1)?;
     words::put_words(table, k, 1, a, b, c);
-    Parsed::Next(q2)
+    Some(q2)
 }
 
 // Local or Remote: 0, or 1 and three numbers.
-fn fill_side(row: &[u8], p: usize, k: usize, table: &mut [u32]) -> Parsed
+#[tactic(auto, using(crate::proofs::ReadLaws::side_past, crate::proofs::ReadLaws::side_empty, crate::proofs::ReadLaws::side_filled, crate::proofs::ReadLaws::side_wrong))]
+fn fill_side(row: &[u8], p: usize, k: usize, table: &mut [u32]) -> Option<usize>
     requires { k ≤ 4096 }
     ensures { filled_by result table.new ≡ fill_item (Side k) row.now p table.old }
 {
-    let t = groups::take_number(row, p);
-    let Number::Got { value: f, next: q } = t else {
-        return Parsed::Fault;
-    };
+    let (f, q) = groups::take_number(row, p)?;
     if f == 0 {
         words::put_words(table, k, 0, 0, 0, 0);
-        return Parsed::Next(q);
+        return Some(q);
     }
     if f == 1 {
         return fill_three(row, q, k, table);
     }
-    Parsed::Fault
+    None
 }
 
-fn fill_item(row: &[u8], p: usize, lines: u32, j: usize, table: &mut [u32]) -> Parsed
+#[tactic(auto, using(crate::proofs::ReadLaws::item_filled))]
+fn fill_item(row: &[u8], p: usize, lines: u32, j: usize, table: &mut [u32]) -> Option<usize>
     requires { (Lines lines) × (j < items lines) }
     ensures { filled_by result table.new ≡ fill_item (item_at lines j) row.now p table.old }
 {
@@ -73,31 +61,27 @@ fn fill_item(row: &[u8], p: usize, lines: u32, j: usize, table: &mut [u32]) -> P
     }
 }
 
-// All items from a place of the row on, and no byte more.
+// All items from a place of the row on, and no byte more. A bool says all here and below: what is built stands in the lent table.
 fn fill(row: &[u8], first: usize, lines: u32, table: &mut [u32]) -> bool
     requires { Lines lines }
     ensures { whole_by result (length row.now) table.new ≡ fill_from lines row.now (items lines) 0 first table.old }
 {
-    let n = items::items(lines);
     let mut at = first;
-    let mut j: usize = 0;
-    while j < n {
-        let p = fill_item(row, at, lines, j, table);
-        let Parsed::Next(q) = p else {
+    for j in 0..items::items(lines) {
+        let Some(q) = fill_item(row, at, lines, j, table) else {
             return false;
         };
         at = q;
-        j += 1;
     }
     at == row.len()
 }
 
+#[tactic(auto, using(crate::proofs::ReadLaws::build_none, crate::proofs::ReadLaws::build_other, crate::proofs::ReadLaws::build_whole, crate::proofs::ReadLaws::build_unfit))]
 fn build(row: &[u8], lines: u32, table: &mut [u32]) -> bool
     requires { (Lines lines) × (length table.old ≡ words lines) }
     ensures { table_by result table.new ≡ table_over lines row.now table.old }
 {
-    let t = groups::take_number(row, 0);
-    let Number::Got { value: v, next: q } = t else {
+    let Some((v, q)) = groups::take_number(row, 0) else {
         return false;
     };
     if v != lines {
@@ -110,6 +94,7 @@ fn build(row: &[u8], lines: u32, table: &mut [u32]) -> bool
     false
 }
 
+#[tactic(auto, using(crate::proofs::ReadLaws::built_judged, crate::proofs::ReadLaws::built_none))]
 fn build_sound(row: &[u8], lines: u32, table: &mut [u32]) -> bool
     requires { (Lines lines) × (length table.old ≡ words lines) }
     ensures { Built lines row.now table.old table.new result }

@@ -38,9 +38,7 @@ fn map_word(row: &[u32]) -> u32
     ensures { result ≡ map_word row.now }
 {
     let mut w: u32 = 0;
-    let mut i = row.len();
-    while 0 < i {
-        i -= 1;
+    for i in (0..row.len()).rev() {
         w = bit(row[i]) + 2 * w;
     }
     w
@@ -64,9 +62,6 @@ pub fn copy_words(from: &[u32], to: &mut [u32])
     requires { length to.old ≤ length from.now }
     ensures { to.new ≡ take (length to.old) from.now }
 {
-    let mut i: usize = 0;
-    while i < to.len() {
-        to[i] = from[i];
-        i += 1;
-    }
+    let n = to.len();
+    to.copy_from_slice(&from[..n]);
 }

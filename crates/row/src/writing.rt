@@ -52,12 +52,9 @@ pub fn put_items(out: &mut [u8], at: usize, lines: u32, table: &[u32]) -> usize
     requires { Lines lines }
     ensures { Appended out.old at (encode (numbers_from lines table.now (items lines) 0)) out.new result }
 {
-    let n = items::items(lines);
     let mut p = at;
-    let mut j: usize = 0;
-    while j < n {
+    for j in 0..items::items(lines) {
         p = put_item(out, p, lines, table, j);
-        j += 1;
     }
     p
 }

@@ -1,5 +1,6 @@
 -- A table's numbers give the table, and the numbers that give a table are its own.
-use Prim.Native.Nat.{ℕ, ◌+◌, ◌-◌, ◌<◌, ◌≤◌}
+use Rattle.std.specs.Prelude.{Some, None}
+use Prim.Native.Nat.{ℕ, ◌+◌, ◌<◌, ◌≤◌}
 use mathlib.Core.Path.{◌≡◌, refl, sym, ap, ◌∙◌}
 use mathlib.Core.Bool.{Bool, true, false}
 use mathlib.Core.List.{List, [], ◌∷◌, ◌++◌}
@@ -13,7 +14,7 @@ use Rattle.base.specs.Lists.{has}
 use Rattle.base.proofs.TestLaws.{clash}
 use Rattle.groups.specs.Groups.{number, take_at}
 use Rattle.groups.specs.Rows.{encode, Below, Bytes}
-use Rattle.protocol.specs.Types.{Number, Got, Bad}
+use Rattle.protocol.specs.Types.{Number, number as got}
 use Rattle.groups.proofs.RowLaws.{encode_cons, encode_one, head_at, takes}
 use Rattle.megaco.specs.Table.{map_start, words}
 use Rattle.row_laws.specs.Row.{item_numbers}
@@ -174,13 +175,13 @@ pub record Fills (s : List ℕ) (p : ℕ) (x : Item) (t z rest : List ℕ) : Typ
 
 module _ (s : List ℕ) (p k : ℕ) (z rest : List ℕ) where
   -- a 1 and three numbers
-  record Some (a b c : ℕ) : Type 0 where
+  record SideFilled (a b c : ℕ) : Type 0 where
     pub next : ℕ
     pub is : fill_item (Side k) s p z ≡ at next (set4 z k 1 a b c)
     pub more : drop next s ≡ rest
     pub within : next ≤ length s
 
-  side_some : (a b c : ℕ) → a < 4294967296 → b < 4294967296 → c < 4294967296 → drop p s ≡ number 1 ++ (number a ++ (number b ++ (number c ++ rest))) → Some a b c
+  side_some : (a b c : ℕ) → a < 4294967296 → b < 4294967296 → c < 4294967296 → drop p s ≡ number 1 ++ (number a ++ (number b ++ (number c ++ rest))) → SideFilled a b c
   unfolding fill_item fill_three on_number pick
   side_some a b c x y w e =
       let h₀ = head_at s p 1 (number a ++ (number b ++ (number c ++ rest))) (omega arith) e in
@@ -225,7 +226,7 @@ pub record Took (x : Item) (s : List ℕ) (p : ℕ) (z : List ℕ) (q : ℕ) (u 
   pub kept : (w : ℕ) → has w (words_of x) ≡ false → get_or u w 0 ≡ get_or z w 0
 
 module _ (s : List ℕ) (b : Bytes s) (p : ℕ) (z : List ℕ) (q : ℕ) (u : List ℕ) where
-  took_word : (k v r : ℕ) → k < length z → take_at s p ≡ Got v r → at r (set z k v) ≡ at q u → Took (Word k) s p z q u
+  took_word : (k v r : ℕ) → k < length z → take_at s p ≡ got v r → at r (set z k v) ≡ at q u → Took (Word k) s p z q u
   unfolding item_numbers words_of
   took_word k v r l g e =
       let x : u ≡ set z k v = cc in
@@ -237,7 +238,7 @@ module _ (s : List ℕ) (b : Bytes s) (p : ℕ) (z : List ℕ) (q : ℕ) (u : Li
         kept = λ w f. rw x (get_or-set_other z k w v 0 (has_not w k [] f).0);
       }
 
-  took_none : (k v r : ℕ) → k + 3 < length z → take_at s p ≡ Got v r → v ≡ 0 → at r (set4 z k 0 0 0 0) ≡ at q u → Took (Side k) s p z q u
+  took_none : (k v r : ℕ) → k + 3 < length z → take_at s p ≡ got v r → v ≡ 0 → at r (set4 z k 0 0 0 0) ≡ at q u → Took (Side k) s p z q u
   unfolding item_numbers pick
   took_none k v r l g o e =
       let x : u ≡ set4 z k 0 0 0 0 = cc in
@@ -249,7 +250,7 @@ module _ (s : List ℕ) (b : Bytes s) (p : ℕ) (z : List ℕ) (q : ℕ) (u : Li
         kept = λ w f. rw x (set4_other z k 0 0 0 0 w f);
       }
 
-  took_side : (k v a c d r r₁ r₂ r₃ : ℕ) → k + 3 < length z → take_at s p ≡ Got v r → v ≡ 1 → take_at s r ≡ Got a r₁ → take_at s r₁ ≡ Got c r₂ → take_at s r₂ ≡ Got d r₃
+  took_side : (k v a c d r r₁ r₂ r₃ : ℕ) → k + 3 < length z → take_at s p ≡ got v r → v ≡ 1 → take_at s r ≡ got a r₁ → take_at s r₁ ≡ got c r₂ → take_at s r₂ ≡ got d r₃
       → at r₃ (set4 z k 1 a c d) ≡ at q u → Took (Side k) s p z q u
   unfolding item_numbers pick
   took_side k v a c d r r₁ r₂ r₃ l g o g₁ g₂ g₃ e =
@@ -271,39 +272,39 @@ module _ (s : List ℕ) (b : Bytes s) (p : ℕ) (z : List ℕ) (q : ℕ) (u : Li
   took (Word k) f e = by (take_at s p) refl e
     where
       by : (g : Number) → take_at s p ≡ g → on_number g (λ v r. at r (set z k v)) ≡ at q u → Took (Word k) s p z q u
-      by (Got v r) g e = took_word k v r (f k (in_word k)) g e
-      by Bad g e = never q u e
+      by (Some (v, r)) g e = took_word k v r (f k (in_word k)) g e
+      by None g e = never q u e
   took (Side k) f e = by (take_at s p) refl e
     where
       l : k + 3 < length z
       l = f (k + 3) (in_3 k)
 
-      last : (v a c r r₁ r₂ : ℕ) → take_at s p ≡ Got v r → v ≡ 1 → take_at s r ≡ Got a r₁ → take_at s r₁ ≡ Got c r₂ → (g : Number) → take_at s r₂ ≡ g
+      last : (v a c r r₁ r₂ : ℕ) → take_at s p ≡ got v r → v ≡ 1 → take_at s r ≡ got a r₁ → take_at s r₁ ≡ got c r₂ → (g : Number) → take_at s r₂ ≡ g
           → on_number g (λ d r₃. at r₃ (set4 z k 1 a c d)) ≡ at q u → Took (Side k) s p z q u
-      last v a c r r₁ r₂ g₀ o g₁ g₂ (Got d r₃) g e = took_side k v a c d r r₁ r₂ r₃ l g₀ o g₁ g₂ g e
-      last v a c r r₁ r₂ g₀ o g₁ g₂ Bad g e = never q u e
+      last v a c r r₁ r₂ g₀ o g₁ g₂ (Some (d, r₃)) g e = took_side k v a c d r r₁ r₂ r₃ l g₀ o g₁ g₂ g e
+      last v a c r r₁ r₂ g₀ o g₁ g₂ None g e = never q u e
 
-      third : (v a r r₁ : ℕ) → take_at s p ≡ Got v r → v ≡ 1 → take_at s r ≡ Got a r₁ → (g : Number) → take_at s r₁ ≡ g
+      third : (v a r r₁ : ℕ) → take_at s p ≡ got v r → v ≡ 1 → take_at s r ≡ got a r₁ → (g : Number) → take_at s r₁ ≡ g
           → on_number g (λ c r₂. on_number (take_at s r₂) (λ d r₃. at r₃ (set4 z k 1 a c d))) ≡ at q u → Took (Side k) s p z q u
-      third v a r r₁ g₀ o g₁ (Got c r₂) g e = last v a c r r₁ r₂ g₀ o g₁ g (take_at s r₂) refl e
-      third v a r r₁ g₀ o g₁ Bad g e = never q u e
+      third v a r r₁ g₀ o g₁ (Some (c, r₂)) g e = last v a c r r₁ r₂ g₀ o g₁ g (take_at s r₂) refl e
+      third v a r r₁ g₀ o g₁ None g e = never q u e
 
-      second : (v r : ℕ) → take_at s p ≡ Got v r → v ≡ 1 → (g : Number) → take_at s r ≡ g
+      second : (v r : ℕ) → take_at s p ≡ got v r → v ≡ 1 → (g : Number) → take_at s r ≡ g
           → on_number g (λ a r₁. on_number (take_at s r₁) (λ c r₂. on_number (take_at s r₂) (λ d r₃. at r₃ (set4 z k 1 a c d)))) ≡ at q u → Took (Side k) s p z q u
-      second v r g₀ o (Got a r₁) g e = third v a r r₁ g₀ o g (take_at s r₁) refl e
-      second v r g₀ o Bad g e = never q u e
+      second v r g₀ o (Some (a, r₁)) g e = third v a r r₁ g₀ o g (take_at s r₁) refl e
+      second v r g₀ o None g e = never q u e
 
-      one : (v r : ℕ) → take_at s p ≡ Got v r → (x : Bool) → eqb v 1 ≡ x → pick x (fill_three k s r z) unfit ≡ at q u → Took (Side k) s p z q u
+      one : (v r : ℕ) → take_at s p ≡ got v r → (x : Bool) → eqb v 1 ≡ x → pick x (fill_three k s r z) unfit ≡ at q u → Took (Side k) s p z q u
       one v r g true o e = second v r g (eqb-true v 1 o) (take_at s r) refl e
       one v r g false o e = never q u e
 
-      flag : (v r : ℕ) → take_at s p ≡ Got v r → (x : Bool) → eqb v 0 ≡ x → pick x (at r (set4 z k 0 0 0 0)) (pick (eqb v 1) (fill_three k s r z) unfit) ≡ at q u → Took (Side k) s p z q u
+      flag : (v r : ℕ) → take_at s p ≡ got v r → (x : Bool) → eqb v 0 ≡ x → pick x (at r (set4 z k 0 0 0 0)) (pick (eqb v 1) (fill_three k s r z) unfit) ≡ at q u → Took (Side k) s p z q u
       flag v r g true o e = took_none k v r l g (eqb-true v 0 o) e
       flag v r g false o e = one v r g (eqb v 1) refl e
 
       by : (g : Number) → take_at s p ≡ g → on_number g (λ f r. pick (eqb f 0) (at r (set4 z k 0 0 0 0)) (pick (eqb f 1) (fill_three k s r z) unfit)) ≡ at q u → Took (Side k) s p z q u
-      by (Got v r) g e = flag v r g (eqb v 0) refl e
-      by Bad g e = never q u e
+      by (Some (v, r)) g e = flag v r g (eqb v 0) refl e
+      by None g e = never q u e
 
 -- the numbers of an item depend on its words only
 pub item_same : (s : Item) (t u : List ℕ) → ((w : ℕ) → has w (words_of s) ≡ true → get_or t w 0 ≡ get_or u w 0) → item_numbers t s ≡ item_numbers u s

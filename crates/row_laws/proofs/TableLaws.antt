@@ -1,5 +1,6 @@
 -- "One sound table has one such row and reading gives it back."
-use Prim.Native.Nat.{ℕ, zero, suc, ◌+◌, ◌-◌, ◌<◌, ◌≤◌}
+use Rattle.std.specs.Prelude.{Some, None}
+use Prim.Native.Nat.{ℕ, zero, suc, ◌+◌, ◌<◌, ◌≤◌}
 use mathlib.Core.Path.{◌≡◌, refl, sym, ap, ◌∙◌}
 use mathlib.Core.Bool.{Bool, true, false}
 use mathlib.Core.List.{List}
@@ -13,7 +14,7 @@ use Rattle.base.specs.Lists.{has}
 use Rattle.base.proofs.TestLaws.{clash, not_holds}
 use Rattle.groups.specs.Groups.{number, take_at}
 use Rattle.groups.specs.Rows.{encode, Below, Bytes}
-use Rattle.protocol.specs.Types.{Number, Got, Bad}
+use Rattle.protocol.specs.Types.{Number, number as got}
 use Rattle.groups.proofs.RowLaws.{encode_append, Head, head_at, takes}
 use Rattle.megaco.specs.Table.{line_terminations, terminations, map_start, words}
 use Rattle.row_laws.specs.Items.{Lines}
@@ -171,7 +172,7 @@ module _ (n : ℕ) (l : Lines n) where
     λ (e : w ≡ map_start n + 1). omega (arith, owned n l j w h d, no_item n l w (omega arith) (omega arith)),
   )
 
-  finish : (s z u : List ℕ) (p : ℕ) (r : Filled) → Bytes s → length z ≡ words n → fill_from n s (items n) 0 p z ≡ r → finished n r ≡ table u → take_at s 0 ≡ Got n p → Gives s u
+  finish : (s z u : List ℕ) (p : ℕ) (r : Filled) → Bytes s → length z ≡ words n → fill_from n s (items n) 0 p z ≡ r → finished n r ≡ table u → take_at s 0 ≡ got n p → Gives s u
   unfolding finished
   finish s z u p unfit b m g e h = let c : ◌≡◌ {A = ℕ} 0 1 = cc in absurd (omega arith)
   finish s z u p (at q v) b m g e h =
@@ -192,13 +193,13 @@ module _ (n : ℕ) (l : Lines n) where
   unfolding table_over table_after pick
   gives s z u b m e = by (take_at s 0) refl e
     where
-      first : (v p : ℕ) → take_at s 0 ≡ Got v p → (x : Bool) → eqb v n ≡ x → pick x (finished n (fill_from n s (items n) 0 p z)) no_table ≡ table u → Gives s u
+      first : (v p : ℕ) → take_at s 0 ≡ got v p → (x : Bool) → eqb v n ≡ x → pick x (finished n (fill_from n s (items n) 0 p z)) no_table ≡ table u → Gives s u
       first v p g true o e = let q : v ≡ n = eqb-true v n o in finish s z u p (fill_from n s (items n) 0 p z) b m refl e (rw q at g)
       first v p g false o e = let c : ◌≡◌ {A = ℕ} 0 1 = cc in absurd (omega arith)
 
       by : (g : Number) → take_at s 0 ≡ g → table_after n s z g ≡ table u → Gives s u
-      by (Got v p) g e = first v p g (eqb v n) refl e
-      by Bad g e = let c : ◌≡◌ {A = ℕ} 0 1 = cc in absurd (omega arith)
+      by (Some (v, p)) g e = first v p g (eqb v n) refl e
+      by None g e = let c : ◌≡◌ {A = ℕ} 0 1 = cc in absurd (omega arith)
 
   -- one row for one table
   pub row_one : (t u : List ℕ) → Fit n t → Fit n u → Below t → Below u → row_of n t ≡ row_of n u → t ≡ u

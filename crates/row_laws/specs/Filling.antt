@@ -1,10 +1,10 @@
 -- The table that bytes give: the way from a row back, item by item.
-use Rattle.std.specs.Prelude.{ℕ, zero, suc, ◌+◌, ◌-◌, ◌*◌, ◌/◌, ◌%◌, List, [], ◌∷◌, ◌++◌, length, take, drop, set, ltb, eqb}
+use Rattle.std.specs.Prelude.{ℕ, zero, suc, ◌+◌, ◌-◌, ◌*◌, ◌/◌, ◌%◌, List, [], ◌∷◌, ◌++◌, length, take, drop, set, ltb, eqb, Some, None}
 use Rattle.base.specs.Pick.{pick}
 use Rattle.megaco.specs.Map.{of_digits, marks}
 use Rattle.megaco.specs.Table.{line_terminations, ephemerals, contexts, prop, rec, flow, speech, ctx, cell, address, low_flow, speech_word, map_start}
 use Rattle.groups.specs.Groups.{take_at}
-use Rattle.protocol.specs.Types.{Number, Got, Bad}
+use Rattle.protocol.specs.Types.{Number}
 use Rattle.row_laws.specs.Row.{item_numbers}
 use Rattle.row_laws.specs.declared.Item.{Item}
 use Rattle.row_laws.specs.declared.Item.TheVariants.{Word, Side}
@@ -59,8 +59,8 @@ on_filled (at q u) f = f q u
 on_filled unfit f = unfit
 
 unfoldable pub on_number : Number → (ℕ → ℕ → Filled) → Filled
-on_number (Got v q) f = f v q
-on_number Bad f = unfit
+on_number (Some (v, q)) f = f v q
+on_number None f = unfit
 
 unfoldable pub set4 : List ℕ → ℕ → ℕ → ℕ → ℕ → ℕ → List ℕ
 set4 t k f a p y = set (set (set (set t k f) (k + 1) a) (k + 2) p) (k + 3) y
@@ -105,8 +105,8 @@ finished n unfit = no_table
 
 -- after the first number
 unfoldable pub table_after : ℕ → List ℕ → List ℕ → Number → Table
-table_after n s z (Got v q) = pick (eqb v n) (finished n (fill_from n s (items n) 0 q z)) no_table
-table_after n s z Bad = no_table
+table_after n s z (Some (v, q)) = pick (eqb v n) (finished n (fill_from n s (items n) 0 q z)) no_table
+table_after n s z None = no_table
 
 -- the table that the bytes s give, laid over words z
 unfoldable pub table_over : ℕ → List ℕ → List ℕ → Table

@@ -1,9 +1,10 @@
 -- The loop over a transaction's actions.
+use Rattle.std.specs.Prelude.{Some, None}
 use Prim.Native.Nat.{ℕ, ◌+◌, ◌-◌, ◌<◌, ◌≤◌, min, max}
 use mathlib.Core.Path.{◌≡◌, refl, sym, ap, ◌∙◌, subst}
 use mathlib.Core.List.{List, [], ◌∷◌}
 use mathlib.Core.Bool.{Bool, true, false}
-use lib.ListN.{length, replicate, take, drop, length-replicate}
+use lib.ListN.{length, replicate, take, length-replicate}
 use native.Mathlib.Omega.{arith}
 use Rattle.base.specs.Pick.{pick}
 use Rattle.base.specs.Lists.{is_at}
@@ -13,12 +14,12 @@ use Rattle.base.proofs.OutLaws.{◌▸◌, none, copied, same_length_by}
 use Rattle.megaco.specs.Bytes.{comma}
 use Rattle.megaco.specs.Table.{sound}
 use Rattle.megaco.specs.Reading.{unlimited}
-use Rattle.megaco.specs.Tree.{Action, action, Transaction, transaction}
+use Rattle.megaco.specs.Tree.{Action, action, transaction}
 use Rattle.megaco.specs.Reply.{reports_text, separator, action_text, reply_text}
 use Rattle.megaco.specs.State.{State, state}
 use Rattle.megaco.specs.Command.{Outcome}
 use Rattle.megaco.specs.Transaction.{Ran, ran, run_transaction}
-use Rattle.protocol.specs.Types.{Context, Parsed, Next, Fault}
+use Rattle.protocol.specs.Types.{Context, Parsed}
 use Rattle.read_command.specs.Production.{past_sign, list_of, list_p}
 use Rattle.read_command.specs.Places.{commands_in, rest_of, rest_in, action_at}
 use Rattle.read_command.specs.declared.Rest.{Rest}
@@ -32,7 +33,6 @@ use Rattle.reply.proofs.ReplyLaws.{action_is, reply_is, limited_from_lem}
 use Rattle.laws.proofs.Kept.{transaction_sound}
 use Rattle.run_attempts.specs.Contract.{RunsTo}
 use Rattle.run_attempts.specs.declared.CommandOutcome.{CommandOutcome}
-use Rattle.run_attempts.proofs.RunsToLaws.{lent_first}
 use Rattle.run_action.specs.Fold.{run_action, run_actions, outcome_text}
 use Rattle.run_action.specs.Promises.{around, ActionRunsTo, Wrote}
 use Rattle.run_action.specs.declared.RanAction.{RanAction}
@@ -40,10 +40,6 @@ use Rattle.run_action.proofs.Lists.{list_open}
 use Rattle.run_action.proofs.FoldLaws.{transaction_is}
 
 -- ---- an action's text
-
--- the bytes of a scratch buffer, as they are lent
-pub copy_is : (inner : List ℕ) (n e : ℕ) (o : List ℕ) (at : ℕ) (o' : List ℕ) (r : ℕ) → e ≡ min n (length inner) → Appended o at (take (e - 0) (drop 0 inner)) o' r → Appended o at (take n inner) o' r
-copy_is inner n e o at o' r q a = subst (λ (l : List ℕ). Appended o at l o' r) (lent_first inner n e q) a
 
 -- its parts as they are written
 pub action_copied : (first : Bool) (c : Context) (inner : List ℕ) (n : ℕ) (o : List ℕ) (at : ℕ) (o₁ o₂ o₃ o₄ : List ℕ) (p q u r : ℕ)
@@ -183,7 +179,7 @@ module _ (x : Ran) (o : List ℕ) (p₀ : ℕ) (s : List ℕ) (k i : ℕ) (f : B
         record { to = λ t' o' r w. v.to t' o' r (record { state = w.state; text = d.text ▸ w.text }) }
 
     -- it is the last
-    pub actions_last : (e : ℕ) (b : Parsed) → m.going ≡ true → e ≡ (action_at s i).end → b ≡ next_at s e → b ≡ Fault → Wrote x o p₀ t₂ o₂ m.next
+    pub actions_last : (e : ℕ) (b : Parsed) → m.going ≡ true → e ≡ (action_at s i).end → b ≡ next_at s e → b ≡ None → Wrote x o p₀ t₂ o₂ m.next
     actions_last e b g q u v =
         let z : rest ≡ [] = part_last s e (action_at s i).end q b u (λ j. (list_p (action_at s) s (k - 1) j).tree) [] v in
         let w : Leads x o p₀ (ran t₂ []) o₂ m.next =
@@ -191,7 +187,7 @@ module _ (x : Ran) (o : List ℕ) (p₀ : ℕ) (s : List ℕ) (k i : ℕ) (f : B
         w.to t₂ o₂ m.next (record { state = refl; text = none o₂ m.next })
 
     -- another follows
-    pub actions_more : (e n : ℕ) (b : Parsed) → m.going ≡ true → e ≡ (action_at s i).end → b ≡ next_at s e → b ≡ Next n
+    pub actions_more : (e n : ℕ) (b : Parsed) → m.going ≡ true → e ≡ (action_at s i).end → b ≡ next_at s e → b ≡ Some n
         → Leads x o p₀ (run_actions (list_p (action_at s) s (k - 1) n).tree false t₂) o₂ m.next
     actions_more e n b g q u v =
         let y : rest ≡ (list_p (action_at s) s (k - 1) n).tree = part_more s e (action_at s i).end q b u (λ j. (list_p (action_at s) s (k - 1) j).tree) [] n v in

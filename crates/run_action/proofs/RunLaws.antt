@@ -1,4 +1,5 @@
 -- The loop over an action's commands.
+use Rattle.std.specs.Prelude.{Some, None, Ok, Err}
 use Prim.Native.Nat.{ℕ, ◌-◌, ◌<◌, ◌≤◌}
 use mathlib.Core.Path.{◌≡◌, refl, sym, ap, ◌∙◌, subst}
 use mathlib.Core.List.{List, [], ◌∷◌, ◌++◌}
@@ -15,14 +16,14 @@ use Rattle.megaco.specs.Names.{name_of}
 use Rattle.megaco.specs.Tree.{Items, Command, command}
 use Rattle.megaco.specs.State.{State}
 use Rattle.megaco.specs.Command.{Outcome, outcome, Targets, no_target, gateway, targets, attempts, command_error, action_error, root_targets, free_targets, match_targets, matches, not_for_root, targets_of, run_targets, from_test4, from_test2, unless_optional, from_test1, op_of, run_command}
-use Rattle.protocol.specs.Types.{Context, Parsed, Next, Fault, Op, Values, Judged, Wrong, Right, Name, Termination, Root, Chosen, Unchosen, Wildcard, Unmatched, Unknown}
+use Rattle.protocol.specs.Types.{Context, Parsed, Op, Values, Judged, Name, Termination, Root, Chosen, Unchosen, Wildcard, Unmatched, Unknown}
 use Rattle.read_command.specs.Production.{past_sign, list_of, list_p}
 use Rattle.read_command.specs.Places.{command_at}
 use Rattle.command_places.specs.Found.{next_at}
 use Rattle.command_places.proofs.NextLaws.{part_last, part_more}
 use Rattle.run_attempts.specs.Contract.{RunsTo, joined}
 use Rattle.run_attempts.specs.declared.CommandOutcome.{CommandOutcome}
-use Rattle.run_attempts.proofs.RunsToLaws.{command_outcome, Some, some as there, Leads, leads_on, done_none}
+use Rattle.run_attempts.proofs.RunsToLaws.{command_outcome, Some as Told, some as there, Leads, leads_on, done_none}
 use Rattle.run_action.specs.Fold.{run_commands}
 use Rattle.run_action.proofs.Lists.{list_open}
 
@@ -51,7 +52,7 @@ at_least_one op at items Unknown t = to_no_target
 
 -- an outcome that reports something
 abbrev Tells : Outcome → Type 0
-Tells x = Some x.reports
+Tells x = Told x.reports
 
 targets_tell : (op : Op) (name : List ℕ) (given : ℕ) (vs : Values) (a : Targets) (at : Context) (t : State) → AtLeastOne a → Tells (run_targets op name given vs a at t)
 unfolding run_targets command_error attempts
@@ -61,8 +62,8 @@ targets_tell op name given vs _ at t some_targets = there
 
 test4_tells : (op : Op) (name : List ℕ) (given : ℕ) (items : Bool) (j : Judged) (at : Context) (t : State) → Tells (from_test4 op name given items j at t)
 unfolding from_test4 command_error
-test4_tells op name given items (Wrong code) at t = there
-test4_tells op name given items (Right vs) at t =
+test4_tells op name given items (Err code) at t = there
+test4_tells op name given items (Ok vs) at t =
     let b : Bool = not_for_root op items vs in
     targets_tell op name given vs (targets_of op at b (name_of (fitted t.table) name) t.table) at t (at_least_one op at b (name_of (fitted t.table) name) t.table)
 
@@ -145,7 +146,7 @@ module _ (x : Outcome) (first : Bool) (o : List ℕ) (p₀ : ℕ) (s : List ℕ)
         (leads_on x first o p₀ true y (run_commands rest given w.at t₂) f o₁ o₂ t₂ p w (command_tells c given at t) n d)
 
     -- it is the last
-    pub loop-last : (e : ℕ) (b : Parsed) → w.going ≡ true → e ≡ (command_at s i).end → b ≡ next_at s e → b ≡ Fault → RunsTo x first o p₀ t₂ o₂ w
+    pub loop-last : (e : ℕ) (b : Parsed) → w.going ≡ true → e ≡ (command_at s i).end → b ≡ next_at s e → b ≡ None → RunsTo x first o p₀ t₂ o₂ w
     loop-last e b g q u v =
         let r : rest ≡ [] = part_last s e (command_at s i).end q b u (λ j. (list_p (command_at s) s (k - 1) j).tree) [] v in
         let m : Leads x first o p₀ true (outcome t₂ [] w.at true) false o₂ w.next =
@@ -153,7 +154,7 @@ module _ (x : Outcome) (first : Bool) (o : List ℕ) (p₀ : ℕ) (s : List ℕ)
         subst (λ (y : Bool). RunsTo x first o p₀ t₂ o₂ (command_outcome w.next w.at y)) (sym g) (m.to t₂ o₂ w.next w.at true (done_none t₂ o₂ false w.next w.at))
 
     -- another follows
-    pub loop-more : (e n : ℕ) (b : Parsed) → w.going ≡ true → e ≡ (command_at s i).end → b ≡ next_at s e → b ≡ Next n
+    pub loop-more : (e n : ℕ) (b : Parsed) → w.going ≡ true → e ≡ (command_at s i).end → b ≡ next_at s e → b ≡ Some n
         → Leads x first o p₀ true (run_commands (list_p (command_at s) s (k - 1) n).tree given w.at t₂) false o₂ w.next
     loop-more e n b g q u v =
         let y : rest ≡ (list_p (command_at s) s (k - 1) n).tree = part_more s e (command_at s i).end q b u (λ j. (list_p (command_at s) s (k - 1) j).tree) [] n v in

@@ -1,9 +1,9 @@
 -- An action from its start on.
+use Rattle.std.specs.Prelude.{Ok, Err}
 use Prim.Native.Nat.{ℕ, ◌<◌, ◌≤◌}
 use mathlib.Core.Path.{◌≡◌, refl, sym, ap, ◌∙◌, subst}
 use mathlib.Core.List.{List, [], ◌∷◌, ◌++◌}
 use mathlib.Core.Bool.{Bool, true, false, not}
-use lib.ListN.{length}
 use lib.Dec.{ltb, leb}
 use borrow.Author.Tests.{ltb-true, leb-true}
 use native.Mathlib.Omega.{arith}
@@ -18,9 +18,9 @@ use Rattle.megaco.specs.Topology.{triples_of, any_topology, Link, links_of}
 use Rattle.megaco.specs.Reply.{standing, failed, reports_text}
 use Rattle.megaco.specs.Attempt.{judge, seen, number_of}
 use Rattle.megaco.specs.Command.{Outcome, outcome}
-use Rattle.megaco.specs.Action.{any_given, over15, new_record, set_properties, start_checks, start_writes, start_reports, started_by, started}
+use Rattle.megaco.specs.Action.{any_given, new_record, set_properties, start_checks, start_writes, start_reports, started_by, started}
 use Rattle.megaco.specs.Transaction.{no_commands}
-use Rattle.protocol.specs.Types.{Context, Checked, Passes, Fails}
+use Rattle.protocol.specs.Types.{Context, Checked}
 use Rattle.read_command.specs.Production.{list_of}
 use Rattle.read_command.specs.Places.{commands_at, commands_in, body_end}
 use Rattle.read_command.specs.declared.Rest.{Rest}
@@ -58,12 +58,12 @@ module _ (c : Context) (ps : List Property) (cs : List Command) (t bs : List ℕ
   abbrev links : List Link
   links = links_of (number_of c) t (triples_of ps)
 
-  action_refused : (code : ℕ) → judge (start_checks c ps (no_commands cs) (seen (number_of c) t) links) ≡ Fails code
+  action_refused : (code : ℕ) → judge (start_checks c ps (no_commands cs) (seen (number_of c) t) links) ≡ Err code
       → run_action (action c ps cs) (state t bs) ≡ outcome (state t bs) (failed code ∷ []) c false
   unfolding run_action started started_by after_start held_at apply pick
   action_refused code e = rw e
 
-  action_done : judge (start_checks c ps (no_commands cs) (seen (number_of c) t) links) ≡ Passes
+  action_done : judge (start_checks c ps (no_commands cs) (seen (number_of c) t) links) ≡ Ok tt
       → run_action (action c ps cs) (state t bs)
       ≡ (let x = run_commands cs (set_properties ps new_record) c (state (apply (start_writes c ps (seen (number_of c) t) links) t) bs) in
       outcome x.state (start_reports ps (no_commands cs) (held_at c t) ++ x.reports) x.at x.going)
@@ -110,17 +110,17 @@ module _ (s : List ℕ) (c : Context) (body : ℕ) (rest : Rest) (t bs o : List 
   starts = record { given = g.fresh; at = c; first = true; next = 0 }
 
   -- an action error
-  pub inner_fails : (code : ℕ) (o' : List ℕ) (w : CommandOutcome) → x ≡ Fails code → Failed code starts o o' w → RunsTo (run_action (action c ps cs) (state t bs)) true o 0 (state t bs) o' w
+  pub inner_fails : (code : ℕ) (o' : List ℕ) (w : CommandOutcome) → x ≡ Err code → Failed code starts o o' w → RunsTo (run_action (action c ps cs) (state t bs)) true o 0 (state t bs) o' w
   inner_fails code o' w z a =
       rw (action_refused c ps cs t bs code (sym tests_are ∙ z)) (record { state = refl; text = a.text; place = a.place; going = a.going })
 
-  passed : x ≡ Passes → judge (start_checks c ps (no_commands cs) (seen (number_of c) t) ls) ≡ Passes
+  passed : x ≡ Ok tt → judge (start_checks c ps (no_commands cs) (seen (number_of c) t) ls) ≡ Ok tt
   passed z = sym tests_are ∙ z
 
-  small : x ≡ Passes → g.over ≡ false
+  small : x ≡ Ok tt → g.over ≡ false
   small z = given_over ps held g h ∙ start_over c ps (no_commands cs) (seen (number_of c) t) ls (passed z)
 
-  wrote : (u : List ℕ) → x ≡ Passes → u ≡ apply (wrote_start c any d.topology g.held (flows_after ps (number_of c) t)) t
+  wrote : (u : List ℕ) → x ≡ Ok tt → u ≡ apply (wrote_start c any d.topology g.held (flows_after ps (number_of c) t)) t
       → u ≡ apply (start_writes c ps (seen (number_of c) t) ls) t
   unfolding held_at
   wrote u z q =
@@ -129,7 +129,7 @@ module _ (s : List ℕ) (c : Context) (body : ℕ) (rest : Rest) (t bs o : List 
       ((λ i. wrote_start c (any_is i) (k.given i) ((given_held ps held g h (small z) ∙ ap (set_properties ps) e) i) (flows_after ps (number_of c) t)) ∙ start_writes_is c ps t)
 
   -- commands follow
-  pub inner_commands : (u : List ℕ) (t' : State) (o' : List ℕ) (w : CommandOutcome) → x ≡ Passes → u ≡ apply (wrote_start c any d.topology g.held (flows_after (properties_in s body) (number_of c) t)) t → rest.commands ≡ true
+  pub inner_commands : (u : List ℕ) (t' : State) (o' : List ℕ) (w : CommandOutcome) → x ≡ Ok tt → u ≡ apply (wrote_start c any d.topology g.held (flows_after (properties_in s body) (number_of c) t)) t → rest.commands ≡ true
       → RunsTo (run_commands (commands_at s rest.at).tree g.fresh c (state u bs)) true o 0 t' o' w → RunsTo (run_action (action c ps cs) (state t bs)) true o 0 t' o' w
   inner_commands u t' o' w z q b w' =
       let l : cs ≡ (commands_at s rest.at).tree = (unfold commands_in in picked rest.commands (commands_at s rest.at).tree [] b) in
@@ -140,7 +140,7 @@ module _ (s : List ℕ) (c : Context) (body : ℕ) (rest : Rest) (t bs o : List 
       rw (action_done c ps cs t bs (passed z), r) (subst (λ (v : Outcome). RunsTo (outcome v.state v.reports v.at v.going) true o 0 t' o' w) m w')
 
   -- properties alone
-  pub inner_alone : (u o' : List ℕ) (n : ℕ) → x ≡ Passes → u ≡ apply (wrote_start c any d.topology g.held (flows_after (properties_in s body) (number_of c) t)) t → rest.commands ≡ false
+  pub inner_alone : (u o' : List ℕ) (n : ℕ) → x ≡ Ok tt → u ≡ apply (wrote_start c any d.topology g.held (flows_after (properties_in s body) (number_of c) t)) t → rest.commands ≡ false
       → Appended o 0 (reports_text true (standing g.held ∷ [])) o' n → RunsTo (run_action (action c ps cs) (state t bs)) true o 0 (state u bs) o' (command_outcome n c true)
   inner_alone u o' n z q b a =
       let l : cs ≡ [] = (unfold commands_in in left_out rest.commands (commands_at s rest.at).tree [] b) in

@@ -14,7 +14,7 @@ ghost use Rattle.run_attempts.specs.Contract.{RunsTo};
 ghost use Rattle.run_action.specs.Fold.{run_commands, run_action, run_actions};
 ghost use Rattle.run_action.specs.Promises.{around, ActionRunsTo, Wrote};
 
-use megaco::{Checked, Context, Parsed};
+use megaco::Context;
 use read_command::Rest;
 use reply::TRANSACTION_ROOM;
 use run_attempts::{CommandOutcome, Turn};
@@ -48,45 +48,39 @@ fn run_commands(
     ensures { RunsTo (run_commands (commands_at s.now from).tree turn.given turn.at (state table.old blocks.old)) turn.first out.old turn.next (state table.new blocks.new) out.new result.outcome × (result.end ≡ (commands_at s.now from).end) }
 {
     let mut i = from;
-    let mut left: usize = 64;
     let mut here = turn;
-    while 0 < left {
+    for n in 0..64 {
         let x = run_command::run_command(s, i, here, table, blocks, out);
         let w = x.outcome;
-        let e = x.end;
-        let going = w.going;
-        if going {
-            let y = command_places::next_part(s, e);
-            let Parsed::Next(u) = y else {
-                return x;
-            };
-            i = u;
-            let g = here.given;
-            let c = w.at;
-            here = Turn {
-                given: g,
-                at: c,
-                first: false,
-                next: w.next,
-            };
-            left -= 1;
-        } else {
+        if !w.going {
             return RanCommand {
-                outcome: w,
-                end: action_places::commands_after(s, left - 1, e),
+                end: action_places::commands_after(s, 63 - n, x.end),
+                ..x
             };
         }
+        let Some(u) = command_places::next_part(s, x.end) else {
+            return x;
+        };
+        i = u;
+        here = Turn {
+            at: w.at,
+            first: false,
+            next: w.next,
+            ..here
+        };
     }
-    let c = here.at;
-    let w = CommandOutcome {
-        next: here.next,
-        at: c,
-        going: true,
-    };
-    RanCommand { outcome: w, end: i }
+    RanCommand {
+        outcome: CommandOutcome {
+            next: here.next,
+            at: here.at,
+            going: true,
+        },
+        end: i,
+    }
 }
 
 // An action from its start on, its reports being put into a buffer of their own.
+#[tactic(auto, using(megaco::proofs::Sizes::sized_same))]
 fn run_inner(
     s: &[u8],
     c: Context,
@@ -102,40 +96,32 @@ fn run_inner(
     let held = command_tests::held_at(table, c);
     let any = read_action::property_here(s, body);
     let g = start_action::read_properties(s, body, held);
-    let follow = rest.commands;
-    let tested = start_action::test_start(s, body, table, c, any, g.over, !follow, held);
-    let checked = tested.checked;
+    let tested = start_action::test_start(s, body, table, c, any, g.over, !rest.commands, held);
     let turn = Turn {
         given: g.fresh,
         at: c,
         first: true,
         next: 0,
     };
-    match checked {
-        Checked::Passes => {
+    match tested.checked {
+        Ok(()) => {
             start_action::start_write(s, body, table, c, any, tested.topology, g.held);
-            if follow {
-                let from = rest.at;
-                return run_commands(s, from, turn, table, blocks, out);
+            if rest.commands {
+                return run_commands(s, rest.at, turn, table, blocks, out);
             }
-            let n = put_alone(out, g.held);
-            let w = CommandOutcome {
-                next: n,
-                at: c,
-                going: true,
-            };
             RanCommand {
-                outcome: w,
+                outcome: CommandOutcome {
+                    next: put_alone(out, g.held),
+                    at: c,
+                    going: true,
+                },
                 end: rest.at,
             }
         }
-        Checked::Fails(code) => {
-            let w = run_command::fail(code, turn, out);
-            RanCommand {
-                outcome: w,
-                end: action_places::body_end(s, rest),
-            }
-        }
+        Err(code) => RanCommand {
+            outcome: run_command::fail(code, turn, out),
+            end: action_places::body_end(s, rest),
+        },
     }
 }
 
@@ -151,8 +137,8 @@ fn put_alone(out: &mut [u8], held: u32) -> usize
 fn copy(out: &mut [u8], p: usize, inner: &[u8], n: usize) -> usize
     ensures { Appended out.old p (take n inner.now) out.new result }
 {
-    let e = numbers::low(n, inner.len());
-    writer::put_bytes(out, p, &inner[0..e])
+    let e = n.min(inner.len());
+    writer::put_bytes(out, p, &inner[..e])
 }
 
 // An action's text around the first n bytes of another buffer, which holds its reports.
@@ -162,10 +148,11 @@ fn put_action(out: &mut [u8], p: usize, first: bool, c: Context, inner: &[u8], n
     let q = report::put_separator(out, p, first);
     let u = reply::put_action_open(out, q, c);
     let v = copy(out, u, inner, n);
-    writer::put_byte(out, v, 125)
+    writer::put_byte(out, v, b'}')
 }
 
 // The action that stands at a place of the message.
+#[tactic(auto, using(crate::proofs::StartedLaws::sound_sized, crate::proofs::StartedLaws::held_small))]
 fn run_action(
     s: &[u8],
     i: usize,
@@ -179,20 +166,14 @@ fn run_action(
     ensures { ActionRunsTo (run_action (action_at s.now i).tree (state table.old blocks.old)) first out.old p (state table.new blocks.new) out.new result × (result.end ≡ (action_at s.now i).end) }
 {
     let a = action_places::action_places(s, i);
-    let c = a.context;
-    let body = a.body;
-    let rest = action_places::rest_of(s, body);
+    let rest = action_places::rest_of(s, a.body);
     let mut inner = [0u8; TRANSACTION_ROOM];
-    let x = run_inner(s, c, body, rest, table, blocks, &mut inner);
+    let x = run_inner(s, a.context, a.body, rest, table, blocks, &mut inner);
     let w = x.outcome;
-    let at = w.at;
-    let n = w.next;
-    let q = put_action(out, p, first, at, &inner, n);
-    let e = x.end;
     RanAction {
-        next: q,
+        next: put_action(out, p, first, w.at, &inner, w.next),
         going: w.going,
-        end: command_places::past_closing(s, e),
+        end: command_places::past_closing(s, x.end),
     }
 }
 
@@ -209,31 +190,25 @@ pub fn run_actions(
     ensures { Wrote (run_actions (actions_at s.now from).tree true (state table.old blocks.old)) out.old p (state table.new blocks.new) out.new result.next × (result.end ≡ (actions_at s.now from).end) }
 {
     let mut i = from;
-    let mut left: usize = 16;
     let mut q = p;
-    let mut f = true;
-    while 0 < left {
-        let m = run_action(s, i, f, table, blocks, out, q);
-        let going = m.going;
-        let e = m.end;
-        if going {
-            let y = command_places::next_part(s, e);
-            let Parsed::Next(u) = y else {
-                return RanPart {
-                    next: m.next,
-                    end: e,
-                };
-            };
-            i = u;
-            q = m.next;
-            f = false;
-            left -= 1;
-        } else {
+    let mut first = true;
+    for n in 0..16 {
+        let m = run_action(s, i, first, table, blocks, out, q);
+        if !m.going {
             return RanPart {
                 next: m.next,
-                end: action_places::actions_after(s, left - 1, e),
+                end: action_places::actions_after(s, 15 - n, m.end),
             };
         }
+        let Some(u) = command_places::next_part(s, m.end) else {
+            return RanPart {
+                next: m.next,
+                end: m.end,
+            };
+        };
+        i = u;
+        q = m.next;
+        first = false;
     }
     RanPart { next: q, end: i }
 }

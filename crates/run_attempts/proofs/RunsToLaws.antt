@@ -1,4 +1,5 @@
 -- Outcomes one after another, and the loops that write them.
+use Rattle.std.specs.Prelude.{Ok, Err}
 use Prim.Native.Nat.{ℕ, ◌+◌, ◌-◌, ◌<◌, ◌≤◌, min}
 use mathlib.Core.Path.{◌≡◌, refl, sym, ap, ◌∙◌, subst}
 use mathlib.Core.List.{List, [], ◌∷◌, ◌++◌}
@@ -30,7 +31,7 @@ use Rattle.attempt_view.specs.Noted.{Matched}
 use Rattle.targets.specs.Targets.{targets_in}
 use Rattle.targets.specs.declared.Target.{Target}
 use Rattle.targets.specs.declared.Target.TheVariants.{NoTarget, Gateway, One, Many}
-use Rattle.protocol.specs.Types.{Range, View, Checked, Passes, Fails, Context, Op, Add, Modify, Subtract, Move, AuditValue, Values}
+use Rattle.protocol.specs.Types.{Range, View, Checked, Context, Op, Add, Modify, Subtract, Move, AuditValue, Values}
 use Rattle.run_attempts.specs.Contract.{RunsTo, joined, shown, CommandFailed}
 use Rattle.run_attempts.specs.declared.Turn.{Turn}
 use Rattle.run_attempts.specs.declared.CommandOutcome.{CommandOutcome}
@@ -200,7 +201,7 @@ module _ (op : Op) (wild : Bool) (name : List ℕ) (given : ℕ) (vs : Values) (
   unfolding attempts effect
   tries_one e f = rw (← e, ← f, ← lines_seen at i t v e)
 
-  pub attempt_does : (t' b' o' : List ℕ) (n : ℕ) (c : Context) → v ≡ look at i t → x ≡ judge (checks op at i vs v) → x ≡ Passes
+  pub attempt_does : (t' b' o' : List ℕ) (n : ℕ) (c : Context) → v ≡ look at i t → x ≡ judge (checks op at i vs v) → x ≡ Ok tt
       → t' ≡ apply (changes op at given i vs v) t → Appended o p (reports_text first (done op (name_text v.lines i) (told_of op vs.audited v.word v.lines i (block_at (i - line_terminations v.lines) b)) ∷ [])) o' n
       → b' ≡ cleared (renews op v.lines i) b → c ≡ settled at v
       → RunsTo (attempts op wild name given vs (i ∷ []) at (state t b)) first o p (state t' b') o' (command_outcome n c true)
@@ -208,7 +209,7 @@ module _ (op : Op) (wild : Bool) (name : List ℕ) (given : ℕ) (vs : Values) (
   attempt_does t' b' o' n c e f z g a h s =
       rw (tries_one e f ∙ ap comes z) (record { state = λ j. state (g j) (h j); text = a; place = s; going = refl })
 
-  pub attempt_fails : (code : ℕ) (o' : List ℕ) (n : ℕ) → v ≡ look at i t → x ≡ judge (checks op at i vs v) → x ≡ Fails code
+  pub attempt_fails : (code : ℕ) (o' : List ℕ) (n : ℕ) → v ≡ look at i t → x ≡ judge (checks op at i vs v) → x ≡ Err code
       → Appended o p (reports_text first (refused op (shown v.lines wild i name) code ∷ [])) o' n
       → RunsTo (attempts op wild name given vs (i ∷ []) at (state t b)) first o p (state t b) o' (command_outcome n at false)
   unfolding concluded shown apply cleared

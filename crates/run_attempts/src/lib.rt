@@ -1,4 +1,5 @@
 // The attempts of a command, on those that its name means: each looked at, judged, done and reported.
+// A code stays a number: the definitions tell it so (`Attempt.judge`, `Items.judge_items`), and the reply writes its digits.
 #![tactic(auto)]
 
 ghost use Rattle.std.specs.Prelude.{◌≡◌, true, false, [], ◌∷◌, ◌-◌, ◌<◌, take};
@@ -16,7 +17,7 @@ ghost use Rattle.targets.specs.Targets.{targets_in};
 ghost use Rattle.targets.specs.declared.Target.TheVariants.{Many};
 ghost use Rattle.run_attempts.specs.Contract.{RunsTo, shown, CommandFailed};
 
-use megaco::{Checked, Context, Op, Range, Values};
+use megaco::{Context, Op, Range, Values};
 use table::MOST_TERMINATIONS;
 use targets::Target;
 
@@ -58,6 +59,7 @@ fn put_full(out: &mut [u8], turn: Turn, op: Op, lines: u32, i: usize) -> usize
 }
 
 // What a success tells behind the name: of a Subtract of an ephemeral its figures.
+#[tactic(auto, using(statistics::proofs::BlockLaws::first_below))]
 fn put_told(
     out: &mut [u8],
     at: usize,
@@ -124,10 +126,9 @@ pub fn command_error(op: Op, name: &[u8], code: u32, turn: Turn, out: &mut [u8])
 {
     let p = put_received(out, turn, op, name);
     let n = report::put_code(out, p, code);
-    let c = turn.at;
     CommandOutcome {
         next: n,
-        at: c,
+        at: turn.at,
         going: false,
     }
 }
@@ -135,6 +136,7 @@ pub fn command_error(op: Op, name: &[u8], code: u32, turn: Turn, out: &mut [u8])
 // ---- attempts
 
 // One attempt.
+#[tactic(auto, using(crate::proofs::RunsToLaws::look_lines))]
 fn try_one(
     op: Op,
     wild: bool,
@@ -151,9 +153,8 @@ fn try_one(
 {
     let at = turn.at;
     let view = attempt_view::look(table, at, i);
-    let checked = attempt::judge_attempt(op, at, i, values, view);
-    match checked {
-        Checked::Passes => {
+    match attempt::judge_attempt(op, at, i, values, view) {
+        Ok(()) => {
             attempt::change(table, op, at, turn.given, i, values, view);
             let n = put_done(
                 out,
@@ -166,28 +167,21 @@ fn try_one(
                 blocks,
             );
             statistics::renew(blocks, op, view.lines, i);
-            let c = attempt::settled(at, view);
             CommandOutcome {
                 next: n,
-                at: c,
+                at: attempt::settled(at, view),
                 going: true,
             }
         }
-        Checked::Fails(code) => {
+        Err(code) => {
             let n = put_refused(out, turn, op, wild, name, view.lines, i, code);
             CommandOutcome {
                 next: n,
-                at: at,
+                at,
                 going: false,
             }
         }
     }
-}
-
-fn number(i: u32) -> usize
-    ensures { result ≡ i }
-{
-    i as usize
 }
 
 // The attempts of a wildcard, in the order of its matches.
@@ -204,37 +198,32 @@ fn try_each(
     requires { (Sized table.old) × InRange values }
     ensures { RunsTo (attempts op true name.now turn.given values matched.now turn.at (state table.old blocks.old)) turn.first out.old turn.next (state table.new blocks.new) out.new result }
 {
-    let mut k: usize = 0;
     let mut here = turn;
-    let mut good = true;
-    while k < matched.len() {
+    let mut going = true;
+    for i in matched {
         let w = try_one(
             op,
             true,
             name,
             values,
-            number(matched[k]),
+            *i as usize,
             here,
             table,
             blocks,
             out,
         );
-        let g = here.given;
-        let c = w.at;
         here = Turn {
-            given: g,
-            at: c,
+            at: w.at,
             first: false,
             next: w.next,
+            ..here
         };
-        good = good & w.going;
-        k += 1;
+        going = going & w.going;
     }
-    let c = here.at;
     CommandOutcome {
         next: here.next,
-        at: c,
-        going: good,
+        at: here.at,
+        going,
     }
 }
 
@@ -253,8 +242,8 @@ fn try_noted(
     requires { (Sized table.old) × InRange values }
     ensures { RunsTo (attempts op true name.now turn.given values (take n row.now) turn.at (state table.old blocks.old)) turn.first out.old turn.next (state table.new blocks.new) out.new result }
 {
-    let e = numbers::low(n, row.len());
-    try_each(op, name, values, &row[0..e], turn, table, blocks, out)
+    let e = n.min(row.len());
+    try_each(op, name, values, &row[..e], turn, table, blocks, out)
 }
 
 // The attempts of a wildcard: its matches are noted before the first of them.
@@ -272,8 +261,7 @@ fn try_many(
     ensures { RunsTo (run_targets op name.now turn.given values (targets_in (Many r) op turn.at table.old) turn.at (state table.old blocks.old)) turn.first out.old turn.next (state table.new blocks.new) out.new result }
 {
     let mut matched = [0u32; MOST_TERMINATIONS];
-    let at = turn.at;
-    let n = attempt_view::note_matches(table, op, at, r, &mut matched);
+    let n = attempt_view::note_matches(table, op, turn.at, r, &mut matched);
     if n == 0 {
         return command_error(op, name, 431, turn, out);
     }
@@ -298,10 +286,9 @@ pub fn run_targets(
         Target::NoTarget(code) => command_error(op, name, code, turn, out),
         Target::Gateway => {
             let q = put_received(out, turn, op, b"ROOT");
-            let c = turn.at;
             CommandOutcome {
                 next: q,
-                at: c,
+                at: turn.at,
                 going: true,
             }
         }

@@ -1,10 +1,12 @@
 -- A command's tests in order.
+use Rattle.std.specs.Prelude.{Some, None}
 use Prim.Native.Nat.{ℕ, ◌-◌}
 use mathlib.Core.Path.{◌≡◌, refl, sym, ap, ◌∙◌}
 use mathlib.Core.List.{List}
-use mathlib.Core.Option.{Option, none, some}
+use mathlib.Core.Option.{Option, some}
 use mathlib.Core.Bool.{Bool, true, false, ◌||◌}
 use lib.ListN.{take, drop}
+use Rattle.std.specs.Option.{is_some}
 use Rattle.base.specs.Pick.{pick}
 use Rattle.base.specs.Lists.{part}
 use Rattle.megaco.specs.Items.{judge_items, given?}
@@ -12,29 +14,29 @@ use Rattle.megaco.specs.State.{State}
 use Rattle.megaco.specs.Tree.{Items}
 use Rattle.megaco.specs.Attempt.{seen, number_of}
 use Rattle.megaco.specs.Command.{Outcome, op_of, no_context, forbidden_in_null, command_error, action_error, from_test4, from_test2, unless_optional, from_test1, run_command}
-use Rattle.protocol.specs.Types.{Op, Judged, Wrong, Right}
+use Rattle.protocol.specs.Types.{Op, Judged, Parsed}
 use Rattle.protocol.specs.Ranges.{JudgedInRange}
 use Rattle.laws.proofs.Values.{items_in_range}
 use Rattle.read_command.specs.Places.{command_at}
-use Rattle.command_places.specs.Found.{items_from, command_from, OfCommand}
+use Rattle.command_places.specs.Found.{held_in, items_from, command_from, OfCommand}
 use Rattle.command_places.proofs.PlaceLaws.{command_is}
 use Rattle.command_places.specs.declared.CommandPlaces.{CommandPlaces}
 use Rattle.run_attempts.specs.Contract.{RunsTo, CommandFailed}
 use Rattle.run_attempts.specs.declared.Turn.{Turn}
 use Rattle.run_attempts.specs.declared.CommandOutcome.{CommandOutcome}
 use Rattle.command_tests.specs.CommandTests.{found_of, held_at}
-use Rattle.command_tests.specs.declared.Found.{Found}
-use Rattle.command_tests.specs.declared.Found.TheVariants.{Built, Unbuilt}
+use Rattle.command_tests.specs.Found.{Found}
 use Rattle.run_command.specs.Fails.{optionally, Failed}
 
 -- whether items stand in braces
-items_given : (s : List ℕ) (r : CommandPlaces) → given? (items_from s r) ≡ r.braces
+given_held : {A : Type 0} (f : ℕ → A) (o : Parsed) → given? (held_in f o) ≡ is_some o
+unfolding held_in given?
+given_held f None = refl
+given_held f (Some i) = refl
+
+items_given : (s : List ℕ) (r : CommandPlaces) → given? (items_from s r) ≡ is_some r.inside
 unfolding items_from
-items_given s r = by r.braces
-  where
-    by : (b : Bool) → given? (pick {A = Items} b (some (Rattle.read_command.specs.Places.top_at s r.inside).tree) none) ≡ b
-    by true = unfold pick given? in refl
-    by false = unfold pick given? in refl
+items_given s r = given_held _ r.inside
 
 module _ (s : List ℕ) (r : CommandPlaces) (op : Op) (name : List ℕ) (turn : Turn) (t : State) (o : List ℕ) (t' : State) (o' : List ℕ) where
   abbrev tests : Outcome
@@ -50,12 +52,12 @@ module _ (s : List ℕ) (r : CommandPlaces) (op : Op) (name : List ℕ) (turn : 
       let h : no_context op turn.at (seen (number_of turn.at) t.table).held ≡ true = ap (no_context op turn.at) (sym e) ∙ sym f ∙ g in
       rw h (record { state = refl; text = m.text; place = m.place; going = m.going })
 
-  pub tested_on : (held : ℕ) (x : Bool) (j : Judged) (w : CommandOutcome) → held ≡ held_at turn.at t.table → x ≡ no_context op turn.at held → x ≡ false → j ≡ judge_items op (items_from s r)
-      → RunsTo (from_test4 op name turn.given r.braces j turn.at t) turn.first o turn.next t' o' w → RunsTo tests turn.first o turn.next t' o' w
+  pub tested_on : (held : ℕ) (x b : Bool) (j : Judged) (w : CommandOutcome) → held ≡ held_at turn.at t.table → x ≡ no_context op turn.at held → x ≡ false → j ≡ judge_items op (items_from s r) → b ≡ is_some r.inside
+      → RunsTo (from_test4 op name turn.given b j turn.at t) turn.first o turn.next t' o' w → RunsTo tests turn.first o turn.next t' o' w
   unfolding from_test2 held_at pick
-  tested_on held x j w e f g k d =
+  tested_on held x b j w e f g k i d =
       let z : no_context op turn.at (seen (number_of turn.at) t.table).held ≡ false = ap (no_context op turn.at) (sym e) ∙ sym f ∙ g in
-      rw z (rw (items_given s r, ← k) d)
+      rw z (rw (items_given s r, ← i, ← k) d)
 
   pub built_421 : (o? x : Bool) (w : CommandOutcome) → x ≡ forbidden_in_null op turn.at → x ≡ true → Failed 421 turn o o' w → RunsTo (orders o? (some op)) turn.first o turn.next t o' w
   unfolding from_test1 action_error pick
@@ -66,12 +68,12 @@ module _ (s : List ℕ) (r : CommandPlaces) (op : Op) (name : List ℕ) (turn : 
   unfolding from_test1 unless_optional optionally pick
   built_on o? x w v e f d q = rw (sym e ∙ f, q) (record { state = d.state; text = d.text; place = d.place; going = ap (λ (g : Bool). g || o?) d.going })
 
-  pub found_built : (f : Found) (x : Option Op) (w : CommandOutcome) → found_of f ≡ x → f ≡ Built op → RunsTo (orders r.optional (some op)) turn.first o turn.next t' o' w
+  pub found_built : (f : Found) (x : Option Op) (w : CommandOutcome) → found_of f ≡ x → f ≡ Some op → RunsTo (orders r.optional (some op)) turn.first o turn.next t' o' w
       → RunsTo (orders r.optional x) turn.first o turn.next t' o' w
   unfolding found_of
   found_built f x w e g d = rw (sym e ∙ ap found_of g) d
 
-pub found_unbuilt : (s : List ℕ) (r : CommandPlaces) (name : List ℕ) (turn : Turn) (t : State) (o o' : List ℕ) (f : Found) (x : Option Op) (w : CommandOutcome) → found_of f ≡ x → f ≡ Unbuilt → Failed 443 turn o o' w
+pub found_unbuilt : (s : List ℕ) (r : CommandPlaces) (name : List ℕ) (turn : Turn) (t : State) (o o' : List ℕ) (f : Found) (x : Option Op) (w : CommandOutcome) → found_of f ≡ x → f ≡ None → Failed 443 turn o o' w
     → RunsTo (from_test1 r.optional x name (items_from s r) turn.given turn.at t) turn.first o turn.next t o' w
 unfolding found_of from_test1 action_error
 found_unbuilt s r name turn t o o' f x w e g a = rw (sym e ∙ ap found_of g) (record { state = refl; text = a.text; place = a.place; going = a.going })

@@ -1,4 +1,5 @@
 // One command of a message: its parts found once, its tests in document 01's order, and what it leaves.
+// A code stays a number: the definitions tell it so (`Attempt.judge`, `Items.judge_items`), and the reply writes its digits.
 #![tactic(auto)]
 
 ghost use Rattle.std.specs.Prelude.{◌≡◌};
@@ -12,7 +13,6 @@ ghost use Rattle.run_attempts.specs.Contract.{RunsTo};
 ghost use Rattle.run_command.specs.Fails.{optionally, Failed};
 
 use command_places::CommandPlaces;
-use command_tests::Found;
 use megaco::Op;
 use run_attempts::{CommandOutcome, Turn};
 
@@ -37,33 +37,37 @@ fn run_tested(
     requires { Sized table.old }
     ensures { RunsTo (from_test2 op name.now (items_from s.now places) turn.given turn.at (state table.old blocks.old)) turn.first out.old turn.next (state table.new blocks.new) out.new result.outcome × (result.end ≡ command_end_from s.now places) }
 {
-    let at = turn.at;
-    let held = command_tests::held_at(table, at);
-    if command_tests::no_context(op, at, held) {
-        let w = run_attempts::command_error(op, name, 411, turn, out);
+    let held = command_tests::held_at(table, turn.at);
+    if command_tests::no_context(op, turn.at, held) {
         return RanCommand {
-            outcome: w,
+            outcome: run_attempts::command_error(op, name, 411, turn, out),
             end: command_places::command_end(s, places),
         };
     }
     let x = judge_items::judge_items(s, places, op);
-    let judged = x.judged;
-    let w = command_tests::run_judged(op, name, places.braces, judged, turn, table, blocks, out);
     RanCommand {
-        outcome: w,
+        outcome: command_tests::run_judged(
+            op,
+            name,
+            places.inside.is_some(),
+            x.judged,
+            turn,
+            table,
+            blocks,
+            out,
+        ),
         end: x.end,
     }
 }
 
 // The transaction goes on after an optional command that failed.
+#[tactic(auto, unfolding(crate::specs::Fails::optionally))]
 fn past_optional(optional: bool, w: CommandOutcome) -> CommandOutcome
     ensures { result ≡ optionally optional w }
 {
-    let c = w.at;
     CommandOutcome {
-        next: w.next,
-        at: c,
         going: w.going | optional,
+        ..w
     }
 }
 
@@ -72,11 +76,9 @@ pub fn fail(code: u32, turn: Turn, out: &mut [u8]) -> CommandOutcome
     ensures { Failed code turn out.old out.new result }
 {
     let q = report::put_separator(out, turn.next, turn.first);
-    let n = report::put_failed(out, q, code);
-    let c = turn.at;
     CommandOutcome {
-        next: n,
-        at: c,
+        next: report::put_failed(out, q, code),
+        at: turn.at,
         going: false,
     }
 }
@@ -91,9 +93,8 @@ fn fail_command(
 ) -> RanCommand
     ensures { Failed code turn out.old out.new result.outcome × (result.end ≡ command_end_from s.now places) }
 {
-    let w = fail(code, turn, out);
     RanCommand {
-        outcome: w,
+        outcome: fail(code, turn, out),
         end: command_places::command_end(s, places),
     }
 }
@@ -112,15 +113,13 @@ fn run_built(
     requires { Sized table.old }
     ensures { RunsTo (from_test1 places.optional (some op) name.now (items_from s.now places) turn.given turn.at (state table.old blocks.old)) turn.first out.old turn.next (state table.new blocks.new) out.new result.outcome × (result.end ≡ command_end_from s.now places) }
 {
-    let at = turn.at;
-    if command_tests::forbidden_in_null(op, at) {
+    if command_tests::forbidden_in_null(op, turn.at) {
         return fail_command(s, places, 421, turn, out);
     }
     let x = run_tested(s, places, op, name, turn, table, blocks, out);
-    let w = x.outcome;
     RanCommand {
-        outcome: past_optional(places.optional, w),
-        end: x.end,
+        outcome: past_optional(places.optional, x.outcome),
+        ..x
     }
 }
 
@@ -138,10 +137,9 @@ fn run_found(
     requires { Sized table.old }
     ensures { RunsTo (from_test1 places.optional (op_of places.wild word.now) name.now (items_from s.now places) turn.given turn.at (state table.old blocks.old)) turn.first out.old turn.next (state table.new blocks.new) out.new result.outcome × (result.end ≡ command_end_from s.now places) }
 {
-    let f = command_tests::op_of(places.wild, word);
-    match f {
-        Found::Built(op) => run_built(s, places, op, name, turn, table, blocks, out),
-        Found::Unbuilt => fail_command(s, places, 443, turn, out),
+    match command_tests::op_of(places.wild, word) {
+        Some(op) => run_built(s, places, op, name, turn, table, blocks, out),
+        None => fail_command(s, places, 443, turn, out),
     }
 }
 
@@ -158,11 +156,7 @@ pub fn run_command(
     ensures { RunsTo (run_command (command_at s.now i).tree turn.given turn.at (state table.old blocks.old)) turn.first out.old turn.next (state table.new blocks.new) out.new result.outcome × (result.end ≡ (command_at s.now i).end) }
 {
     let places = command_places::command_places(s, i);
-    let word = places.word;
-    let name = places.name;
-    let a = word.from;
-    let b = word.to;
-    let c = name.from;
-    let d = name.to;
-    run_found(s, places, &s[a..b], &s[c..d], turn, table, blocks, out)
+    let word = &s[places.word.from..places.word.to];
+    let name = &s[places.name.from..places.name.to];
+    run_found(s, places, word, name, turn, table, blocks, out)
 }

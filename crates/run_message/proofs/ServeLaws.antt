@@ -1,4 +1,5 @@
 -- A message's run with the kept replies, in the form in which `search` uses it.
+use Rattle.std.specs.Prelude.{Some, None, Ok, Err}
 use Prim.Native.Nat.{ℕ, suc, ◌+◌, ◌-◌, ◌<◌, ◌≤◌}
 use mathlib.Core.Path.{◌≡◌, refl, sym, ap, ◌∙◌, subst}
 use mathlib.Core.Bool.{Bool, true, false, ◌||◌}
@@ -14,7 +15,7 @@ use Rattle.base.specs.Bytes.{text, ◌then◌}
 use Rattle.base.specs.Out.{Appended}
 use Rattle.base.proofs.TextLaws.{length_then, length_decimal}
 use Rattle.base.proofs.OutLaws.{none as nothing, take_put, same_length_by, ◌▸◌}
-use Rattle.protocol.specs.Types.{Ack, Parsed, Next, Fault, Number, Got, Bad, TransToken}
+use Rattle.protocol.specs.Types.{Ack, Parsed, Number, TransToken}
 use Rattle.megaco.specs.Table.{sound}
 use Rattle.megaco.specs.State.{State, state}
 use Rattle.megaco.specs.Tree.{Transaction, Part, request}
@@ -28,11 +29,10 @@ use Rattle.megaco.specs.Reading.{unlimited, key_at, message_r, sender_of}
 use Rattle.megaco.specs.Bytes.{comma, right_brace}
 use Rattle.read_command.specs.Production.{value_in, number_after, past_sign, list_of, list_end}
 use Rattle.read_command.specs.Places.{ack_at, acks_at, acks_start, acknowledgement_at, actions_at}
-use Rattle.read_command.specs.Messages.{identifier_at, transaction_of, closing_end, transaction_end, is_acknowledgement, acks_of, acknowledgement_end, part_of, part_end, header_end, transactions_at, message_at, message_of, message_by, message_law, verdict_of, verdict_is}
+use Rattle.read_command.specs.Messages.{Verdict, identifier_at, transaction_of, closing_end, transaction_end, is_acknowledgement, acks_of, acknowledgement_end, part_of, part_end, header_end, transactions_at, message_at, message_of, message_by, message_law, verdict_of, verdict_is}
 use Rattle.read_command.specs.Pieces.{Holds}
 use Rattle.read_command.specs.declared.Piece.{Piece}
-use Rattle.read_command.specs.declared.Verdict.{Verdict}
-use Rattle.read_command.specs.declared.Verdict.TheVariants.{WellFormed, Fault400, Fault403, WrongVersion406}
+use Rattle.read_command.specs.declared.Fault.TheVariants.{Fault400, Fault403, WrongVersion406}
 use Rattle.command_places.specs.Found.{next_at}
 use Rattle.command_places.proofs.NextLaws.{part_last, part_more}
 use Rattle.action_places.specs.ActionPlaces.{transaction_places, transaction_from, transaction_from_end, ack_places, sender_start, sender_end, sender_here}
@@ -111,16 +111,16 @@ scratch_fits z o p bs r e a =
 
 got_low : (n : Number) → Within 4294967295 n → value_in n ≤ 4294967295
 unfolding value_in
-got_low (Got v p) h = h
-got_low Bad h = omega arith
+got_low (Some (v, p)) h = h
+got_low None h = omega arith
 
 id_low : (s : List ℕ) (i : ℕ) → value_in (identifier_at s i) ≤ 4294967295
 unfolding identifier_at number_after
 id_low s i = by (key_at TransToken s i)
   where
     by : (x : Parsed) → value_in (number_after x (λ p. number_at s p 10 4294967295)) ≤ 4294967295
-    by (Next p) = got_low (number_at s p 10 4294967295) (number_within s p 10 4294967295)
-    by Fault = got_low Bad tt
+    by (Some p) = got_low (number_at s p 10 4294967295) (number_within s p 10 4294967295)
+    by None = got_low None tt
 
 request_fits : (s : List ℕ) (i : ℕ) (t : State) → length (run_transaction (transaction_of s i) t).text ≤ 2048
 unfolding transaction_of run_transaction
@@ -202,14 +202,14 @@ module _ (x : Room) (e : ℕ) (m s : List ℕ) (n i : ℕ) (w b : List ℕ) (l :
     end_open = let z : length s + 1 - n ≡ suc left = omega arith in l.end ∙ rw z
 
     module _ (y : Parsed) (g : y ≡ next_at s a.end) where
-      pub last_dropped : y ≡ Fault → room w₂ b ≡ x
+      pub last_dropped : y ≡ None → room w₂ b ≡ x
       unfolding drop_all
       last_dropped f = sym (room_open ∙ ap (λ (ks : List Ack). drop_all m ks (room w₂ b)) (part_last s a.end (ack_at s i).end end_is y g beyond [] f))
 
-      pub last_ends : y ≡ Fault → a.end ≡ e
+      pub last_ends : y ≡ None → a.end ≡ e
       last_ends f = end_is ∙ sym (end_open ∙ part_last s a.end (ack_at s i).end end_is y g further (ack_at s i).end f)
 
-      pub drops_more : (u : ℕ) → y ≡ Next u → Dropping x e m s (n + 1) u (room w₂ b)
+      pub drops_more : (u : ℕ) → y ≡ Some u → Dropping x e m s (n + 1) u (room w₂ b)
       unfolding beyond further
       drops_more u f =
           record {
@@ -269,26 +269,26 @@ unfolding run_parts
 no_more x o at m t r o₁ p c l =
     subst (λ (y : Bool). Serves x o at t r o₁ p y) (or_none c) (l.to t r o₁ p false (record { state = refl; room = refl; text = nothing o₁ p; told_is = refl }))
 
-module _ (x : Served) (o : List ℕ) (at : ℕ) (m s : List ℕ) (k i : ℕ) (t : State) (w b o₁ : List ℕ) (p : ℕ) (c : Bool)
-    (l : Leads x o at (run_parts m (transactions_at k s i).tree t (room w b)) o₁ p c) where
-  pub parts_none : k ≤ 0 → Serves x o at t (room w b) o₁ p c
+module _ (x : Served) (o : List ℕ) (at : ℕ) (m s : List ℕ) (n i : ℕ) (t : State) (w b o₁ : List ℕ) (p : ℕ) (c : Bool)
+    (l : Leads x o at (run_parts m (transactions_at (8 - n) s i).tree t (room w b)) o₁ p c) where
+  pub parts_none : 8 ≤ n → Serves x o at t (room w b) o₁ p c
   unfolding transactions_at
   parts_none h =
-      let e : k ≡ 0 = omega arith in
+      let e : 8 - n ≡ 0 = omega arith in
       no_more x o at m t (room w b) o₁ p c (subst (λ (j : ℕ). Leads x o at (run_parts m (transactions_at j s i).tree t (room w b)) o₁ p c) e l)
 
-  module _ (h : 0 < k) (t₂ : State) (w₂ b₂ o₂ : List ℕ) (q : ℕ) (d : Bool) (v : Serves (run_part m (part_of s i) t (room w b)) o₁ p t₂ (room w₂ b₂) o₂ q d) where
+  module _ (h : n < 8) (t₂ : State) (w₂ b₂ o₂ : List ℕ) (q : ℕ) (d : Bool) (v : Serves (run_part m (part_of s i) t (room w b)) o₁ p t₂ (room w₂ b₂) o₂ q d) where
     abbrev others : List Part
-    others = pick (ltb (part_end s i) (length s)) (transactions_at (k - 1) s (part_end s i)).tree []
+    others = pick (ltb (part_end s i) (length s)) (transactions_at (8 - (n + 1)) s (part_end s i)).tree []
 
-    tree_open : (transactions_at k s i).tree ≡ part_of s i ∷ others
+    tree_open : (transactions_at (8 - n) s i).tree ≡ part_of s i ∷ others
     unfolding transactions_at
-    tree_open = let e : k ≡ suc (k - 1) = omega arith in by k (k - 1) e
+    tree_open = let e : 8 - n ≡ suc (8 - (n + 1)) = omega arith in by (8 - n) (8 - (n + 1)) e
       where
         by : (a j : ℕ) → a ≡ suc j → (transactions_at a s i).tree ≡ part_of s i ∷ pick (ltb (part_end s i) (length s)) (transactions_at j s (part_end s i)).tree []
         by a j e = rw e
 
-    opens : run_parts m (transactions_at k s i).tree t (room w b)
+    opens : run_parts m (transactions_at (8 - n) s i).tree t (room w b)
         ≡ (let y = run_part m (part_of s i) t (room w b) in let z = run_parts m others y.state y.room in served z.state z.room (y.text then z.text) (y.told || z.told))
     unfolding run_parts
     opens = rw tree_open
@@ -296,8 +296,8 @@ module _ (x : Served) (o : List ℕ) (at : ℕ) (m s : List ℕ) (k i : ℕ) (t 
     goes_past : Leads x o at (run_parts m others t₂ (room w₂ b₂)) o₂ q (c || d)
     goes_past =
         record {
-          to = λ t' r' o' n a z.
-              subst (λ (y : Bool). Serves x o at t' r' o' n y) (sym (or_assoc c d a)) (l.to t' r' o' n (d || a) (rw (opens, ← v.state, ← v.room, ← v.told_is)
+          to = λ t' r' o' j a z.
+              subst (λ (y : Bool). Serves x o at t' r' o' j y) (sym (or_assoc c d a)) (l.to t' r' o' j (d || a) (rw (opens, ← v.state, ← v.room, ← v.told_is)
               (record { state = z.state; room = z.room; text = v.text ▸ z.text; told_is = ap (λ (y : Bool). d || y) z.told_is })));
         }
 
@@ -307,7 +307,7 @@ module _ (x : Served) (o : List ℕ) (at : ℕ) (m s : List ℕ) (k i : ℕ) (t 
         let z : ltb (part_end s i) (length s) ≡ false = le-ltb (part_end s i) (length s) (rw (← f) g) in
         no_more x o at m t₂ (room w₂ b₂) o₂ q (c || d) (rw z at goes_past)
 
-    pub parts_more : (e : ℕ) → e ≡ part_end s i → e < length s → Leads x o at (run_parts m (transactions_at (k - 1) s e).tree t₂ (room w₂ b₂)) o₂ q (c || d)
+    pub parts_more : (e : ℕ) → e ≡ part_end s i → e < length s → Leads x o at (run_parts m (transactions_at (8 - (n + 1)) s e).tree t₂ (room w₂ b₂)) o₂ q (c || d)
     unfolding pick
     parts_more e f g =
         let z : ltb (part_end s i) (length s) ≡ true = lt-ltb (part_end s i) (length s) (rw (← f) g) in
@@ -329,20 +329,20 @@ module _ (s : List ℕ) (t : State) (r : Room) (o : List ℕ) (p : ℕ) (v : Ver
   as_read : (w : Verdict) → v ≡ w → message_r s ≡ message_by w (message_of s)
   as_read w f = message_law s ∙ ap (λ (y : Verdict). message_by y (message_of s)) (verdict_is s ∙ sym e ∙ f)
 
-  pub reads_well : v ≡ WellFormed → (t' : State) (r' : Room) (o' : List ℕ) (q : ℕ) (c : Bool) → Serves (run_parts (sender_here s) (message_of s) t r) o p t' r' o' q c
+  pub reads_well : v ≡ Ok tt → (t' : State) (r' : Room) (o' : List ℕ) (q : ℕ) (c : Bool) → Serves (run_parts (sender_here s) (message_of s) t r) o p t' r' o' q c
       → Serves (run_message (sender_of s) (message_r s) t r) o p t' r' o' q c
   unfolding message_by run_message
-  reads_well f t' r' o' q c w = rw (as_read WellFormed f, ← sender_is s (sym e ∙ f)) w
+  reads_well f t' r' o' q c w = rw (as_read (Ok tt) f, ← sender_is s (sym e ∙ f)) w
 
   module _ (o' : List ℕ) (q : ℕ) (y : ServedMessage) (g : (y.next ≡ q) × (y.told ≡ true)) where
-    pub reads_400 : v ≡ Fault400 → Appended o p (error_text 400) o' q → Serves (run_message (sender_of s) (message_r s) t r) o p t r o' y.next y.told
+    pub reads_400 : v ≡ Err Fault400 → Appended o p (error_text 400) o' q → Serves (run_message (sender_of s) (message_r s) t r) o p t r o' y.next y.told
     unfolding message_by run_message
-    reads_400 f a = rw (as_read Fault400 f, g.0) (record { state = refl; room = refl; text = a; told_is = g.1 })
+    reads_400 f a = rw (as_read (Err Fault400) f, g.0) (record { state = refl; room = refl; text = a; told_is = g.1 })
 
-    pub reads_403 : (id : ℕ) → v ≡ Fault403 id → Appended o p (reply_text id (error_text 403)) o' q → Serves (run_message (sender_of s) (message_r s) t r) o p t r o' y.next y.told
+    pub reads_403 : (id : ℕ) → v ≡ Err (Fault403 id) → Appended o p (reply_text id (error_text 403)) o' q → Serves (run_message (sender_of s) (message_r s) t r) o p t r o' y.next y.told
     unfolding message_by run_message
-    reads_403 id f a = rw (as_read (Fault403 id) f, g.0) (record { state = refl; room = refl; text = a; told_is = g.1 })
+    reads_403 id f a = rw (as_read (Err (Fault403 id)) f, g.0) (record { state = refl; room = refl; text = a; told_is = g.1 })
 
-    pub reads_406 : v ≡ WrongVersion406 → Appended o p (error_text 406) o' q → Serves (run_message (sender_of s) (message_r s) t r) o p t r o' y.next y.told
+    pub reads_406 : v ≡ Err WrongVersion406 → Appended o p (error_text 406) o' q → Serves (run_message (sender_of s) (message_r s) t r) o p t r o' y.next y.told
     unfolding message_by run_message
-    reads_406 f a = rw (as_read WrongVersion406 f, g.0) (record { state = refl; room = refl; text = a; told_is = g.1 })
+    reads_406 f a = rw (as_read (Err WrongVersion406) f, g.0) (record { state = refl; room = refl; text = a; told_is = g.1 })

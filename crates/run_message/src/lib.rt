@@ -1,7 +1,7 @@
 // Running a message: its verdict, and the transactions and acknowledgements of one that reads, with the kept replies.
 #![tactic(auto)]
 
-ghost use Rattle.std.specs.Prelude.{◌≡◌, true, ◌≤◌, length, take};
+ghost use Rattle.std.specs.Prelude.{◌≡◌, true, ◌≤◌, length, take, Ok};
 ghost use Rattle.megaco.specs.Table.{sound};
 ghost use Rattle.megaco.specs.State.{state};
 ghost use Rattle.megaco.specs.Room.{room};
@@ -11,18 +11,18 @@ ghost use Rattle.megaco.specs.Transaction.{run_transaction};
 ghost use Rattle.megaco.specs.Message.{drop_all, run_part, run_parts, run_message};
 ghost use Rattle.read_command.specs.Places.{acks_at};
 ghost use Rattle.read_command.specs.Messages.{transaction_of, transaction_end, acknowledgement_end, acks_of, part_of, part_end, header_end, message_of, verdict_of};
-ghost use Rattle.read_command.specs.declared.Verdict.TheVariants.{WellFormed};
 ghost use Rattle.action_places.specs.ActionPlaces.{transaction_from, transaction_from_end, sender_here};
 ghost use Rattle.reply.specs.Texts.{limited_from};
 ghost use Rattle.run_message.specs.Serves.{Serves, Concluded, RanKept};
 
 use action_places::TransactionPlaces;
-use megaco::Parsed;
-use read_command::Verdict;
+use read_command::Fault;
 use reply::TRANSACTION_ROOM;
+use room::{Pair, Room};
 use run_action::RanPart;
 
 // How a part of a message was served: the place in the buffer, whether there is a reply, and where the part ends.
+// Both places are told with a reply and without one, so neither is an Option's value.
 #[derive(Clone, Copy)]
 pub struct ServedPart {
     pub next: usize,
@@ -53,7 +53,7 @@ fn conclude(
     ensures { Concluded mid.now id (take n scratch.now) (room words.old bytes.old) out.old p (room words.new bytes.new) out.new result }
 {
     let x = room::part(scratch, 0, n);
-    room::keep(words, bytes, mid, id, x);
+    room::keep(words, bytes, &Pair { sender: mid, id }, x);
     room::put_whole(out, p, x)
 }
 
@@ -125,11 +125,11 @@ fn run_request(
 {
     let a = action_places::transaction_places(s, i);
     let id = a.id;
-    let n = room::find(words, bytes, mid, id);
-    if n == 0 {
+    let kept = Room::new(words, bytes);
+    let Some(n) = kept.find(&Pair { sender: mid, id }) else {
         return run_transaction(s, a, mid, table, blocks, words, bytes, out, p);
-    }
-    let q = room::put_reply(words, bytes, n, out, p);
+    };
+    let q = kept.put_reply(n, out, p);
     RanPart {
         next: q,
         end: action_places::transaction_end(s, i),
@@ -151,17 +151,14 @@ fn drop_acks(s: &[u8], at: usize, mid: &[u8], words: &mut [u32], bytes: &[u8]) -
     ensures { (room words.new bytes.now ≡ drop_all mid.now (acks_at s.now at).tree (room words.old bytes.now)) × (result ≡ (acks_at s.now at).end) }
 {
     let mut i = at;
-    let mut n = 0;
-    while n <= s.len() {
+    for n in 0..s.len() + 1 {
         let a = action_places::ack_places(s, i);
-        room::drop_range(words, bytes, mid, a.ack.first, a.ack.last);
+        room::drop_range(words, bytes, mid, a.ack);
         let e = a.end;
-        let x = command_places::next_part(s, e);
-        let Parsed::Next(u) = x else {
+        let Some(u) = command_places::next_part(s, e) else {
             return e;
         };
         i = u;
-        n += 1;
     }
     i
 }
@@ -215,23 +212,19 @@ fn run_all(
     ensures { Serves (run_parts mid.now (message_of s.now) (state table.old blocks.old) (room words.old bytes.old)) out.old p (state table.new blocks.new) (room words.new bytes.new) out.new result.next result.told }
 {
     let mut i = at;
-    let mut left: usize = 8;
     let mut q = p;
     let mut told = false;
-    while 0 < left {
+    for n in 0..8usize {
         let m = run_part(s, i, mid, table, blocks, words, bytes, out, q);
         q = m.next;
         told = told | m.told;
-        let e = m.end;
-        if e < s.len() {
-            i = e;
-            left -= 1;
-        } else {
+        if s.len() <= m.end {
             return ServedMessage {
                 next: q,
                 told: told,
             };
         }
+        i = m.end;
     }
     ServedMessage {
         next: q,
@@ -249,7 +242,7 @@ fn run_read(
     out: &mut [u8],
     p: usize,
 ) -> ServedMessage
-    requires { (verdict_of (message_r s.now) ≡ WellFormed) × (sound table.old ≡ true) }
+    requires { (verdict_of (message_r s.now) ≡ Ok tt) × (sound table.old ≡ true) }
     ensures { Serves (run_parts (sender_here s.now) (message_of s.now) (state table.old blocks.old) (room words.old bytes.old)) out.old p (state table.new blocks.new) (room words.new bytes.new) out.new result.next result.told }
 {
     let m = action_places::sender_piece(s);
@@ -260,6 +253,7 @@ fn run_read(
 }
 
 // A message, read whole before anything runs.
+#[tactic(auto, using(crate::proofs::SenderLaws::reads))]
 pub fn run_message(
     s: &[u8],
     table: &mut [u32],
@@ -272,12 +266,11 @@ pub fn run_message(
     requires { sound table.old ≡ true }
     ensures { Serves (run_message (sender_of s.now) (message_r s.now) (state table.old blocks.old) (room words.old bytes.old)) out.old p (state table.new blocks.new) (room words.new bytes.new) out.new result.next result.told }
 {
-    let v = read_message::verdict(s);
-    match v {
-        Verdict::WellFormed => run_read(s, table, blocks, words, bytes, out, p),
-        Verdict::Fault400 => answer_fault(report::put_error(out, p, 400)),
-        Verdict::Fault403(id) => answer_fault(reply::put_fault403(out, p, id)),
-        Verdict::WrongVersion406 => answer_fault(report::put_error(out, p, 406)),
+    match read_message::verdict(s) {
+        Ok(()) => run_read(s, table, blocks, words, bytes, out, p),
+        Err(Fault::Fault400) => answer_fault(report::put_error(out, p, 400)),
+        Err(Fault::Fault403(id)) => answer_fault(reply::put_fault403(out, p, id)),
+        Err(Fault::WrongVersion406) => answer_fault(report::put_error(out, p, 406)),
     }
 }
 

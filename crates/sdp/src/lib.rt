@@ -1,16 +1,16 @@
 // Our SDP subset (document 02, CR 11; RFC 2327): the reader of a text in the braces of Local or Remote.
 #![tactic(auto)]
 
-ghost use Rattle.std.specs.Prelude.{◌≡◌, ◌+◌, ◌<◌, ◌≤◌, min, length};
+ghost use Rattle.std.specs.Prelude.{◌≡◌};
 ghost use Rattle.base.specs.Bytes.{text};
 ghost use Rattle.base.specs.Lists.{every, same};
-ghost use Rattle.megaco.specs.Sdp.{line_end, given_at, dotted_part_at, dotted_pair_at, dotted_at, connection_of, payload_of, audio_of, is_blank, another_letter, is_skipped, sdp_line_of, sdp_step, sdp_finish, read_sdp};
-ghost use Rattle.protocol.specs.Types.{NoLine, AfterVersion, AfterConnection, AfterAudio};
+ghost use Rattle.megaco.specs.Sdp.{given_at, dotted_part_at, dotted_pair_at, dotted_at, connection_of, payload_of, audio_of, is_blank, another_letter, is_skipped, sdp_line_of, sdp_step, sdp_finish, read_sdp};
 
-use megaco::{Number, SdpLine, SdpStage, SdpText};
+use megaco::{SdpLine, SdpStage, SdpText};
 
 // ---- bytes
 
+#[tactic(auto, unfolding(megaco::specs::Sdp::is_blank))]
 fn is_blank(b: u8) -> bool
     ensures { result ≡ is_blank b }
 {
@@ -21,104 +21,53 @@ fn is_blank(b: u8) -> bool
 fn given(s: &[u8], at: usize, form: &[u8]) -> bool
     ensures { result ≡ given_at form.now s.now at }
 {
-    let mut i = at;
-    let mut j = 0;
-    while j < form.len() {
-        if i < s.len() {
-            if s[i] == form[j] {
-                i += 1;
-                j += 1;
-            } else {
-                return false;
-            }
-        } else {
-            return false;
-        }
-    }
-    true
-}
-
-// The first line end at a place or past it, or the text's end.
-fn line_end(s: &[u8], at: usize) -> usize
-    requires { at < length s.now }
-    ensures { result ≡ line_end s.now at }
-{
-    let mut i = at;
-    while i < s.len() {
-        if text::is_line_end(s[i]) {
-            return i;
-        }
-        i += 1;
-    }
-    i
-}
-
-// Where the next line begins.
-fn next_line(s: &[u8], e: usize) -> usize
-    requires { e ≤ length s.now }
-    ensures { result ≡ min (e + 1) (length s.now) }
-{
-    if e < s.len() { e + 1 } else { e }
+    s.get(at..).unwrap_or(&[]).starts_with(form)
 }
 
 // ---- numbers
 
-fn octet(s: &[u8], at: usize) -> Number
+#[tactic(auto, unfolding(megaco::specs::Sdp::dotted_part_at))]
+fn octet(s: &[u8], at: usize) -> Option<(u32, usize)>
     ensures { result ≡ dotted_part_at s.now at }
 {
     tokens::number(s, at, 3, 255)
 }
 
 // Two numbers joined by a dot.
-fn pair(s: &[u8], at: usize) -> Number
+#[tactic(auto, using(crate::proofs::SdpLaws::given_fits, crate::proofs::SdpLaws::octet_times, crate::proofs::SdpLaws::octet_sum), unfolding(megaco::specs::Sdp::dotted_pair_at, megaco::specs::Sdp::joined, megaco::specs::Sdp::plus, base::specs::Pick::pick))]
+fn pair(s: &[u8], at: usize) -> Option<(u32, usize)>
     ensures { result ≡ dotted_pair_at s.now at }
 {
-    let a = octet(s, at);
-    let Number::Got { value: v, next: p } = a else {
-        return Number::Bad;
-    };
+    let (v, p) = octet(s, at)?;
     if given(s, p, b".") {
-        let b = octet(s, p + 1);
-        let Number::Got { value: w, next: e } = b else {
-            return Number::Bad;
-        };
-        return Number::Got {
-            value: v * 256 + w,
-            next: e,
-        };
+        let (w, e) = octet(s, p + 1)?;
+        return Some((v * 256 + w, e));
     }
-    Number::Bad
+    None
 }
 
 // Four numbers joined by dots, the first highest.
-fn address(s: &[u8], at: usize) -> Number
+#[tactic(auto, using(crate::proofs::SdpLaws::given_fits, crate::proofs::SdpLaws::pair_times, crate::proofs::SdpLaws::pair_sum), unfolding(megaco::specs::Sdp::dotted_at, megaco::specs::Sdp::joined, megaco::specs::Sdp::plus, base::specs::Pick::pick))]
+fn address(s: &[u8], at: usize) -> Option<(u32, usize)>
     ensures { result ≡ dotted_at s.now at }
 {
-    let a = pair(s, at);
-    let Number::Got { value: v, next: p } = a else {
-        return Number::Bad;
-    };
+    let (v, p) = pair(s, at)?;
     if given(s, p, b".") {
-        let b = pair(s, p + 1);
-        let Number::Got { value: w, next: e } = b else {
-            return Number::Bad;
-        };
-        return Number::Got {
-            value: v * 65536 + w,
-            next: e,
-        };
+        let (w, e) = pair(s, p + 1)?;
+        return Some((v * 65536 + w, e));
     }
-    Number::Bad
+    None
 }
 
 // ---- lines
 
+#[tactic(auto, unfolding(megaco::specs::Sdp::connection_of, megaco::specs::Sdp::ending, base::specs::Pick::pick))]
 fn connection(l: &[u8]) -> SdpLine
     ensures { result ≡ connection_of l.now }
 {
     if given(l, 0, b"c=IN IP4 ") {
-        let a = address(l, 9);
-        let Number::Got { value, next } = a else {
+        // no failure for `?` to hand on: the answer is a line
+        let Some((value, next)) = address(l, 9) else {
             return SdpLine::Strange;
         };
         if l.len() <= next {
@@ -129,15 +78,17 @@ fn connection(l: &[u8]) -> SdpLine
 }
 
 // A media line behind its port.
-fn payload_type(l: &[u8], port: Number) -> SdpLine
+#[tactic(auto, using(crate::proofs::SdpLaws::given_fits), unfolding(megaco::specs::Sdp::payload_of, megaco::specs::Sdp::ending, base::specs::Pick::pick))]
+fn payload_type(l: &[u8], port: Option<(u32, usize)>) -> SdpLine
     ensures { result ≡ payload_of l.now port }
 {
-    let Number::Got { value: p, next: q } = port else {
+    // as above
+    let Some((p, q)) = port else {
         return SdpLine::Strange;
     };
     if given(l, q, b" RTP/AVP ") {
-        let t = tokens::number(l, q + 9, 3, 127);
-        let Number::Got { value: k, next: e } = t else {
+        // as above
+        let Some((k, e)) = tokens::number(l, q + 9, 3, 127) else {
             return SdpLine::Strange;
         };
         if l.len() <= e {
@@ -150,6 +101,7 @@ fn payload_type(l: &[u8], port: Number) -> SdpLine
     SdpLine::Strange
 }
 
+#[tactic(auto, unfolding(megaco::specs::Sdp::audio_of, base::specs::Pick::pick))]
 fn audio(l: &[u8]) -> SdpLine
     ensures { result ≡ audio_of l.now }
 {
@@ -163,17 +115,10 @@ fn audio(l: &[u8]) -> SdpLine
 fn all_blank(l: &[u8]) -> bool
     ensures { result ≡ every is_blank l.now }
 {
-    let mut i = 0;
-    while i < l.len() {
-        if is_blank(l[i]) {
-            i += 1;
-        } else {
-            return false;
-        }
-    }
-    true
+    l.iter().all(|b| is_blank(*b))
 }
 
+#[tactic(auto, unfolding(megaco::specs::Sdp::another_letter))]
 fn another_letter(l: &[u8]) -> bool
     ensures { result ≡ another_letter l.now }
 {
@@ -184,6 +129,7 @@ fn another_letter(l: &[u8]) -> bool
         & text::is_at(l, 1, b'=')
 }
 
+#[tactic(auto, unfolding(megaco::specs::Sdp::is_skipped))]
 fn is_skipped(l: &[u8]) -> bool
     ensures { result ≡ is_skipped l.now }
 {
@@ -194,9 +140,10 @@ fn is_skipped(l: &[u8]) -> bool
 fn is_version(l: &[u8]) -> bool
     ensures { result ≡ same l.now (text "v=0") }
 {
-    given(l, 0, b"v=0") & (l.len() == 3)
+    l == b"v=0".as_slice()
 }
 
+#[tactic(auto, unfolding(megaco::specs::Sdp::sdp_line_of, base::specs::Pick::pick))]
 fn line_of(l: &[u8]) -> SdpLine
     ensures { result ≡ sdp_line_of l.now }
 {
@@ -214,84 +161,22 @@ fn line_of(l: &[u8]) -> SdpLine
 
 // ---- the text
 
-fn after_no_line(l: SdpLine) -> SdpStage
-    ensures { result ≡ sdp_step NoLine l }
-{
-    match l {
-        SdpLine::Skipped => SdpStage::NoLine,
-        SdpLine::Version => SdpStage::AfterVersion,
-        SdpLine::Connection(_) => SdpStage::Broken,
-        SdpLine::Audio {
-            port: _,
-            payload: _,
-        } => SdpStage::Broken,
-        SdpLine::Strange => SdpStage::Broken,
-    }
-}
-
-fn after_version(l: SdpLine) -> SdpStage
-    ensures { result ≡ sdp_step AfterVersion l }
-{
-    match l {
-        SdpLine::Skipped => SdpStage::AfterVersion,
-        SdpLine::Version => SdpStage::Broken,
-        SdpLine::Connection(a) => SdpStage::AfterConnection(a),
-        SdpLine::Audio {
-            port: _,
-            payload: _,
-        } => SdpStage::Broken,
-        SdpLine::Strange => SdpStage::Broken,
-    }
-}
-
-fn after_connection(address: u32, l: SdpLine) -> SdpStage
-    ensures { result ≡ sdp_step (AfterConnection address) l }
-{
-    match l {
-        SdpLine::Skipped => SdpStage::AfterConnection(address),
-        SdpLine::Version => SdpStage::Broken,
-        SdpLine::Connection(_) => SdpStage::Broken,
-        SdpLine::Audio { port, payload } => SdpStage::AfterAudio {
-            address: address,
-            port: port,
-            payload: payload,
-        },
-        SdpLine::Strange => SdpStage::Broken,
-    }
-}
-
-fn after_audio(address: u32, port: u32, payload: u32, l: SdpLine) -> SdpStage
-    ensures { result ≡ sdp_step (AfterAudio address port payload) l }
-{
-    match l {
-        SdpLine::Skipped => SdpStage::AfterAudio {
-            address: address,
-            port: port,
-            payload: payload,
-        },
-        SdpLine::Version => SdpStage::Broken,
-        SdpLine::Connection(_) => SdpStage::Broken,
-        SdpLine::Audio {
-            port: _,
-            payload: _,
-        } => SdpStage::Broken,
-        SdpLine::Strange => SdpStage::Broken,
-    }
-}
-
+// What the lines have been, with one more.
 fn step(x: SdpStage, l: SdpLine) -> SdpStage
     ensures { result ≡ sdp_step x l }
 {
-    match x {
-        SdpStage::NoLine => after_no_line(l),
-        SdpStage::AfterVersion => after_version(l),
-        SdpStage::AfterConnection(a) => after_connection(a, l),
-        SdpStage::AfterAudio {
-            address,
-            port,
-            payload,
-        } => after_audio(address, port, payload, l),
-        SdpStage::Broken => SdpStage::Broken,
+    match (x, l) {
+        (_, SdpLine::Skipped) => x,
+        (SdpStage::NoLine, SdpLine::Version) => SdpStage::AfterVersion,
+        (SdpStage::AfterVersion, SdpLine::Connection(a)) => SdpStage::AfterConnection(a),
+        (SdpStage::AfterConnection(address), SdpLine::Audio { port, payload }) => {
+            SdpStage::AfterAudio {
+                address,
+                port,
+                payload,
+            }
+        }
+        _ => SdpStage::Broken,
     }
 }
 
@@ -299,19 +184,16 @@ fn finish(x: SdpStage) -> SdpText
     ensures { result ≡ sdp_finish x }
 {
     match x {
-        SdpStage::NoLine => SdpText::NotInSubset,
-        SdpStage::AfterVersion => SdpText::NotInSubset,
-        SdpStage::AfterConnection(_) => SdpText::NotInSubset,
         SdpStage::AfterAudio {
             address,
             port,
             payload,
         } => SdpText::Described {
-            address: address,
-            port: port,
-            payload: payload,
+            address,
+            port,
+            payload,
         },
-        SdpStage::Broken => SdpText::NotInSubset,
+        _ => SdpText::NotInSubset,
     }
 }
 
@@ -319,15 +201,11 @@ fn finish(x: SdpStage) -> SdpText
 pub fn read(s: &[u8]) -> SdpText
     ensures { result ≡ read_sdp s.now }
 {
-    if s.len() == 0 {
+    if s.is_empty() {
         return SdpText::EmptyText;
     }
-    let mut stage = SdpStage::NoLine;
-    let mut i = 0;
-    while i < s.len() {
-        let e = line_end(s, i);
-        stage = step(stage, line_of(&s[i..e]));
-        i = next_line(s, e);
-    }
-    finish(stage)
+    finish(
+        s.split(|b| text::is_line_end(*b))
+            .fold(SdpStage::NoLine, |x, l| step(x, line_of(l))),
+    )
 }

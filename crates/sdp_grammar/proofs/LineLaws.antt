@@ -1,4 +1,6 @@
 -- One line is judged exactly as the grammar derives it.
+use Rattle.megaco.proofs.NumberParts.{same_value, same_next}
+use Rattle.std.specs.Prelude.{Some, None}
 use Prim.Native.Nat.{ℕ, zero, suc, ◌+◌, ◌*◌, ◌-◌, ◌<◌, ◌≤◌}
 use mathlib.Core.Path.{◌≡◌, refl, sym, ap, ◌∙◌}
 use mathlib.Core.Bool.{Bool, true, false, not, ◌&&◌, ◌||◌, or-true}
@@ -22,7 +24,7 @@ use Rattle.grammar.proofs.Places.{Counts, behind, whether, given}
 use Rattle.grammar.proofs.RowLaws.{Stops, number_complete, number_sound}
 use Rattle.megaco.specs.Sdp.{begins, given_at, plus, joined, dotted_part_at, dotted_pair_at, dotted_at, ending, connection_of, payload_of, audio_of, is_blank, another_letter, is_skipped, sdp_line_of}
 use Rattle.sdp_grammar.specs.Subset.{InLine, in_line, sdp_line, blank_line, other_line, version_line, connection_line, media_line}
-use Rattle.protocol.specs.Types.{Number, Got, Bad, SdpLine, Skipped, Version, Connection, Audio, Strange}
+use Rattle.protocol.specs.Types.{Number, number, SdpLine, Skipped, Version, Connection, Audio, Strange}
 
 -- ---- complete
 
@@ -178,32 +180,32 @@ given_split : (form s : List ℕ) (p : ℕ) → given_at form s p ≡ true → d
 unfolding given_at
 given_split form s p e = begins_split form (drop p s) e ∙ ap (λ t. form ++ t) (drop-drop (length form) p s)
 
-bad_got : {v e : ℕ} → Bad ≡ Got v e → ⊥
+bad_got : {v e : ℕ} → None ≡ number v e → ⊥
 bad_got h = let z : ◌≡◌ {A = ℕ} 0 1 = cc in omega arith
 
-plus_got : (a v e : ℕ) (r : Number) → plus a r ≡ Got v e → (w : ℕ) × (r ≡ Got w e) × (v ≡ a + w)
+plus_got : (a v e : ℕ) (r : Number) → plus a r ≡ number v e → (w : ℕ) × (r ≡ number w e) × (v ≡ a + w)
 unfolding plus
-plus_got a v e (Got w q) h = (w, (cc), (cc))
-plus_got a v e Bad h = absurd (bad_got h)
+plus_got a v e (Some (w, q)) h = (w, ap (number w) (same_next h), sym (same_value h))
+plus_got a v e None h = absurd (bad_got h)
 
-joined_got : {C : Type 0} (k : ℕ) (x : Number) (form s : List ℕ) (f : ℕ → Number) (v e : ℕ) → joined k x form s f ≡ Got v e
-    → ((u p w : ℕ) → x ≡ Got u p → given_at form s p ≡ true → f (p + length form) ≡ Got w e → v ≡ u * k + w → C) → C
+joined_got : {C : Type 0} (k : ℕ) (x : Number) (form s : List ℕ) (f : ℕ → Number) (v e : ℕ) → joined k x form s f ≡ number v e
+    → ((u p w : ℕ) → x ≡ number u p → given_at form s p ≡ true → f (p + length form) ≡ number w e → v ≡ u * k + w → C) → C
 unfolding joined pick
-joined_got k Bad form s f v e h c = absurd (bad_got h)
-joined_got {C} k (Got u p) form s f v e h c = go (given_at form s p) refl h
+joined_got k None form s f v e h c = absurd (bad_got h)
+joined_got {C} k (Some (u, p)) form s f v e h c = go (given_at form s p) refl h
   where
-    go : (t : Bool) → given_at form s p ≡ t → pick t (plus (u * k) (f (p + length form))) Bad ≡ Got v e → C
+    go : (t : Bool) → given_at form s p ≡ t → pick t (plus (u * k) (f (p + length form))) None ≡ number v e → C
     go true g l = let r = plus_got (u * k) v e (f (p + length form)) l in c u p r.0 refl g r.1 r.2
     go false g l = absurd (bad_got l)
 
-pair_got : {C : Type 0} (s : List ℕ) (at v e : ℕ) → dotted_pair_at s at ≡ Got v e
+pair_got : {C : Type 0} (s : List ℕ) (at v e : ℕ) → dotted_pair_at s at ≡ number v e
     → ((a b : List ℕ) (i j : ℕ) → V4hex a i → V4hex b j → drop at s ≡ a ++ (dot ∷ b ++ drop e s) → v ≡ i * 256 + j → C) → C
 unfolding dotted_pair_at dotted_part_at
 pair_got s at v e h c = joined_got 256 _ (text ".") s _ v e h (λ u p w x g y z.
     given (number_sound s at 3 255 u p x) (λ m. given (number_sound s (p + 1) 3 255 w e y) (λ n.
     c m.bytes n.bytes u w m.derives n.derives (m.split ∙ ap (λ t. m.bytes ++ t) (given_split (text ".") s p g ∙ ap (λ t. dot ∷ t) n.split)) z)))
 
-address_got : {C : Type 0} (s : List ℕ) (at v e : ℕ) → dotted_at s at ≡ Got v e
+address_got : {C : Type 0} (s : List ℕ) (at v e : ℕ) → dotted_at s at ≡ number v e
     → ((a b c d : List ℕ) (i j k l : ℕ) → V4hex a i → V4hex b j → V4hex c k → V4hex d l → drop at s ≡ a ++ (dot ∷ b ++ (dot ∷ c ++ (dot ∷ d ++ drop e s)))
     → v ≡ i * 0x1000000 + j * 0x10000 + k * 0x100 + l → C) → C
 unfolding dotted_at
@@ -212,10 +214,10 @@ address_got s at v e h r = joined_got 65536 _ (text ".") s _ v e h (λ u p w x g
     r a b c d i j k l m n m' n' (o ∙ ap (λ t. a ++ (dot ∷ b ++ t)) (given_split (text ".") s p g ∙ ap (λ t. dot ∷ t) o')) (omega arith))))
 
 -- a number that ended a line
-ending_got : {C : Type 0} (x : Number) (l : List ℕ) (f : ℕ → SdpLine) → (ending x (length l) f ≡ Strange → ⊥) → ((v e : ℕ) → x ≡ Got v e → drop e l ≡ [] → ending x (length l) f ≡ f v → C) → C
+ending_got : {C : Type 0} (x : Number) (l : List ℕ) (f : ℕ → SdpLine) → (ending x (length l) f ≡ Strange → ⊥) → ((v e : ℕ) → x ≡ number v e → drop e l ≡ [] → ending x (length l) f ≡ f v → C) → C
 unfolding ending pick
-ending_got Bad l f n c = absurd (n refl)
-ending_got {C} (Got v e) l f n c = go (leb (length l) e) refl
+ending_got None l f n c = absurd (n refl)
+ending_got {C} (Some (v, e)) l f n c = go (leb (length l) e) refl
   where
     none_left : length l ≤ e → drop e l ≡ []
     none_left h = drop_of_length-le l h
@@ -240,7 +242,7 @@ media_sound : (l : List ℕ) → (audio_of l ≡ Strange → ⊥) → sdp_line l
 unfolding audio_of payload_of pick
 media_sound l n = go (given_at (text "m=audio ") l 0) refl n
   where
-    types : (p q : ℕ) → number_at l 8 5 65535 ≡ Got p q → given_at (text "m=audio ") l 0 ≡ true → (t : Bool) → given_at (text " RTP/AVP ") l q ≡ t
+    types : (p q : ℕ) → number_at l 8 5 65535 ≡ number p q → given_at (text "m=audio ") l 0 ≡ true → (t : Bool) → given_at (text " RTP/AVP ") l q ≡ t
         → (pick t (ending (number_at l (q + 9) 3 127) (length l) (Audio p)) Strange ≡ Strange → ⊥)
         → sdp_line l (pick t (ending (number_at l (q + 9) 3 127) (length l) (Audio p)) Strange)
     types p q x g false h m = absurd (m refl)
@@ -252,8 +254,8 @@ media_sound l n = go (given_at (text "m=audio ") l 0) refl n
         rw (z, w) (media_line a.derives b.derives))))
 
     ports : (r : Number) → number_at l 8 5 65535 ≡ r → given_at (text "m=audio ") l 0 ≡ true → (payload_of l r ≡ Strange → ⊥) → sdp_line l (payload_of l r)
-    ports (Got p q) x g m = types p q x g (given_at (text " RTP/AVP ") l q) refl m
-    ports Bad x g m = absurd (m refl)
+    ports (Some (p, q)) x g m = types p q x g (given_at (text " RTP/AVP ") l q) refl m
+    ports None x g m = absurd (m refl)
 
     go : (t : Bool) → given_at (text "m=audio ") l 0 ≡ t → (pick t (payload_of l (number_at l 8 5 65535)) Strange ≡ Strange → ⊥) → sdp_line l (pick t (payload_of l (number_at l 8 5 65535)) Strange)
     go false g m = absurd (m refl)

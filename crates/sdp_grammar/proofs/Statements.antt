@@ -1,4 +1,5 @@
 -- The statements of specs/SubsetRead, from the theorems.
+use Rattle.std.specs.Prelude.{Ok, Err}
 use Prim.Native.Nat.{ℕ, zero, suc}
 use mathlib.Core.Path.{◌≡◌, refl, sym, ap, ◌∙◌}
 use mathlib.Core.Logic.{◌≢◌, ◌↔◌}
@@ -14,7 +15,7 @@ use Rattle.megaco.specs.Tree.{octets}
 use Rattle.megaco.specs.Sdp.{stage_after, lines_of, sdp_finish, read_sdp}
 use Rattle.megaco.specs.Items.{set_speech, speech_given, speech_item}
 use Rattle.megaco.proofs.SdpSizes.{described_small}
-use Rattle.protocol.specs.Types.{SdpStage, NoLine, AfterVersion, AfterConnection, AfterAudio, Broken, SdpText, EmptyText, Described, NotInSubset, Side, OfLocal, OfRemote, Speech, Released, Session, Values, Judged, Wrong, Right}
+use Rattle.protocol.specs.Types.{SdpStage, NoLine, AfterVersion, AfterConnection, AfterAudio, Broken, SdpText, EmptyText, Described, NotInSubset, Side, OfLocal, OfRemote, Speech, Released, Session, Values, Judged}
 use Rattle.sdp_grammar.specs.Subset.{Subset}
 use Rattle.sdp_grammar.specs.SubsetRead.{Outside, SubsetRead}
 use Rattle.sdp_grammar.proofs.Theorems.{read_derives, complete, one_meaning}
@@ -94,23 +95,23 @@ unfolding set_speech
 set_side OfLocal x vs = refl
 set_side OfRemote x vs = refl
 
-right_alike : (d : Side) (x y : Speech) (vs : Values) → Right (set_speech d x vs) ≡ Right (set_speech d y vs) → x ≡ y
+right_alike : (d : Side) (x y : Speech) (vs : Values) → ◌≡◌ {A = Judged} (Ok (set_speech d x vs)) (Ok (set_speech d y vs)) → x ≡ y
 right_alike d x y vs h = let e : set_speech d x vs ≡ set_speech d y vs = cc in sym (set_side d x vs) ∙ ap (side_in d) e ∙ set_side d y vs
 
 module _ (d : Side) (vs : Values) where
-  gives_described : (r : SdpText) (a p k : ℕ) → speech_given d r vs ≡ Right (set_speech d (Session a p k) vs) → r ≡ Described a p k
+  gives_described : (r : SdpText) (a p k : ℕ) → speech_given d r vs ≡ Ok (set_speech d (Session a p k) vs) → r ≡ Described a p k
   unfolding speech_given
   gives_described EmptyText a p k h = let e = right_alike d Released (Session a p k) vs h in let z : ◌≡◌ {A = ℕ} 0 1 = cc in absurd (omega arith)
   gives_described (Described b q l) a p k h = let e = right_alike d (Session b q l) (Session a p k) vs h in cc
   gives_described NotInSubset a p k h = let z : ◌≡◌ {A = ℕ} 0 1 = cc in absurd (omega arith)
 
-  releases_empty : (r : SdpText) → speech_given d r vs ≡ Right (set_speech d Released vs) → r ≡ EmptyText
+  releases_empty : (r : SdpText) → speech_given d r vs ≡ Ok (set_speech d Released vs) → r ≡ EmptyText
   unfolding speech_given
   releases_empty EmptyText h = refl
   releases_empty (Described b q l) h = let e = right_alike d (Session b q l) Released vs h in let z : ◌≡◌ {A = ℕ} 0 1 = cc in absurd (omega arith)
   releases_empty NotInSubset h = let z : ◌≡◌ {A = ℕ} 0 1 = cc in absurd (omega arith)
 
-  refused_outside : (r : SdpText) → speech_given d r vs ≡ Wrong 449 → r ≡ NotInSubset
+  refused_outside : (r : SdpText) → speech_given d r vs ≡ Err 449 → r ≡ NotInSubset
   unfolding speech_given
   refused_outside EmptyText h = let z : ◌≡◌ {A = ℕ} 0 1 = cc in absurd (omega arith)
   refused_outside (Described b q l) h = let z : ◌≡◌ {A = ℕ} 0 1 = cc in absurd (omega arith)

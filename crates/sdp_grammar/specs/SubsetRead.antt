@@ -1,11 +1,11 @@
 -- What reading a text of Local or Remote has to do with the subset's grammar (document 02, CR 11: "Take our SDP subset"). Proved in
 -- proofs/Statements.antt: `subset_read`.
-use Rattle.std.specs.Prelude.{ℕ, ◌^◌, ◌≤◌, ◌<◌, ◌≡◌, ◌≢◌, ◌↔◌, List, []}
+use Rattle.std.specs.Prelude.{ℕ, ◌^◌, ◌≤◌, ◌<◌, ◌≡◌, ◌≢◌, ◌↔◌, List, [], Ok, Err}
 use Rattle.std.proofs.Math.Option.{some}
 use Rattle.megaco.specs.Tree.{octets}
 use Rattle.megaco.specs.Sdp.{read_sdp}
 use Rattle.megaco.specs.Items.{set_speech, speech_item}
-use Rattle.protocol.specs.Types.{EmptyText, Described, NotInSubset, Side, Released, Session, Values, Wrong, Right}
+use Rattle.protocol.specs.Types.{EmptyText, Described, NotInSubset, Side, Released, Session, Values}
 use Rattle.sdp_grammar.specs.Subset.{Subset}
 
 -- a text that is not empty and that the grammar derives with no address, port and type
@@ -25,6 +25,6 @@ pub record SubsetRead : Type 0 where
   -- every other text is read as outside
   pub outside : (s : List ℕ) → read_sdp s ≡ NotInSubset ↔ Outside s
   -- so of the text of a Local or a Remote: it gives what the grammar derives; "empty text releases it"; "449 for text outside the subset"
-  pub gives : (d : Side) (s : List ℕ) (vs : Values) (a p k : ℕ) → speech_item d (some (octets s)) vs ≡ Right (set_speech d (Session a p k) vs) ↔ Subset s a p k
-  pub releases : (d : Side) (s : List ℕ) (vs : Values) → speech_item d (some (octets s)) vs ≡ Right (set_speech d Released vs) ↔ s ≡ []
-  pub refused : (d : Side) (s : List ℕ) (vs : Values) → speech_item d (some (octets s)) vs ≡ Wrong 449 ↔ Outside s
+  pub gives : (d : Side) (s : List ℕ) (vs : Values) (a p k : ℕ) → speech_item d (some (octets s)) vs ≡ Ok (set_speech d (Session a p k) vs) ↔ Subset s a p k
+  pub releases : (d : Side) (s : List ℕ) (vs : Values) → speech_item d (some (octets s)) vs ≡ Ok (set_speech d Released vs) ↔ s ≡ []
+  pub refused : (d : Side) (s : List ℕ) (vs : Values) → speech_item d (some (octets s)) vs ≡ Err 449 ↔ Outside s

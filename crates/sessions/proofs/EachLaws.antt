@@ -1,20 +1,27 @@
 -- The texts of a row one after another, as a loop writes them.
 use Prim.Native.Nat.{ℕ, ◌+◌, ◌≤◌, ◌<◌}
 use mathlib.Core.Path.{◌≡◌, refl, ◌∙◌}
-use mathlib.Core.Bool.{Bool, true, false, not}
-use mathlib.Core.List.{List}
+use mathlib.Core.Bool.{Bool, true, false, cond, not}
+use Rattle.std.specs.List.{count_by, fold}
+use mathlib.Core.List.{List, [], ◌∷◌}
 use native.Mathlib.Numerals.{add-one}
 use native.Mathlib.Omega.{arith}
+use Rattle.std.proofs.Common.{zero-add}
 use lib.ListN.{length, get_or, drop, drop_of_length-le}
 use lib.Seq.{drop-cons}
 use lib.Dec.{eqb}
-use mir.Val.{bool_byte}
 use Rattle.base.specs.Pick.{pick}
 use Rattle.base.specs.Bytes.{text, decimal}
 use Rattle.base.specs.Out.{Appended}
 use Rattle.base.proofs.OutLaws.{none, ◌▸◌, same_length_by}
 use Rattle.megaco.specs.Table.{priority_of, emergency_of}
 use Rattle.sessions.specs.Listing.{each, present, properties_text}
+use mir.Val.{bool_byte}
+
+bit_pick : (b : Bool) → bool_byte (not b) ≡ pick b 0 1
+unfolding pick
+bit_pick true = refl
+bit_pick false = refl
 
 -- where `rest` is written next, the whole text bs stands
 pub record Leads (o : List ℕ) (at : ℕ) (bs o₁ : List ℕ) (p : ℕ) (rest : List ℕ) : Type 0 where
@@ -37,22 +44,17 @@ module _ (f : ℕ → ℕ → List ℕ) (s o : List ℕ) (at : ℕ) (bs o₁ : L
 
 -- ---- how many contexts there are
 
-bit_pick : (b : Bool) → bool_byte (not b) ≡ pick b 0 1
-unfolding pick
-bit_pick true = refl
-bit_pick false = refl
+count_from : (n : ℕ) (rs : List ℕ) → fold (λ a r. a + cond (not (eqb r 0)) 1 0) n rs ≡ n + present rs
+unfolding present pick
+count_from n [] = omega arith
+count_from n (r ∷ rs) = count_from (n + cond (not (eqb r 0)) 1 0) rs ∙ by (eqb r 0)
+  where
+    by : (t : Bool) → n + cond (not t) 1 0 + present rs ≡ n + (pick t 0 1 + present rs)
+    by true = omega arith
+    by false = omega arith
 
--- n of the records before i are not 0
-module _ (s : List ℕ) (n i q : ℕ) (inv : q ≡ n + present (drop i s)) where
-  pub present_on : i < length s → q ≡ n + bool_byte (not (eqb (get_or s i 0) 0)) + present (drop (i + 1) s)
-  unfolding present
-  present_on h =
-      let step : present (drop i s) ≡ bool_byte (not (eqb (get_or s i 0) 0)) + present (drop (i + 1) s) = rw (drop-cons s i 0, add-one, bit_pick) in
-      omega arith
-
-  pub present_end : length s ≤ i → n ≡ q
-  unfolding present
-  present_end h = let e : present (drop i s) ≡ 0 = rw (drop_of_length-le s h) in omega arith
+pub present_count : (rs : List ℕ) → count_by (λ r. not (eqb r 0)) rs ≡ present rs
+present_count rs = count_from 0 rs ∙ zero-add (present rs)
 
 -- ---- a context's properties
 

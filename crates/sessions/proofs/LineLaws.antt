@@ -1,14 +1,17 @@
 -- The line at a place of a chunk, as a loop finds its end; the lines of an input that comes in chunks.
 use Prim.Native.Nat.{ℕ, zero, suc, ◌+◌, ◌-◌, ◌≤◌, ◌<◌}
-use mathlib.Core.Path.{◌≡◌, refl, sym, ap, ◌∙◌}
-use mathlib.Core.Bool.{Bool, true, false}
+use mathlib.Core.Path.{◌≡◌, refl, ap}
+use mathlib.Core.Bool.{Bool, true, false, cond, not}
+use Rattle.std.specs.List.{position, position_or_len, prefix_len}
+use Rattle.std.specs.Option.{unwrap_or}
+use Rattle.std.proofs.Common.{Some, None, ltb}
+use Rattle.std.proofs.lemmas.Bool.Decides.{nat_tests}
 use mathlib.Core.List.{List, [], ◌∷◌, ◌++◌}
-use native.Mathlib.Numerals.{add-one}
 use native.Mathlib.Omega.{arith}
-use lib.ListN.{length, get_or, take, drop, length-drop, drop_of_length-le}
-use lib.Seq.{drop-cons, drop-drop}
+use lib.ListN.{length, take, drop, length-drop, drop_of_length-le}
+use lib.Seq.{drop-drop}
 use lib.Dec.{eqb}
-use borrow.Author.Tests.{eqb-true, eq-eqb, ne_eqb}
+use borrow.Author.Tests.{eqb-true}
 use Rattle.base.specs.Pick.{pick}
 use Rattle.base.specs.Lists.{before}
 use Rattle.base.specs.Out.{Appended}
@@ -16,20 +19,27 @@ use Rattle.base.proofs.PickLaws.{pick_ind}
 use Rattle.base.proofs.OutLaws.{none}
 use Rattle.sessions.specs.Lines.{line_end, on_first, lines_of, Unended, nothing, byte, line_from, line_end_at}
 
--- ---- the loop
+-- ---- where a line ends
 
-module _ (s : List ℕ) (i q : ℕ) (inv : q ≡ line_end_at s i) where
-  pub line_on : i < length s → (get_or s i 0 ≡ line_end → ⊥) → q ≡ line_end_at s (i + 1)
-  unfolding before pick
-  line_on h n = inv ∙ rw (drop-cons s i 0, ne_eqb _ _ n, add-one) (omega arith)
+pub length_before : (b : ℕ) (s : List ℕ) → length (before b s) ≤ length s
+unfolding before
+length_before b [] = omega arith
+length_before b (x ∷ s) = pick_ind (λ l. length l ≤ suc (length s)) (eqb x b) [] (x ∷ before b s) (λ t. omega arith) (λ t. omega (arith, length_before b s))
 
-  pub line_stop : i < length s → get_or s i 0 ≡ line_end → i ≡ q
-  unfolding before pick
-  line_stop h e = sym (inv ∙ rw (drop-cons s i 0, eq-eqb _ _ e) (omega arith))
+first_place : (b : ℕ) (l : List ℕ) → position_or_len (λ x. eqb x b) l ≡ length (before b l)
+unfolding before pick
+first_place b [] = refl
+first_place b (x ∷ l) = by (eqb x b) (first_place b l)
+  where
+    by : (t : Bool) → position_or_len (λ y. eqb y b) l ≡ length (before b l) → cond (not t) (1 + prefix_len (λ y. not (eqb y b)) l) 0 ≡ length (pick t [] (x ∷ before b l))
+    by true e = refl
+    by false e = omega arith
 
-  pub line_out : length s ≤ i → i ≡ q
-  unfolding before
-  line_out h = sym (inv ∙ rw (drop_of_length-le s h) (omega arith))
+first_or_end : (n k : ℕ) → n ≤ k → unwrap_or (cond (ltb n k) (Some n) None) k ≡ n
+first_or_end n k h = grind (arith, nat_tests)
+
+pub ends_at : (l : List ℕ) → unwrap_or (position (λ x. eqb x line_end) l) (length l) ≡ length (before line_end l)
+ends_at l = rw (first_place line_end l) (first_or_end (length (before line_end l)) (length l) (length_before line_end l))
 
 -- ---- the part that is taken
 
@@ -37,11 +47,6 @@ take_before : (b : ℕ) (s : List ℕ) → take (length (before b s)) s ≡ befo
 unfolding before
 take_before b [] = refl
 take_before b (x ∷ s) = pick_ind (λ l. take (length l) (x ∷ s) ≡ l) _ _ _ (λ t. refl) (λ t. ap (λ (l : List ℕ). x ∷ l) (take_before b s))
-
-pub length_before : (b : ℕ) (s : List ℕ) → length (before b s) ≤ length s
-unfolding before
-length_before b [] = omega arith
-length_before b (x ∷ s) = pick_ind (λ l. length l ≤ suc (length s)) (eqb x b) [] (x ∷ before b s) (λ t. omega arith) (λ t. omega (arith, length_before b s))
 
 module _ (s : List ℕ) (from : ℕ) where
   pub part_none : (o : List ℕ) (at : ℕ) → length s ≤ from → Appended o at (line_from s from) o at

@@ -1,6 +1,6 @@
 -- What is printed for a chunk of input is what the session prints for it, wherever the input is cut.
-use Prim.Native.Nat.{ℕ, zero, suc, ◌+◌, ◌-◌, ◌≤◌, ◌<◌, min}
-use mathlib.Core.Path.{◌≡◌, refl, sym, ap, ◌∙◌}
+use Prim.Native.Nat.{ℕ, zero, suc, ◌+◌, ◌≤◌, ◌<◌, min}
+use mathlib.Core.Path.{◌≡◌, refl, sym, ap, ◌∙◌, subst}
 use mathlib.Core.Bool.{Bool, true, false}
 use mathlib.Core.List.{List, [], ◌∷◌, ◌++◌, append_assoc, append-nil}
 use native.Mathlib.Omega.{arith}
@@ -8,6 +8,8 @@ use lib.ListN.{length, take, drop, length-append, length-take, drop_of_length-le
 use lib.Seq.{take_all, take-nil}
 use lib.Dec.{leb}
 use borrow.Author.Tests.{leb-true, leb-false}
+use Rattle.base.specs.Pick.{pick}
+use Rattle.base.specs.Lists.{before}
 use Rattle.base.specs.Bytes.{put, ◌then◌}
 use Rattle.base.specs.Out.{Appended}
 use Rattle.base.proofs.OutLaws.{none, take_put, same_length_by}
@@ -16,7 +18,7 @@ use Rattle.laws.proofs.Sound.{fresh_sound}
 use Rattle.laws.proofs.RoomEmpty.{empty_room}
 use Rattle.laws.proofs.Figures.{fresh_blocks}
 use Rattle.megaco.specs.Call.{state_fits}
-use Rattle.sessions.specs.Lines.{line_end, lines_of, Unended, nothing, line_from, line_end_at}
+use Rattle.sessions.specs.Lines.{line_end, lines_of, Unended, nothing, byte, line_from, line_end_at}
 use Rattle.sessions.specs.Listing.{lines, report_text}
 use Rattle.sessions.specs.Session.{Lent, ready, answered, left_by, answer_text, session_text, rest_text, line_room, taken_in, answer_room, Answers, HoldsLine, Turned, Finished, fresh_table, printed_text, joined, Run, turn, read, end}
 use Rattle.sessions.proofs.AnswerLaws.{long_alike, answer_fits, answered_ready}
@@ -90,17 +92,28 @@ rest_ended : (m : List ℕ) (t : Lent) (s : List ℕ) → Unended m → rest_tex
 unfolding rest_text session_text
 rest_ended m t s u = rw (lines_ended u s)
 
+-- a line that is held, by what its bytes are: up to the first line end they are all of them
+unended_by : (s : List ℕ) → before line_end s ≡ s → Unended s
+unended_by s e = subst Unended e (unended_before s)
+
+before_unended : {s : List ℕ} → Unended s → before line_end s ≡ s
+unfolding before pick
+before_unended nothing = refl
+before_unended (byte e u) = rw (e, before_unended u)
+
+pub holds_by : (line : List ℕ) (held : ℕ) → length line ≡ line_room → held ≤ line_room → before line_end (take held line) ≡ take held line → HoldsLine line held
+holds_by line held e h u = record { room = e; within = h; unended = unended_by (take held line) u }
+
+pub holds_whole : (line : List ℕ) (held : ℕ) → HoldsLine line held → before line_end (take held line) ≡ take held line
+holds_whole line held h = before_unended h.unended
+
 -- no byte is held at the start
 pub holds_none : (line : List ℕ) → length line ≡ line_room → HoldsLine line 0
 holds_none line e = record { room = e; within = omega arith; unended = nothing }
 
--- the part of a slice from its start
-front : (n : ℕ) (l : List ℕ) → take (n - 0) l ≡ take n l
-front n l = let z : n - 0 ≡ n = omega arith in rw z
-
 module _ (s : List ℕ) (from e : ℕ) (is : e ≡ line_end_at s from) (line : List ℕ) (held : ℕ) (hold : HoldsLine line held) (line' : List ℕ) (h : ℕ)
     (took : Appended line held (line_from s from) line' h) (t : Lent) (o : List ℕ) where
-  pub turn_ended : (t' : Lent) (o' : List ℕ) (n : ℕ) → from < length s → e < length s → answer_room ≤ length o → Answers (take (h - 0) (drop 0 line')) t o t' o' n
+  pub turn_ended : (t' : Lent) (o' : List ℕ) (n : ℕ) → from < length s → e < length s → answer_room ≤ length o → Answers (take h line') t o t' o' n
       → Turned s from line held t o line' t' o' (e + 1) 0 n
   turn_ended t' o' n b l w a =
       let u = unended_before (drop from s) in
@@ -108,13 +121,13 @@ module _ (s : List ℕ) (from e : ℕ) (is : e ≡ line_end_at s from) (line : L
       record {
         on = omega arith;
         holds = holds_none line' on.room;
-        taken = rw (chunk_ended s from e is l, a.leaves, front h line') (taken_here line held hold (line_from s from) line' h took u t (line_end ∷ drop (e + 1) s) ∙ taken_end (take h line') t (drop (e + 1) s));
-        kept = λ k. rw a.leaves (answered_ready (take (h - 0) line') t k);
-        said = answer_text (answered (take (h - 0) line') t);
+        taken = rw (chunk_ended s from e is l, a.leaves) (taken_here line held hold (line_from s from) line' h took u t (line_end ∷ drop (e + 1) s) ∙ taken_end (take h line') t (drop (e + 1) s));
+        kept = λ k. rw a.leaves (answered_ready (take h line') t k);
+        said = answer_text (answered (take h line') t);
         put = a.put;
-        fits = omega (arith, answer_fits (take (h - 0) line') t);
+        fits = omega (arith, answer_fits (take h line') t);
         rest =
-            λ later. rw (chunk_ended s from e is l, append_assoc, a.leaves, front h line')
+            λ later. rw (chunk_ended s from e is l, append_assoc, a.leaves)
             (rest_part line held hold (line_from s from) line' h took u t (line_end ∷ drop (e + 1) s ++ later) ∙ rest_ended (take h line') t _ on.unended);
       }
 
@@ -146,14 +159,14 @@ unfolding rest_text session_text lines_of
 finish_none line held t o e = record { kept = λ k. k; said = []; put = none o 0; fits = omega arith; rest = rw (e, none_then) }
 
 pub finish_last : (line : List ℕ) (held : ℕ) (t : Lent) (o : List ℕ) (t' : Lent) (o' : List ℕ) (n : ℕ) → HoldsLine line held → (held ≡ 0 → ⊥) → answer_room ≤ length o
-    → Answers (take (held - 0) (drop 0 line)) t o t' o' n → Finished line held t o t' o' n
+    → Answers (take held line) t o t' o' n → Finished line held t o t' o' n
 finish_last line held t o t' o' n hold h w a =
     record {
-      kept = λ k. rw a.leaves (answered_ready (take (held - 0) line) t k);
-      said = answer_text (answered (take (held - 0) line) t);
+      kept = λ k. rw a.leaves (answered_ready (take held line) t k);
+      said = answer_text (answered (take held line) t);
       put = a.put;
-      fits = omega (arith, answer_fits (take (held - 0) line) t);
-      rest = rw (a.leaves, front held line) (rest_last (take held line) t hold.unended (omega (arith, length-take held line, hold.room)));
+      fits = omega (arith, answer_fits (take held line) t);
+      rest = rw a.leaves (rest_last (take held line) t hold.unended (omega (arith, length-take held line, hold.room)));
     }
 
 -- ---- a whole run

@@ -1,5 +1,5 @@
 -- What is kept between two reads, taken line by line and chunk by chunk.
-use Prim.Native.Nat.{ℕ, zero, suc, ◌+◌, ◌-◌, ◌<◌, ◌≤◌}
+use Prim.Native.Nat.{ℕ, zero, suc, ◌≤◌, ◌+◌}
 use mathlib.Core.Path.{◌≡◌, refl, sym, ap, ◌∙◌}
 use mathlib.Core.Bool.{Bool, true, false, not}
 use mathlib.Core.Logic.{inl, inr}
@@ -67,17 +67,17 @@ took_some line held t line' t' held' n buf l e =
     let z : length (take n buf) ≡ n = omega (arith, length-take n buf) in
     record { chunk = take n buf; taken = e; on = ap (λ (k : ℕ). not (eqb k 0)) (sym z) }
 
-pub reads_none : (t : Lent) (line : List ℕ) → Reads t (most_reads - most_reads) line t 0
+pub reads_none : (t : Lent) (line : List ℕ) → Reads t 0 line t 0
 unfolding taken_in read_so_far
-reads_none t line = record { chunks = []; count = omega arith; taken = refl }
+reads_none t line = record { chunks = []; count = refl; taken = refl }
 
-module _ (t : Lent) (left : ℕ) (line : List ℕ) (t₁ : Lent) (h : ℕ) (r : Reads t (most_reads - left) line t₁ h) (line' : List ℕ) (t' : Lent) (more : Bool) (h' : ℕ) (k : Took line h t₁ line' t' more h') where
+module _ (t : Lent) (n : ℕ) (line : List ℕ) (t₁ : Lent) (h : ℕ) (r : Reads t n line t₁ h) (line' : List ℕ) (t' : Lent) (more : Bool) (h' : ℕ) (k : Took line h t₁ line' t' more h') where
   joined : taken_in [] t (read_so_far (k.chunk ∷ r.chunks)) ≡ between (take h' line') t'
   unfolding read_so_far
   joined = taken_more [] t (read_so_far r.chunks) k.chunk ∙ ap (onward k.chunk) r.taken ∙ k.taken
 
-  pub reads_on : 0 < left → left ≤ most_reads → Reads t (most_reads - (left - 1)) line' t' h'
-  reads_on g l = record { chunks = k.chunk ∷ r.chunks; count = omega (arith, r.count); taken = joined }
+  pub reads_on : Reads t (n + 1) line' t' h'
+  reads_on = record { chunks = k.chunk ∷ r.chunks; count = omega (arith, r.count); taken = joined }
 
   pub reads_ended : more ≡ false → Input t line' t' h'
   reads_ended f = record { chunks = k.chunk ∷ r.chunks; taken = joined; whole = inl (by k.chunk k.on) }
@@ -86,5 +86,5 @@ module _ (t : Lent) (left : ℕ) (line : List ℕ) (t₁ : Lent) (h : ℕ) (r : 
       by [] e = ended
       by (b ∷ s) e = absurd (omega (arith, eqb-true (length (b ∷ s)) 0 (not-false _ (sym e ∙ f))))
 
-pub reads_all : (t : Lent) (line : List ℕ) (t₁ : Lent) (h left : ℕ) → Reads t (most_reads - left) line t₁ h → left ≤ 0 → Input t line t₁ h
-reads_all t line t₁ h left r e = record { chunks = r.chunks; taken = r.taken; whole = inr (omega (arith, r.count)) }
+pub reads_all : (t : Lent) (n : ℕ) (line : List ℕ) (t₁ : Lent) (h : ℕ) → Reads t n line t₁ h → n ≡ most_reads → Input t line t₁ h
+reads_all t n line t₁ h r e = record { chunks = r.chunks; taken = r.taken; whole = inr (r.count ∙ e) }

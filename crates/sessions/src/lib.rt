@@ -1,7 +1,7 @@
 // The lines that the listing program takes and prints.
 #![tactic(auto)]
 
-ghost use Rattle.std.specs.Prelude.{◌≡◌, [], ◌∷◌, ◌+◌, ◌<◌, min, length};
+ghost use Rattle.std.specs.Prelude.{◌≡◌, [], ◌∷◌, ◌+◌, ◌<◌, length};
 ghost use Rattle.base.specs.Out.{Appended};
 ghost use Rattle.sessions.specs.Lines.{line_end, line_from, line_end_at};
 ghost use Rattle.sessions.specs.Listing.{member_text, members_text, properties_text, context_line, context_lines, present, count_line, parts_text, contexts_text, refused_text};
@@ -14,14 +14,11 @@ const LINE_END: u8 = b'\n';
 pub fn line_end(chunk: &[u8], from: usize) -> usize
     ensures { result ≡ line_end_at chunk.now from }
 {
-    let mut i = from;
-    while i < chunk.len() {
-        if chunk[i] == LINE_END {
-            return i;
-        }
-        i += 1;
-    }
-    i
+    let rest = chunk.get(from..).unwrap_or(&[]);
+    from + rest
+        .iter()
+        .position(|b| *b == LINE_END)
+        .unwrap_or(rest.len())
 }
 
 // Puts the bytes of that line behind those that are held of it, as far as the buffer reaches: a line that is longer than the buffer
@@ -49,7 +46,7 @@ pub fn put_refused(out: &mut [u8], at: usize, n: u32) -> usize
     ensures { Appended out.old at (refused_text n) out.new result }
 {
     let p = writer::put_bytes(out, at, b"refused ");
-    let q = writer::put_decimal(out, p, n);
+    let q = writer::put_decimal(out, p, n as usize);
     put_line_end(out, q)
 }
 
@@ -71,10 +68,8 @@ fn put_members(out: &mut [u8], at: usize, lines: u32, c: usize, row: &[u32]) -> 
     ensures { Appended out.old at (members_text lines c row.now) out.new result }
 {
     let mut p = at;
-    let mut i = 0;
-    while i < row.len() {
-        p = put_member(out, p, lines, c, i, row[i]);
-        i += 1;
+    for (i, word) in row.iter().enumerate() {
+        p = put_member(out, p, lines, c, i, *word);
     }
     p
 }
@@ -84,9 +79,9 @@ fn put_properties(out: &mut [u8], at: usize, held: u32) -> usize
     ensures { Appended out.old at (properties_text held) out.new result }
 {
     let p = writer::put_byte(out, at, b' ');
-    let q = writer::put_decimal(out, p, numbers::priority(held));
+    let q = writer::put_decimal(out, p, numbers::priority(held) as usize);
     let u = writer::put_byte(out, q, b' ');
-    writer::put_decimal(out, u, numbers::emergency(held))
+    writer::put_decimal(out, u, numbers::emergency(held) as usize)
 }
 
 // One context's line, none if it is absent.
@@ -97,7 +92,7 @@ fn put_context(out: &mut [u8], at: usize, lines: u32, c: usize, held: u32, row: 
     if held == 0 {
         return at;
     }
-    let p = writer::put_count(out, at, c);
+    let p = writer::put_decimal(out, at, c);
     let q = put_properties(out, p, held);
     let u = put_members(out, q, lines, c, row);
     put_line_end(out, u)
@@ -109,10 +104,8 @@ fn put_lines(out: &mut [u8], at: usize, lines: u32, row: &[u32], records: &[u32]
     ensures { Appended out.old at (context_lines lines row.now records.now) out.new result }
 {
     let mut p = at;
-    let mut i = 0;
-    while i < records.len() {
-        p = put_context(out, p, lines, i + 1, records[i], row);
-        i += 1;
+    for (i, record) in records.iter().enumerate() {
+        p = put_context(out, p, lines, i + 1, *record, row);
     }
     p
 }
@@ -121,20 +114,14 @@ fn put_lines(out: &mut [u8], at: usize, lines: u32, row: &[u32], records: &[u32]
 fn count_present(records: &[u32]) -> usize
     ensures { result ≡ present records.now }
 {
-    let mut n: usize = 0;
-    let mut i = 0;
-    while i < records.len() {
-        n += (records[i] != 0) as usize;
-        i += 1;
-    }
-    n
+    records.iter().filter(|record| **record != 0).count()
 }
 
 fn put_count_line(out: &mut [u8], at: usize, n: usize) -> usize
     ensures { Appended out.old at (count_line n) out.new result }
 {
     let p = writer::put_bytes(out, at, b"contexts ");
-    let q = writer::put_count(out, p, n);
+    let q = writer::put_decimal(out, p, n);
     put_line_end(out, q)
 }
 
@@ -148,20 +135,13 @@ fn put_parts(out: &mut [u8], at: usize, lines: u32, row: &[u32], records: &[u32]
     put_lines(out, p, lines, row, records)
 }
 
-// A place of a table, or its end.
-fn within(table: &[u32], k: usize) -> usize
-    ensures { result ≡ min k (length table.now) }
-{
-    if k < table.len() { k } else { table.len() }
-}
-
 // The contexts of a table of so many lines.
 pub fn put_contexts(out: &mut [u8], at: usize, lines: u32, table: &[u32]) -> usize
     requires { 0 < lines }
     ensures { Appended out.old at (contexts_text lines table.now) out.new result }
 {
-    let a = within(table, table::start_by_lines(lines, 1));
-    let b = within(table, table::start_by_lines(lines, 2));
-    let e = within(table, table::start_by_lines(lines, 3));
+    let a = table::start_by_lines(lines, 1).min(table.len());
+    let b = table::start_by_lines(lines, 2).min(table.len());
+    let e = table::start_by_lines(lines, 3).min(table.len());
     put_parts(out, at, lines, &table[0..a], &table[b..e])
 }

@@ -1,3 +1,4 @@
 pub mod SoundLaws
 pub mod FlowLaws
 pub mod SpeechLaws
+pub mod FoldLaws

@@ -18,9 +18,8 @@ use Rattle.megaco.proofs.Sizes.{sized_is}
 use Rattle.megaco.specs.Map.{digits, marks}
 use Rattle.megaco.proofs.Places.{length_digits, length_marks}
 use Rattle.megaco.specs.Table.{line_terminations, ephemerals, terminations, contexts, most_lines, fitted, Sized, sized, context_words, property_words, record_words, ephemeral_contexts, ephemeral_properties, start_of, map_start, map_words, places, flow_words, is_property_word, absent_are_zero, record_is_sound, records_are_sound, flows_are_sound, speech_words, speech_is_sound, map_is_sound, sound}
-use Rattle.megaco.proofs.Regions.{context_region, property_region, record_region, map_region, flow_region, speech_region}
+use Rattle.megaco.proofs.Regions.{context_region, property_region, record_region, map_region, flow_region}
 use Rattle.sound.specs.Parts.{ephemeral_is_sound, records_fit, flow_is_sound, flows_fit, parts_are_sound}
-use Rattle.base.proofs.TestLaws.{and_both}
 
 -- ---- a test of each word: b tells of the words passed
 
@@ -33,15 +32,6 @@ one_more false x r = refl
 pub no_more : (b : Bool) → (b && true) ≡ b
 no_more true = refl
 no_more false = refl
-
-module _ (p : ℕ → Bool) (l : List ℕ) (i : ℕ) (b q : Bool) (inv : q ≡ (b && every p (drop i l))) where
-  pub every_on : (x : Bool) → i < length l → x ≡ p (get_or l i 0) → q ≡ ((b && x) && every p (drop (i + 1) l))
-  unfolding every
-  every_on x h e = inv ∙ rw (drop-cons l i 0, ← e, add-one) (one_more b x _)
-
-  pub every_end : length l ≤ i → b ≡ q
-  unfolding every
-  every_end h = sym (inv ∙ rw (drop_of_length-le l h) (no_more b))
 
 -- ---- ephemerals: both tests of a pair of words
 

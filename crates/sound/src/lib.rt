@@ -4,7 +4,7 @@
 // words at a time.
 #![tactic(auto)]
 
-ghost use Rattle.std.specs.Prelude.{◌≡◌, true, ◌&&◌, ◌+◌, ◌-◌, ◌*◌, ◌/◌, ◌%◌, ◌^◌, ◌≤◌, ◌<◌, length, get_or, take, drop, leb, eqb};
+ghost use Rattle.std.specs.Prelude.{◌≡◌, true, ◌&&◌, ◌+◌, ◌-◌, ◌*◌, ◌/◌, ◌%◌, ◌^◌, ◌≤◌, ◌<◌, length, get_or, take, drop, leb, eqb, fold};
 ghost use Rattle.base.specs.Pick.{pick};
 ghost use Rattle.base.specs.Lists.{every, same};
 ghost use Rattle.megaco.specs.Map.{digits, marks};
@@ -34,6 +34,7 @@ const COUNTERS: usize = CONTEXTS as usize + 1;
 const FEWEST_TERMINATIONS: usize = CHANNELS + EPHEMERALS as usize;
 
 // A table of any length.
+#[tactic(auto, using(crate::proofs::SoundLaws::sized_facts, crate::proofs::SoundLaws::sound_by, crate::proofs::SoundLaws::unsound))]
 pub fn is_sound(table: &[u32]) -> bool
     ensures { result ≡ sound table.now }
 {
@@ -44,6 +45,7 @@ pub fn is_sound(table: &[u32]) -> bool
 }
 
 // The size of a table of 1 to 16 lines.
+#[tactic(auto, using(crate::proofs::SoundLaws::sized_by))]
 fn is_sized(table: &[u32]) -> bool
     ensures { result ≡ sized table.now }
 {
@@ -53,6 +55,7 @@ fn is_sized(table: &[u32]) -> bool
         & (table.len() == table::region_start(table, 6))
 }
 
+#[tactic(auto, using(crate::proofs::SoundLaws::parts_by_lem, crate::proofs::SoundLaws::even_parts))]
 fn parts_are_sound(table: &[u32]) -> bool
     requires { Sized table.now }
     ensures { result ≡ parts_are_sound table.now }
@@ -78,6 +81,7 @@ fn contexts_are_sound(row: &[u32], records: &[u32], flows: &[u32]) -> bool
 {
     let mut counters = [0u32; COUNTERS];
     let mut i: usize = 0;
+    // Kept as a `while`: the index goes on by one, or by a whole run of nulls; runs by `chunks` would want a second loop inside.
     while i < row.len() {
         let w = row[i];
         if 0 < w {
@@ -95,6 +99,7 @@ fn contexts_are_sound(row: &[u32], records: &[u32], flows: &[u32]) -> bool
 }
 
 // Past a null and those that follow it: at the start of a run of AT_ONCE words past them all where each is null, else past one.
+#[tactic(auto, using(crate::proofs::SoundLaws::null_one, crate::proofs::SoundLaws::null_all))]
 fn past_null(row: &[u32], i: usize) -> usize
     requires { (i < length row.now) × (get_or row.now i 0 ≤ 0) }
     ensures { (i < result) × (result ≤ length row.now) × (every (λ w. eqb w 0) (take (result - i) (drop i row.now)) ≡ true) }
@@ -118,19 +123,19 @@ fn fits(counters: &[u32], records: &[u32], flows: &[u32]) -> bool
 }
 
 // The records from context 1 on against the counters.
+#[tactic(auto, using(crate::proofs::SoundLaws::meet_on))]
 fn records_fit(counters: &[u32], records: &[u32]) -> bool
     requires { length records.now < length counters.now }
     ensures { result ≡ records_fit counters.now 1 records.now }
 {
     let mut good = true;
-    let mut i: usize = 0;
-    while i < records.len() {
-        good = good & record_is_sound(records[i], counters[i + 1]);
-        i += 1;
+    for (i, held) in records.iter().enumerate() {
+        good = good & record_is_sound(*held, counters[i + 1]);
     }
     good
 }
 
+#[tactic(auto, using(crate::proofs::SoundLaws::record_by))]
 fn record_is_sound(held: u32, members: u32) -> bool
     ensures { result ≡ record_is_sound held members }
 {
@@ -140,21 +145,21 @@ fn record_is_sound(held: u32, members: u32) -> bool
 // ---- flows
 
 // The flows from context 1 on against the counters.
+#[tactic(auto, using(crate::proofs::FlowLaws::some_on))]
 fn flows_fit(counters: &[u32], flows: &[u32]) -> bool
     requires { (length counters.now ≡ contexts + 1) × (length flows.now ≡ 2 * contexts) }
     ensures { result ≡ flows_fit counters.now 1 flows.now }
 {
     let mut good = true;
-    let mut b: usize = 0;
-    while b < CONTEXTS as usize / TOGETHER {
+    for b in 0..CONTEXTS as usize / TOGETHER {
         let i = TOGETHER * b;
         good = good & some_fit(counters, i, &flows[2 * i..2 * i + 2 * TOGETHER]);
-        b += 1;
     }
     good
 }
 
 // The flows of the contexts after context i, TOGETHER of them: most often all are 0, and then they are sound whoever the members are.
+#[tactic(auto, using(crate::proofs::FlowLaws::none_fit))]
 fn some_fit(counters: &[u32], i: usize, flows: &[u32]) -> bool
     requires { (i + 16 < length counters.now) × (length flows.now ≡ 32) }
     ensures { result ≡ flows_fit counters.now (i + 1) flows.now }
@@ -166,32 +171,27 @@ fn some_fit(counters: &[u32], i: usize, flows: &[u32]) -> bool
 }
 
 // Whether all words are 0.
+#[tactic(auto, using(std::proofs::lemmas::Grind::common_steps, crate::proofs::FoldLaws::every_is))]
 pub fn is_zero(row: &[u32]) -> bool
     ensures { result ≡ every (λ w. eqb w 0) row.now }
 {
-    let mut good = true;
-    let mut i: usize = 0;
-    while i < row.len() {
-        good = good & (row[i] == 0);
-        i += 1;
-    }
-    good
+    row.iter().fold(true, |good, w| good & (*w == 0))
 }
 
+#[tactic(auto, using(crate::proofs::FlowLaws::flows_start, crate::proofs::FlowLaws::flows_on))]
 fn each_fits(counters: &[u32], i: usize, flows: &[u32]) -> bool
     requires { (i + 16 < length counters.now) × (length flows.now ≡ 32) }
     ensures { result ≡ flows_fit counters.now (i + 1) flows.now }
 {
     let mut good = true;
-    let mut k: usize = 0;
-    while k < TOGETHER {
+    for k in 0..TOGETHER {
         good = good & flow_is_sound(counters[i + k + 1], flows[2 * k], flows[2 * k + 1]);
-        k += 1;
     }
     good
 }
 
 // The two words of a context with so many members: no bit of theirs is one that must be 0.
+#[tactic(auto, using(crate::proofs::FlowLaws::flow_by))]
 fn flow_is_sound(members: u32, low: u32, high: u32) -> bool
     ensures { result ≡ flow_is_sound members low high }
 {
@@ -200,6 +200,7 @@ fn flow_is_sound(members: u32, low: u32, high: u32) -> bool
 }
 
 // The bits that must be 0, those of row 0 lowest: the diagonal and the places that so many members leave unused.
+#[tactic(auto, using(crate::proofs::FlowLaws::forbidden_rest), unfolding(megaco::specs::Square::bits, crate::specs::Parts::forbidden_bits, crate::specs::Parts::forbidden_rows, crate::specs::Parts::forbidden_row, megaco::specs::Square::may_flow))]
 fn forbidden(members: u32) -> u64
     ensures { bits 64 result ≡ forbidden_bits members }
 {
@@ -218,40 +219,38 @@ fn forbidden(members: u32) -> u64
 
 // ---- properties
 
+#[tactic(auto, unfolding(megaco::specs::Table::is_property_word))]
 fn is_property_word(word: u32) -> bool
     ensures { result ≡ is_property_word word }
 {
     (word % 8 <= 4) & (word / 8 <= 2)
 }
 
+#[tactic(auto, using(std::proofs::lemmas::Grind::common_steps, crate::proofs::FoldLaws::every_is))]
 fn lines_are_sound(properties: &[u32]) -> bool
     ensures { result ≡ every is_property_word properties.now }
 {
-    let mut good = true;
-    let mut i: usize = 0;
-    while i < properties.len() {
-        good = good & is_property_word(properties[i]);
-        i += 1;
-    }
-    good
+    properties
+        .iter()
+        .fold(true, |good, w| good & is_property_word(*w))
 }
 
 // A property word, and 0 where the context word is 0.
+#[tactic(auto, unfolding(crate::specs::Parts::ephemeral_is_sound))]
 fn ephemeral_is_sound(context: u32, word: u32) -> bool
     ensures { result ≡ ephemeral_is_sound context word }
 {
     is_property_word(word) & !((context == 0) & (word != 0))
 }
 
+#[tactic(auto, using(crate::proofs::SoundLaws::pair_on))]
 fn ephemerals_are_sound(row: &[u32], properties: &[u32]) -> bool
     requires { length row.now ≡ length properties.now }
     ensures { result ≡ (every is_property_word properties.now && absent_are_zero row.now properties.now) }
 {
     let mut good = true;
-    let mut i: usize = 0;
-    while i < row.len() {
-        good = good & ephemeral_is_sound(row[i], properties[i]);
-        i += 1;
+    for (i, context) in row.iter().enumerate() {
+        good = good & ephemeral_is_sound(*context, properties[i]);
     }
     good
 }
@@ -259,6 +258,7 @@ fn ephemerals_are_sound(row: &[u32], properties: &[u32]) -> bool
 // ---- the map
 
 // Whether binary digit b of a word of the map is 1 exactly where x is not 0.
+#[tactic(auto, using(crate::proofs::SoundLaws::digit_sound))]
 fn digit_is_sound(word: u32, b: u32, x: u32) -> bool
     requires { b < 32 }
     ensures { result ≡ eqb (word / 2 ^ b % 2) (pick (eqb x 0) 0 1) }
@@ -267,19 +267,19 @@ fn digit_is_sound(word: u32, b: u32, x: u32) -> bool
 }
 
 // A word of the map against its 32 context words.
+#[tactic(auto, using(crate::proofs::SoundLaws::half_start, crate::proofs::SoundLaws::half_on))]
 fn half_is_sound(row: &[u32], word: u32) -> bool
     requires { length row.now ≡ 32 }
     ensures { result ≡ same (digits 32 word) (marks row.now) }
 {
     let mut good = true;
-    let mut i: usize = 0;
-    while i < row.len() {
-        good = good & digit_is_sound(word, i as u32, row[i]);
-        i += 1;
+    for (i, x) in row.iter().enumerate() {
+        good = good & digit_is_sound(word, i as u32, *x);
     }
     good
 }
 
+#[tactic(auto, using(crate::proofs::SoundLaws::map_by))]
 fn map_is_sound(table: &[u32]) -> bool
     requires { Sized table.now }
     ensures { result ≡ map_is_sound table.now }
@@ -295,6 +295,7 @@ fn map_is_sound(table: &[u32]) -> bool
 // ---- where speech goes
 
 // One side of an ephemeral's speech: four zeros, or 1, an address, a port and a payload type where the ephemeral exists.
+#[tactic(auto, using(crate::proofs::SpeechLaws::side_none, crate::proofs::SpeechLaws::side_some))]
 fn side_is_sound(context: u32, flag: u32, address: u32, port: u32, payload: u32) -> bool
     ensures { result ≡ side_is_sound context flag address port payload }
 {
@@ -305,13 +306,13 @@ fn side_is_sound(context: u32, flag: u32, address: u32, port: u32, payload: u32)
 }
 
 // The speech of SOME ephemerals, one after the other.
+#[tactic(auto, using(crate::proofs::SpeechLaws::each_on))]
 fn each_speech(row: &[u32], speech: &[u32]) -> bool
     requires { (length row.now ≡ 16) × (length speech.now ≡ 128) }
     ensures { result ≡ speech_is_sound row.now speech.now }
 {
     let mut good = true;
-    let mut k: usize = 0;
-    while k < SOME {
+    for k in 0..SOME {
         let c = row[k];
         let a = WORDS * k;
         let local = side_is_sound(c, speech[a], speech[a + 1], speech[a + 2], speech[a + 3]);
@@ -323,12 +324,12 @@ fn each_speech(row: &[u32], speech: &[u32]) -> bool
             speech[a + 7],
         );
         good = good & (local & remote);
-        k += 1;
     }
     good
 }
 
 // The speech of SOME ephemerals: most often no word is set, and that is sound wherever they stand.
+#[tactic(auto, using(crate::proofs::SpeechLaws::none_speak))]
 fn some_speech(row: &[u32], speech: &[u32]) -> bool
     requires { (length row.now ≡ 16) × (length speech.now ≡ 128) }
     ensures { result ≡ speech_is_sound row.now speech.now }
@@ -342,21 +343,21 @@ fn some_speech(row: &[u32], speech: &[u32]) -> bool
 }
 
 // The speech of all ephemerals.
+#[tactic(auto, using(crate::proofs::SpeechLaws::all_on))]
 fn all_speech(row: &[u32], speech: &[u32]) -> bool
     requires { (length row.now ≡ 64) × (length speech.now ≡ 512) }
     ensures { result ≡ speech_is_sound row.now speech.now }
 {
     let mut good = true;
-    let mut b: usize = 0;
-    while b < EPHEMERALS as usize / SOME {
+    for b in 0..EPHEMERALS as usize / SOME {
         let i = SOME * b;
         let a = WORDS * i;
         good = good & some_speech(&row[i..i + SOME], &speech[a..a + WORDS * SOME]);
-        b += 1;
     }
     good
 }
 
+#[tactic(auto, using(crate::proofs::SpeechLaws::speech_by_lem))]
 fn speech_is_sound(table: &[u32]) -> bool
     requires { Sized table.now }
     ensures { result ≡ speech_is_sound (ephemeral_contexts table.now) (speech_words table.now) }

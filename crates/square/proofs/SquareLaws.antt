@@ -1,29 +1,52 @@
 -- The square of flows: the laws of the code's returns.
-use Prim.Native.Nat.{ℕ, zero, suc, ◌+◌, ◌-◌, ◌*◌, ◌/◌, ◌%◌, ◌<◌, ◌≤◌}
+use Prim.Native.Nat.{ℕ, zero, suc, ◌+◌, ◌-◌, ◌*◌, ◌/◌, ◌%◌, ◌^◌, ◌<◌, ◌≤◌}
 use mathlib.Core.Path.{◌≡◌, refl, sym, ap, ◌∙◌}
-use mathlib.Core.Bool.{Bool, true, false, ◌&&◌, ◌||◌}
-use mathlib.Core.List.{List, [], ◌∷◌}
+use mathlib.Core.Bool.{Bool, true, false, ◌&&◌}
+use mathlib.Core.List.{List, [], ◌∷◌, ◌++◌}
+use native.Mathlib.Numerals.{add-one}
+use native.Mathlib.Nat.{pow-succ'}
 use native.Mathlib.Omega.{arith}
+use lib.Pow.{pow-lt}
 use lib.ListN.{length, get_or, set, take, drop, drop_of_length-le}
 use lib.Seq.{drop-cons}
 use lib.Dec.{eqb, ltb}
-use borrow.Author.Tests.{lt-ltb, le-ltb, eq-eqb, ne_eqb, eqb-true, eqb-false}
+use borrow.Author.Tests.{ltb-true, ltb-false, lt-ltb, le-ltb, eq-eqb, ne_eqb, eqb-true, eqb-false}
 use mir.Val.{bool_byte}
 use Rattle.base.specs.Pick.{pick}
 use Rattle.megaco.specs.Square.{Square, bits, of_bits, rows, of_rows, square_of, low_of, high_of, flow_at, paired, directed, joined_flow, joined_row, up_to}
+use Rattle.square.proofs.ArrayLaws.{each_place}
 use Rattle.protocol.specs.Types.{Direction, Isolate, Oneway, Bothway}
 
 -- ---- the code's returns
-pub unpacked : (low high : ℕ) (a b c d e f g h : List Bool) → a ≡ bits 8 (low % 256) → b ≡ bits 8 (low / 256 % 256) → c ≡ bits 8 (low / 256 / 256 % 256) → d ≡ bits 8 (low / 256 / 256 / 256 % 256)
-    → e ≡ bits 8 (high % 256) → f ≡ bits 8 (high / 256 % 256) → g ≡ bits 8 (high / 256 / 256 % 256) → h ≡ bits 8 (high / 256 / 256 / 256 % 256)
-    → (a ∷ b ∷ c ∷ d ∷ e ∷ f ∷ g ∷ h ∷ []) ≡ square_of low high
-unfolding square_of rows
-unpacked low high a b c d e f g h pa pb pc pd pe pf pg ph = rw (pa, pb, pc, pd, pe, pf, pg, ph)
+-- two words, row by row
+pub unpacked : (a b : ℕ) (ys : List (List Bool)) → length ys ≡ 8 → ((k : ℕ) (e : List Bool) → k < 4 → get_or ys k e ≡ bits 8 (a / 2 ^ (8 * k) % 256))
+    → ((k : ℕ) (e : List Bool) → k < 4 → get_or ys (4 + k) e ≡ bits 8 (b / 2 ^ (8 * k) % 256)) → ys ≡ square_of a b
+unfolding square_of rows up_to pick
+unpacked a b ys l p q = each_place 8 f ys l at ∙ eight_rows
+  where
+    f : ℕ → List Bool
+    f i = pick (ltb i 4) (bits 8 (a / 2 ^ (8 * i) % 256)) (bits 8 (b / 2 ^ (8 * (i - 4)) % 256))
 
-pub eight : {A : Type 0} (t : ℕ → A) (a b c d e f g h : A) → a ≡ t 0 → b ≡ t 1 → c ≡ t 2 → d ≡ t 3 → e ≡ t 4 → f ≡ t 5 → g ≡ t 6 → h ≡ t 7
-    → (a ∷ b ∷ c ∷ d ∷ e ∷ f ∷ g ∷ h ∷ []) ≡ up_to 8 t
-unfolding up_to
-eight t a b c d e f g h pa pb pc pd pe pf pg ph = rw (pa, pb, pc, pd, pe, pf, pg, ph)
+    at : (i : ℕ) (e : List Bool) → i < 8 → get_or ys i e ≡ f i
+    at i e h = by (ltb i 4) refl
+      where
+        by : (t : Bool) → ltb i 4 ≡ t → get_or ys i e ≡ pick t (bits 8 (a / 2 ^ (8 * i) % 256)) (bits 8 (b / 2 ^ (8 * (i - 4)) % 256))
+        by true o = p i e (ltb-true i 4 o)
+        by false o =
+            let m : i ≡ 4 + (i - 4) = omega (arith, ltb-false i 4 o) in
+            ap (λ (n : ℕ). get_or ys n e) m ∙ q (i - 4) e (omega (arith, h))
+
+    one : (w : ℕ) → w / 256 / 256 ≡ w / 65536
+    one w = omega arith
+
+    two : (w : ℕ) → w / 256 / 256 / 256 ≡ w / 16777216
+    two w = omega arith
+
+    none : (w : ℕ) → w / 1 ≡ w
+    none w = omega arith
+
+    eight_rows : up_to 8 f ≡ rows 4 a ++ rows 4 b
+    eight_rows = rw (two a, two b, one a, one b, none a, none b)
 
 -- ---- rows by their places
 row_alike : {A : Type 0} (n : ℕ) (f g : ℕ → A) → ((j : ℕ) → j < n → f j ≡ g j) → up_to n f ≡ up_to n g
@@ -52,20 +75,13 @@ set_place (suc n) (suc i) f =
     after : (j : ℕ) → j < n → pick (eqb j i) false (f (suc j)) ≡ pick (eqb (suc j) (suc i)) false (f (suc j))
     after j h = rw (both_one_more j i)
 
-row_of_places : (n : ℕ) (r : List Bool) → length r ≡ n → up_to n (λ j. get_or r j false) ≡ r
-unfolding up_to
-row_of_places zero [] l = refl
-row_of_places zero (b ∷ r) l = absurd (omega (arith, l))
-row_of_places (suc n) [] l = absurd (omega (arith, l))
-row_of_places (suc n) (b ∷ r) l = rw (row_of_places n r (omega (arith, l)))
-
 place_of_row : (n j : ℕ) (f : ℕ → Bool) → j < n → get_or (up_to n f) j false ≡ f j
 unfolding up_to
 place_of_row zero j f h = absurd (omega arith)
 place_of_row (suc n) zero f h = refl
 place_of_row (suc n) (suc j) f h = place_of_row n j (λ k. f (suc k)) (omega arith)
 
--- ---- a place is opened
+-- ---- a number past the row
 -- none of some numbers
 abbrev pub NoneOf : List ℕ → ℕ → Type 0
 NoneOf [] x = Unit {0}
@@ -79,15 +95,6 @@ down_from (suc n) = n ∷ down_from n
 pub large : (n m : ℕ) → NoneOf (down_from n) m → n ≤ m
 large zero m h = omega arith
 large (suc n) m h = let k = large n m h.0 in let d = h.1 in omega (arith, k, d)
-
--- past the row nothing is opened
-pub opened_past : (r : List Bool) (k : ℕ) → length r ≡ 8 → NoneOf (down_from 8) k
-    → r ≡ up_to 8 (λ j. pick (eqb j k) true (get_or r (pick (ltb k j) (j - 1) j) false))
-unfolding pick
-opened_past r k l n = sym (row_alike 8 _ (λ j. get_or r j false) at_place ∙ row_of_places 8 r l)
-  where
-    at_place : (j : ℕ) → j < 8 → pick (eqb j k) true (get_or r (pick (ltb k j) (j - 1) j) false) ≡ get_or r j false
-    at_place j h = let m = large 8 k n in rw (ne_eqb j k (λ e. omega (arith, e)), le-ltb k j (omega arith))
 
 -- ---- a member joins
 eqb_turned : (a b : ℕ) → eqb a b ≡ eqb b a
@@ -174,26 +181,41 @@ no_more : (r : List Bool) → length r ≤ 8 → 0 ≡ of_bits (drop 8 r)
 unfolding of_bits
 no_more r h = rw (drop_of_length-le r h)
 
-pub numbered : (r : List Bool) (n₇ n₆ n₅ n₄ n₃ n₂ n₁ n₀ : ℕ) → length r ≡ 8 → n₇ ≡ pick (get_or r 7 false) 1 0 + 2 * 0 → n₆ ≡ pick (get_or r 6 false) 1 0 + 2 * n₇
-    → n₅ ≡ pick (get_or r 5 false) 1 0 + 2 * n₆ → n₄ ≡ pick (get_or r 4 false) 1 0 + 2 * n₅ → n₃ ≡ pick (get_or r 3 false) 1 0 + 2 * n₄ → n₂ ≡ pick (get_or r 2 false) 1 0 + 2 * n₃
-    → n₁ ≡ pick (get_or r 1 false) 1 0 + 2 * n₂ → n₀ ≡ pick (get_or r 0 false) 1 0 + 2 * n₁ → n₀ ≡ of_bits r
-numbered r n₇ n₆ n₅ n₄ n₃ n₂ n₁ n₀ l p₇ p₆ p₅ p₄ p₃ p₂ p₁ p₀ =
-    bit_on r 0 n₁ n₀ (omega arith) (bit_on r 1 n₂ n₁ (omega arith) (bit_on r 2 n₃ n₂ (omega arith) (bit_on r 3 n₄ n₃ (omega arith)
-    (bit_on r 4 n₅ n₄ (omega arith) (bit_on r 5 n₆ n₅ (omega arith) (bit_on r 6 n₇ n₆ (omega arith) (bit_on r 7 0 n₇ (omega arith) (no_more r (omega arith)) p₇) p₆) p₅) p₄) p₃) p₂) p₁) p₀
+module _ (r : List Bool) (l : length r ≡ 8) where
+  pub number_start : (0 ≡ of_bits (drop (8 - 0) r)) × (0 < 2 ^ 0)
+  number_start = (no_more r (omega arith), omega arith)
+
+  pub number_on : (j n m : ℕ) → j < 8 → n ≡ of_bits (drop (8 - j) r) → m ≡ pick (get_or r (7 - j) false) 1 0 + 2 * n → m ≡ of_bits (drop (8 - (j + 1)) r)
+  number_on j n m h i e =
+      let s : 8 - j ≡ suc (7 - j) = omega arith in
+      let t : 8 - (j + 1) ≡ 7 - j = omega arith in
+      rw t (bit_on r (7 - j) n m (omega (arith, l)) (rw s at i) e)
+
+  pub number_end : (j n : ℕ) → 8 ≤ j → j ≤ 8 → (n ≡ of_bits (drop (8 - j) r)) × (n < 2 ^ j) → (n ≡ of_bits r) × (n < 256)
+  number_end j n h k i = let m : j ≡ 8 = omega arith in rw m at i
+
+pub number_grows : (j n m : ℕ) → n < 2 ^ j → m ≤ 2 * n + 1 → m < 2 ^ (j + 1)
+number_grows j n m h e = let p : 2 ^ suc j ≡ 2 * 2 ^ j = pow-succ' 2 j in rw (add-one j) (omega (arith, p))
+
+pub number_small : (j n : ℕ) → j < 8 → n < 2 ^ j → n < 65536
+number_small j n h l = let k = pow-lt {i = j} {j = 16} (omega arith) in omega (arith, k)
 
 four : (q : Square) (k n₀ n₁ n₂ n₃ : ℕ) → k + 4 ≤ length q → n₀ ≡ of_bits (get_or q k []) → n₁ ≡ of_bits (get_or q (suc k) []) → n₂ ≡ of_bits (get_or q (suc (suc k)) []) → n₃ ≡ of_bits (get_or q (suc (suc (suc k))) [])
     → n₀ + 256 * (n₁ + 256 * (n₂ + 256 * n₃)) ≡ of_rows (take 4 (drop k q))
 unfolding of_rows
 four q k n₀ n₁ n₂ n₃ h p₀ p₁ p₂ p₃ = rw (p₀, p₁, p₂, p₃, drop-cons q k [] (omega arith), drop-cons q (suc k) [] (omega arith), drop-cons q (suc (suc k)) [] (omega arith), drop-cons q (suc (suc (suc k))) [] (omega arith)) (omega arith)
 
-module _ (q : Square) (n₀ n₁ n₂ n₃ : ℕ) (l : length q ≡ 8) where
-  pub low_packed : n₀ ≡ of_bits (get_or q 0 []) → n₁ ≡ of_bits (get_or q 1 []) → n₂ ≡ of_bits (get_or q 2 []) → n₃ ≡ of_bits (get_or q 3 []) → n₀ + 256 * (n₁ + 256 * (n₂ + 256 * n₃)) ≡ low_of q
-  unfolding low_of
-  low_packed p₀ p₁ p₂ p₃ = four q 0 n₀ n₁ n₂ n₃ (omega arith) p₀ p₁ p₂ p₃
+pub rows_packed : (q : Square) (k n₀ n₁ n₂ n₃ : ℕ) → length q ≡ 8 → k ≤ 4 → n₀ ≡ of_bits (get_or q k []) → n₁ ≡ of_bits (get_or q (k + 1) []) → n₂ ≡ of_bits (get_or q (k + 2) []) → n₃ ≡ of_bits (get_or q (k + 3) [])
+    → n₀ + 256 * (n₁ + 256 * (n₂ + 256 * n₃)) ≡ of_rows (take 4 (drop k q))
+rows_packed q k n₀ n₁ n₂ n₃ l h p₀ p₁ p₂ p₃ =
+    let a : k + 1 ≡ suc k = omega arith in
+    let b : k + 2 ≡ suc (suc k) = omega arith in
+    let d : k + 3 ≡ suc (suc (suc k)) = omega arith in
+    four q k n₀ n₁ n₂ n₃ (omega (arith, l)) p₀ (rw a at p₁) (rw b at p₂) (rw d at p₃)
 
-  pub high_packed : n₀ ≡ of_bits (get_or q 4 []) → n₁ ≡ of_bits (get_or q 5 []) → n₂ ≡ of_bits (get_or q 6 []) → n₃ ≡ of_bits (get_or q 7 []) → n₀ + 256 * (n₁ + 256 * (n₂ + 256 * n₃)) ≡ high_of q
-  unfolding high_of
-  high_packed p₀ p₁ p₂ p₃ = four q 4 n₀ n₁ n₂ n₃ (omega arith) p₀ p₁ p₂ p₃
+pub both_packed : (q : Square) (a b : ℕ) → a ≡ of_rows (take 4 (drop 0 q)) → b ≡ of_rows (take 4 (drop 4 q)) → (a ∷ b ∷ []) ≡ (low_of q ∷ high_of q ∷ [])
+unfolding low_of high_of
+both_packed q a b e f = rw (e, f)
 
 -- one law for each direction
 module _ (d : Direction) (i j : ℕ) (q r : Square) where

@@ -1,54 +1,31 @@
 // The square of flows of one context: eight rows of eight, member i to member j. Two words hold it, rows 0 to 3 in the first.
 #![tactic(auto)]
 
-ghost use Rattle.std.specs.Prelude.{◌≡◌, Bool, true, false, ◌&&◌, ◌+◌, ◌-◌, ◌*◌, ◌<◌, ◌≤◌, ltb, eqb, get_or, set};
+ghost use Rattle.std.specs.Prelude.{◌≡◌, Bool, true, false, [], ◌∷◌, ◌&&◌, ◌+◌, ◌-◌, ◌*◌, ◌<◌, ◌≤◌, ltb, eqb, get_or, set, take, drop};
 ghost use Rattle.base.specs.Pick.{pick};
-ghost use Rattle.megaco.specs.Square.{bits, of_bits, square_of, low_of, high_of, flow_at, paired, directed, up_to, joined_row, joined, parted_flow, parted_row, parted};
+ghost use Rattle.megaco.specs.Square.{bits, of_bits, of_rows, square_of, low_of, high_of, flow_at, paired, directed, up_to, joined_row, joined, parted_flow, parted_row, parted};
 
 use megaco::Direction;
+use std::array;
 
 // The eight lowest bits, lowest first.
 pub fn row_of(b: u32) -> [bool; 8]
     ensures { result ≡ bits 8 b }
 {
-    let b1 = b / 2;
-    let b2 = b1 / 2;
-    let b3 = b2 / 2;
-    let b4 = b3 / 2;
-    let b5 = b4 / 2;
-    let b6 = b5 / 2;
-    let b7 = b6 / 2;
-    [
-        b % 2 == 1,
-        b1 % 2 == 1,
-        b2 % 2 == 1,
-        b3 % 2 == 1,
-        b4 % 2 == 1,
-        b5 % 2 == 1,
-        b6 % 2 == 1,
-        b7 % 2 == 1,
-    ]
+    array::from_fn(|j| (b >> j) % 2 == 1)
 }
 
-pub fn unpack(low: u32, high: u32) -> [[bool; 8]; 8]
-    ensures { result ≡ square_of low high }
+// The square that two words hold.
+#[tactic(auto, using(crate::proofs::SquareLaws::unpacked))]
+pub fn unpack(words: [u32; 2]) -> [[bool; 8]; 8]
+    ensures { result ≡ square_of (get_or words 0 0) (get_or words 1 0) }
 {
-    let l1 = low / 256;
-    let l2 = l1 / 256;
-    let l3 = l2 / 256;
-    let h1 = high / 256;
-    let h2 = h1 / 256;
-    let h3 = h2 / 256;
-    [
-        row_of(low % 256),
-        row_of(l1 % 256),
-        row_of(l2 % 256),
-        row_of(l3 % 256),
-        row_of(high % 256),
-        row_of(h1 % 256),
-        row_of(h2 % 256),
-        row_of(h3 % 256),
-    ]
+    let mut rows = [[false; 8]; 8];
+    for i in 0..4 {
+        rows[i] = row_of((words[0] >> (8 * i)) % 256);
+        rows[4 + i] = row_of((words[1] >> (8 * i)) % 256);
+    }
+    rows
 }
 
 // One bit before a number.
@@ -60,42 +37,40 @@ fn shifted(b: bool, n: u32) -> u32
 }
 
 // The number of eight bits.
+#[tactic(auto, using(crate::proofs::SquareLaws::number_start, crate::proofs::SquareLaws::number_end, crate::proofs::SquareLaws::number_small))]
 pub fn number_of(r: [bool; 8]) -> u32
     ensures { (result ≡ of_bits r) × (result < 256) }
 {
-    let n7 = shifted(r[7], 0);
-    let n6 = shifted(r[6], n7);
-    let n5 = shifted(r[5], n6);
-    let n4 = shifted(r[4], n5);
-    let n3 = shifted(r[3], n4);
-    let n2 = shifted(r[2], n3);
-    let n1 = shifted(r[1], n2);
-    shifted(r[0], n1)
+    let mut n = 0;
+    for j in 0..8 {
+        n = shifted(r[7 - j], n);
+    }
+    n
 }
 
-// The word of rows 0 to 3.
-pub fn low_of(q: [[bool; 8]; 8]) -> u32
-    ensures { result ≡ low_of q }
+// The word of four rows from one on.
+#[tactic(auto, using(crate::proofs::SquareLaws::rows_packed))]
+fn word_of(q: &[[bool; 8]; 8], first: usize) -> u32
+    requires { first ≤ 4 }
+    ensures { result ≡ of_rows (take 4 (drop first q.now)) }
 {
-    let n0 = number_of(q[0]);
-    let n1 = number_of(q[1]);
-    let n2 = number_of(q[2]);
-    let n3 = number_of(q[3]);
+    let n0 = number_of(q[first]);
+    let n1 = number_of(q[first + 1]);
+    let n2 = number_of(q[first + 2]);
+    let n3 = number_of(q[first + 3]);
     n0 + 256 * (n1 + 256 * (n2 + 256 * n3))
 }
 
-// The word of rows 4 to 7.
-pub fn high_of(q: [[bool; 8]; 8]) -> u32
-    ensures { result ≡ high_of q }
+// The two words of a square: rows 0 to 3, and rows 4 to 7.
+#[tactic(auto, using(crate::proofs::SquareLaws::both_packed))]
+pub fn pack(q: &[[bool; 8]; 8]) -> [u32; 2]
+    ensures { result ≡ low_of q.now ∷ high_of q.now ∷ [] }
 {
-    let n0 = number_of(q[4]);
-    let n1 = number_of(q[5]);
-    let n2 = number_of(q[6]);
-    let n3 = number_of(q[7]);
-    n0 + 256 * (n1 + 256 * (n2 + 256 * n3))
+    [word_of(q, 0), word_of(q, 4)]
 }
 
 // Whether member i flows to member j; past the square nobody does.
+#[tactic(auto, unfolding(base::specs::Pick::pick, megaco::specs::Square::flow_at))]
 pub fn flow(q: &[[bool; 8]; 8], i: usize, j: usize) -> bool
     ensures { result ≡ flow_at q.now i j }
 {
@@ -108,6 +83,7 @@ pub fn flow(q: &[[bool; 8]; 8], i: usize, j: usize) -> bool
 }
 
 // The pair of i and j, both ways; past the square nothing is set.
+#[tactic(auto, unfolding(base::specs::Pick::pick, megaco::specs::Square::paired, megaco::specs::Square::flow_set))]
 pub fn set_pair(q: [[bool; 8]; 8], i: usize, j: usize, there: bool, back: bool) -> [[bool; 8]; 8]
     ensures { result ≡ paired q i j there back }
 {
@@ -123,6 +99,7 @@ pub fn set_pair(q: [[bool; 8]; 8], i: usize, j: usize, there: bool, back: bool) 
 }
 
 // What a triple sets.
+#[tactic(auto, using(crate::proofs::SquareLaws::direct_isolate, crate::proofs::SquareLaws::direct_oneway, crate::proofs::SquareLaws::direct_bothway))]
 pub fn direct(q: [[bool; 8]; 8], d: Direction, i: usize, j: usize) -> [[bool; 8]; 8]
     ensures { result ≡ directed d i j q }
 {
@@ -134,6 +111,7 @@ pub fn direct(q: [[bool; 8]; 8], d: Direction, i: usize, j: usize) -> [[bool; 8]
 }
 
 // The place before number k came.
+#[tactic(auto, unfolding(base::specs::Pick::pick))]
 fn place_before(k: usize, i: usize) -> usize
     ensures { (result ≡ pick (ltb k i) (i - 1) i) × (result ≤ i) }
 {
@@ -144,6 +122,7 @@ fn place_before(k: usize, i: usize) -> usize
 }
 
 // The place while number k was there.
+#[tactic(auto, unfolding(base::specs::Pick::pick))]
 fn past(k: usize, i: usize) -> usize
     requires { i < 8 }
     ensures { result ≡ pick (ltb i k) i (i + 1) }
@@ -158,40 +137,21 @@ fn past(k: usize, i: usize) -> usize
 fn places_used(m: usize) -> [bool; 8]
     ensures { result ≡ up_to 8 (λ j. ltb j m) }
 {
-    [0 < m, 1 < m, 2 < m, 3 < m, 4 < m, 5 < m, 6 < m, 7 < m]
+    array::from_fn(|j| j < m)
 }
 
 // A row in which number k has got a place, and flows there.
 fn opened(r: [bool; 8], k: usize) -> [bool; 8]
     ensures { result ≡ up_to 8 (λ j. pick (eqb j k) true (get_or r (pick (ltb k j) (j - 1) j) false)) }
 {
-    match k {
-        0 => [true, r[0], r[1], r[2], r[3], r[4], r[5], r[6]],
-        1 => [r[0], true, r[1], r[2], r[3], r[4], r[5], r[6]],
-        2 => [r[0], r[1], true, r[2], r[3], r[4], r[5], r[6]],
-        3 => [r[0], r[1], r[2], true, r[3], r[4], r[5], r[6]],
-        4 => [r[0], r[1], r[2], r[3], true, r[4], r[5], r[6]],
-        5 => [r[0], r[1], r[2], r[3], r[4], true, r[5], r[6]],
-        6 => [r[0], r[1], r[2], r[3], r[4], r[5], true, r[6]],
-        7 => [r[0], r[1], r[2], r[3], r[4], r[5], r[6], true],
-        _ => r,
-    }
+    array::from_fn(|j| (j == k) | r[place_before(k, j)])
 }
 
 // The places that both rows have.
 fn both(a: [bool; 8], b: [bool; 8]) -> [bool; 8]
     ensures { result ≡ up_to 8 (λ j. get_or a j false && get_or b j false) }
 {
-    [
-        a[0] & b[0],
-        a[1] & b[1],
-        a[2] & b[2],
-        a[3] & b[3],
-        a[4] & b[4],
-        a[5] & b[5],
-        a[6] & b[6],
-        a[7] & b[7],
-    ]
+    array::from_fn(|j| a[j] & b[j])
 }
 
 // A row without the place i.
@@ -215,26 +175,22 @@ fn joined_row(q: &[[bool; 8]; 8], m: usize, used: [bool; 8], k: usize, i: usize)
         }
         return without(both(used, opened(q[place_before(k, i)], k)), i);
     }
-    [false, false, false, false, false, false, false, false]
+    [false; 8]
 }
 
 pub fn join_place(q: &[[bool; 8]; 8], m: usize, k: usize) -> [[bool; 8]; 8]
     ensures { result ≡ joined q.now m k }
 {
     let used = places_used(m);
-    [
-        joined_row(q, m, used, k, 0),
-        joined_row(q, m, used, k, 1),
-        joined_row(q, m, used, k, 2),
-        joined_row(q, m, used, k, 3),
-        joined_row(q, m, used, k, 4),
-        joined_row(q, m, used, k, 5),
-        joined_row(q, m, used, k, 6),
-        joined_row(q, m, used, k, 7),
-    ]
+    let mut rows = [[false; 8]; 8];
+    for i in 0..8 {
+        rows[i] = joined_row(q, m, used, k, i);
+    }
+    rows
 }
 
 // A flow of the square that number k has left.
+#[tactic(auto, unfolding(megaco::specs::Square::parted_flow))]
 fn parted_flow(q: &[[bool; 8]; 8], k: usize, i: usize, j: usize) -> bool
     requires { (i < 8) × (j < 8) }
     ensures { result ≡ parted_flow q.now k i j }
@@ -246,29 +202,15 @@ fn parted_row(q: &[[bool; 8]; 8], k: usize, i: usize) -> [bool; 8]
     requires { i < 8 }
     ensures { result ≡ parted_row q.now k i }
 {
-    [
-        parted_flow(q, k, i, 0),
-        parted_flow(q, k, i, 1),
-        parted_flow(q, k, i, 2),
-        parted_flow(q, k, i, 3),
-        parted_flow(q, k, i, 4),
-        parted_flow(q, k, i, 5),
-        parted_flow(q, k, i, 6),
-        parted_flow(q, k, i, 7),
-    ]
+    array::from_fn(|j| parted_flow(q, k, i, j))
 }
 
 pub fn part_place(q: &[[bool; 8]; 8], k: usize) -> [[bool; 8]; 8]
     ensures { result ≡ parted q.now k }
 {
-    [
-        parted_row(q, k, 0),
-        parted_row(q, k, 1),
-        parted_row(q, k, 2),
-        parted_row(q, k, 3),
-        parted_row(q, k, 4),
-        parted_row(q, k, 5),
-        parted_row(q, k, 6),
-        parted_row(q, k, 7),
-    ]
+    let mut rows = [[false; 8]; 8];
+    for i in 0..8 {
+        rows[i] = parted_row(q, k, i);
+    }
+    rows
 }

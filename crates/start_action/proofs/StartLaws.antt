@@ -1,25 +1,23 @@
 -- An action's start: the properties one by one, its tests, and what it writes.
-use Prim.Native.Nat.{ℕ, suc, ◌+◌, ◌*◌, ◌-◌, ◌<◌, ◌≤◌}
+use Rattle.std.specs.Prelude.{Some, None, Ok}
+use Prim.Native.Nat.{ℕ, suc, ◌+◌, ◌-◌, ◌<◌, ◌≤◌}
 use mathlib.Core.Path.{◌≡◌, refl, sym, ap, ◌∙◌}
 use mathlib.Core.Bool.{Bool, true, false, ◌&&◌, ◌||◌, true≢false}
 use mathlib.Core.List.{List, [], ◌∷◌}
 use native.Mathlib.Omega.{arith}
 use native.Mathlib.Numerals.{add-one}
 use lib.ListN.{length}
-use borrow.Author.Tests.{ltb-false}
-use lib.Dec.{ltb, eqb}
 use Rattle.base.specs.Pick.{pick}
 use Rattle.base.specs.Lists.{is_at}
 use Rattle.megaco.specs.Bytes.{comma}
-use Rattle.megaco.specs.Table.{Write, write, cell, rec, store, apply, priority_of, emergency_of}
+use Rattle.megaco.specs.Table.{apply}
 use Rattle.megaco.specs.Tree as tree
 use Rattle.megaco.specs.Tree.{Triple, priority, emergency, topology}
 use Rattle.megaco.specs.Reading.{unlimited, is_property, word_here}
-use Rattle.megaco.specs.Square.{Square}
-use Rattle.megaco.specs.Topology.{triples_of, any_topology, Link, links_of, set_links}
-use Rattle.megaco.specs.Attempt.{check, judge, number_of, seen, flowing, flows_of}
+use Rattle.megaco.specs.Topology.{triples_of, any_topology, Link, links_of}
+use Rattle.megaco.specs.Attempt.{judge, number_of, seen}
 use Rattle.megaco.specs.Action.{link_checks, flow_writes, new_record, any_given, over15, set_properties, start_checks, start_writes}
-use Rattle.protocol.specs.Types.{Context, Null, Numbered, Choose, All, Checked, Passes, Fails, Parsed, Next, Fault, Seen, Property, Priority, Emergency, Topology}
+use Rattle.protocol.specs.Types.{Context, Null, Numbered, Choose, All, Checked, Parsed, Seen, Property}
 use Rattle.read_command.specs.Production.{past_sign}
 use Rattle.read_command.specs.Places.{property_at, properties_of}
 use Rattle.command_places.specs.Found.{next_at}
@@ -31,41 +29,6 @@ use Rattle.start_action.specs.declared.PropertiesRead.{PropertiesRead}
 use Rattle.topology.specs.Links.{is_topology, flows_after}
 use Rattle.start_action.specs.declared.Tested.{Tested}
 use Rattle.start_action.specs.Starting.{over_one, set_one, properties_in, given_by, judged_start, linked, Tests, property_writes, wrote_start}
-
--- ---- one property
-
-module _ (x : Property) where
-  pub over_priority : (n : ℕ) → x ≡ Priority n → ltb 15 n ≡ over_one x
-  unfolding over_one
-  over_priority n e = rw e
-
-  pub over_emergency : x ≡ Emergency → false ≡ over_one x
-  unfolding over_one
-  over_emergency e = rw e
-
-  pub over_topology : x ≡ Topology → false ≡ over_one x
-  unfolding over_one
-  over_topology e = rw e
-
-  pub priority_small : (n : ℕ) → over_one x ≡ false → x ≡ Priority n → n ≤ 15
-  unfolding over_one
-  priority_small n f e = ltb-false 15 n (rw e at f)
-
-  module _ (r k : ℕ) where
-    pub set_priority : (n : ℕ) → x ≡ Priority n → k ≡ emergency_of r → 1 + n + 16 * k ≡ set_one x r
-    unfolding set_one
-    set_priority n e p = rw (e, p)
-
-    pub priority_fits : (n : ℕ) → over_one x ≡ false → r ≤ 32 → x ≡ Priority n → k ≡ emergency_of r → 1 + n + 16 * k ≤ 32
-    priority_fits n f h e p = let z : n ≤ 15 = priority_small n f e in omega arith
-
-    pub set_emergency : x ≡ Emergency → k ≡ priority_of r → 1 + k + 16 ≡ set_one x r
-    unfolding set_one
-    set_emergency e p = rw (e, p)
-
-  pub set_topology : (r : ℕ) → x ≡ Topology → r ≡ set_one x r
-  unfolding set_one
-  set_topology r e = rw e
 
 -- ---- the properties in turn
 
@@ -98,9 +61,6 @@ module _ (ps : List tree.Property) (was a b : ℕ) where
 
 abbrev given : Bool → ℕ → ℕ → PropertiesRead
 given over fresh held = record { over = over; fresh = fresh; held = held }
-
-pub not_over : (o : Bool) (x : Property) → o ≡ over_one x → o ≡ false → over_one x ≡ false
-not_over o x e f = sym e ∙ f
 
 pub read_start : (s : List ℕ) (at held : ℕ) → Leads (properties_in s at) (properties_of (length s + 1 - 0) s at) held new_record held
 unfolding properties_in unlimited
@@ -159,11 +119,11 @@ module _ (s : List ℕ) (at held n i a b : ℕ) (inv : Leads (properties_in s at
               let v : b' ≡ set_one (kind_of (property_at s i).tree) b = eb ∙ ap (λ (y : Property). set_one y b) kind in
               rw (u, v, ← k) (leads_on (properties_in s at) held a b (property_at s i).tree behind (sym (w ∙ ap over_one kind) ∙ f) one)
 
-          pub read_last : x ≡ Fault → given false a' b' ≡ given_by (properties_in s at) held
+          pub read_last : x ≡ None → given false a' b' ≡ given_by (properties_in s at) held
           unfolding behind
           read_last k = all_set a' b' (next [] (part_last s p.end p.end refl x g (properties_of (length s + 1 - (n + 1)) s) [] k))
 
-          pub read_more : (u : ℕ) → x ≡ Next u → Leads (properties_in s at) (properties_of (length s + 1 - (n + 1)) s u) held a' b'
+          pub read_more : (u : ℕ) → x ≡ Some u → Leads (properties_in s at) (properties_of (length s + 1 - (n + 1)) s u) held a' b'
           unfolding behind
           read_more u k = next (properties_of (length s + 1 - (n + 1)) s u) (part_more s p.end p.end refl x g (properties_of (length s + 1 - (n + 1)) s) [] u k)
 
@@ -224,11 +184,11 @@ module _ (s : List ℕ) (n i : ℕ) (q : Bool) (inv : q ≡ topology_from s n i)
       seek_found f = sym (sought ∙ rw f)
 
       module _ (f : o ≡ false) (y : Parsed) (g : y ≡ next_at s p.end) where
-        pub seek_last : y ≡ Fault → false ≡ q
+        pub seek_last : y ≡ None → false ≡ q
         unfolding any_topology
         seek_last k = sym (sought ∙ rw (f, part_last s p.end p.end refl y g (properties_of (length s + 1 - (n + 1)) s) [] k))
 
-        pub seek_more : (u : ℕ) → y ≡ Next u → q ≡ topology_from s (n + 1) u
+        pub seek_more : (u : ℕ) → y ≡ Some u → q ≡ topology_from s (n + 1) u
         unfolding topology_from
         seek_more u k = sought ∙ rw (f, part_more s p.end p.end refl y g (properties_of (length s + 1 - (n + 1)) s) [] u k)
 
@@ -246,16 +206,8 @@ no_links (topology ts ∷ ps) e = absurd (true≢false e)
 
 -- ---- the tests
 
-pub here : {A : Type 0} (b : Bool) (x y : A) → b ≡ true → x ≡ pick b x y
-unfolding pick
-here b x y e = rw e
-
-pub not_here : {A : Type 0} (b : Bool) (x y r : A) → b ≡ false → r ≡ y → r ≡ pick b x y
-unfolding pick
-not_here b x y r e p = rw e p
-
 module _ (c : Context) (ps : List tree.Property) (t : List ℕ) (top : Bool) (e : top ≡ any_topology ps) where
-  pub links_none : top ≡ false → Passes ≡ linked c ps t
+  pub links_none : top ≡ false → Ok tt ≡ linked c ps t
   unfolding linked judge link_checks links_of
   links_none f = rw (no_links ps (sym e ∙ f))
 
@@ -264,55 +216,12 @@ pub links_judged : (c : Context) (s t : List ℕ) (at n : ℕ) (r : Checked) →
 unfolding linked properties_in
 links_judged c s t at n r e p = p ∙ rw e
 
-module _ (c : Context) (any over top alone : Bool) (held : ℕ) (l r : Checked) where
-  pub test_null : c ≡ Null → r ≡ pick any (Fails 421) Passes → r ≡ judged_start c any over top alone held l
-  unfolding judged_start
-  test_null e p = rw e p
-
-  pub test_numbered : (n : ℕ) → c ≡ Numbered n → r ≡ pick over (Fails 449) (pick (any && eqb held 0) (Fails 411) l) → r ≡ judged_start c any over top alone held l
-  unfolding judged_start
-  test_numbered n e p = rw e p
-
-  pub test_choose : c ≡ Choose → r ≡ pick (any && alone || top) (Fails 421) (pick over (Fails 449) Passes) → r ≡ judged_start c any over top alone held l
-  unfolding judged_start
-  test_choose e p = rw e p
-
-pub test_all : (c : Context) (any over top alone : Bool) (held : ℕ) (l : Checked) → c ≡ All → Fails 421 ≡ judged_start c any over top alone held l
-unfolding judged_start
-test_all c any over top alone held l e = rw e
-
 pub tested_by : (s t : List ℕ) (body : ℕ) (c : Context) (any over alone : Bool) (held : ℕ) (r : Tested) (l : Checked)
     → r.topology ≡ any_topology (properties_in s body) → l ≡ linked c (properties_in s body) t → r.checked ≡ judged_start c any over r.topology alone held l
     → Tests (properties_in s body) c t any over alone held r
 tested_by s t body c any over alone held r l e f p = record { given = e; code = p ∙ rw (e, f) }
 
 -- ---- what it writes
-
-pub properties_flows : (s : List ℕ) (at n r : ℕ) (top : Bool) (x : Square) (t t₁ t₂ : List ℕ) → top ≡ true → x ≡ flows_after (properties_of (unlimited s) s at) n t
-    → t₁ ≡ store (write (cell (rec n)) r) t → t₂ ≡ apply (flowing n x []) t₁ → t₂ ≡ apply (property_writes n top r (flows_after (properties_in s at) n t)) t
-unfolding property_writes properties_in pick
-properties_flows s at n r top x t t₁ t₂ e f p g = g ∙ rw (p, f, e) (sym (unfold apply in refl))
-
-pub properties_record : (n r : ℕ) (top : Bool) (q : Square) (t t₁ : List ℕ) → top ≡ false → t₁ ≡ store (write (cell (rec n)) r) t → t₁ ≡ apply (property_writes n top r q) t
-unfolding property_writes pick apply
-properties_record n r top q t t₁ e p = p ∙ rw e
-
-module _ (c : Context) (any top : Bool) (held : ℕ) (q : Square) (t : List ℕ) where
-  pub wrote_null : c ≡ Null → t ≡ apply (wrote_start c any top held q) t
-  unfolding wrote_start apply
-  wrote_null e = rw e
-
-  pub wrote_choose : c ≡ Choose → t ≡ apply (wrote_start c any top held q) t
-  unfolding wrote_start apply
-  wrote_choose e = rw e
-
-  pub wrote_all : c ≡ All → t ≡ apply (wrote_start c any top held q) t
-  unfolding wrote_start apply
-  wrote_all e = rw e
-
-  pub wrote_none : (n : ℕ) → c ≡ Numbered n → any ≡ false → t ≡ apply (wrote_start c any top held q) t
-  unfolding wrote_start apply pick
-  wrote_none n e f = rw (e, f)
 
 pub wrote_record : (s t u : List ℕ) (body n held : ℕ) (c : Context) (any top : Bool) → c ≡ Numbered n → any ≡ true
     → u ≡ apply (property_writes n top held (flows_after (properties_in s body) n t)) t → u ≡ apply (wrote_start c any top held (flows_after (properties_in s body) (number_of c) t)) t
@@ -345,7 +254,7 @@ unfolding any_given over15
 over_given [] e = refl
 over_given (x ∷ ps) e = absurd (true≢false e)
 
-pub start_over : (c : Context) (ps : List tree.Property) (alone : Bool) (there : Seen) (links : List Link) → judge (start_checks c ps alone there links) ≡ Passes → over15 ps ≡ false
+pub start_over : (c : Context) (ps : List tree.Property) (alone : Bool) (there : Seen) (links : List Link) → judge (start_checks c ps alone there links) ≡ Ok tt → over15 ps ≡ false
 unfolding start_checks
 start_over Null ps alone there links e = over_given ps (passed_first (any_given ps) 421 [] e).0
 start_over (Numbered n) ps alone there links e = (passed_first (over15 ps) 449 _ e).0

@@ -1,5 +1,5 @@
 -- What the functions of an action's start promise.
-use Rattle.std.specs.Prelude.{ℕ, ◌+◌, ◌*◌, ◌≡◌, Bool, true, false, ◌&&◌, ◌||◌, List, [], ◌∷◌, ltb, eqb}
+use Rattle.std.specs.Prelude.{ℕ, ◌+◌, ◌*◌, ◌≡◌, Bool, false, ◌&&◌, ◌||◌, List, [], ◌∷◌, ltb, eqb, Ok, Err}
 use Rattle.base.specs.Pick.{pick}
 use Rattle.megaco.specs.Table.{Write, write, cell, rec, priority_of, emergency_of}
 use Rattle.megaco.specs.Tree as tree
@@ -8,7 +8,7 @@ use Rattle.megaco.specs.Square.{Square}
 use Rattle.megaco.specs.Topology.{triples_of, any_topology, links_of}
 use Rattle.megaco.specs.Attempt.{judge, number_of, flowing}
 use Rattle.megaco.specs.Action.{link_checks, new_record, over15, set_properties}
-use Rattle.protocol.specs.Types.{Checked, Passes, Fails, Context, Null, Numbered, Choose, All, Property, Priority, Emergency, Topology}
+use Rattle.protocol.specs.Types.{Checked, Context, Null, Numbered, Choose, All, Property, Priority, Emergency, Topology}
 use Rattle.read_command.specs.Places.{properties_of}
 use Rattle.start_action.specs.declared.PropertiesRead.{PropertiesRead}
 use Rattle.start_action.specs.declared.Tested.{Tested}
@@ -35,10 +35,10 @@ given_by ps was = record { over = over15 ps; fresh = pick (over15 ps) 0 (set_pro
 
 -- the tests at the start, by what is known of the properties: whether any is given, one over 15, topology; and what the tests of the triples come to
 unfoldable pub judged_start : Context → Bool → Bool → Bool → Bool → ℕ → Checked → Checked
-judged_start Null any over top alone held links = pick any (Fails 421) Passes
-judged_start (Numbered c) any over top alone held links = pick over (Fails 449) (pick (any && eqb held 0) (Fails 411) links)
-judged_start Choose any over top alone held links = pick (any && alone || top) (Fails 421) (pick over (Fails 449) Passes)
-judged_start All any over top alone held links = Fails 421
+judged_start Null any over top alone held links = pick any (Err 421) (Ok tt)
+judged_start (Numbered c) any over top alone held links = pick over (Err 449) (pick (any && eqb held 0) (Err 411) links)
+judged_start Choose any over top alone held links = pick (any && alone || top) (Err 421) (pick over (Err 449) (Ok tt))
+judged_start All any over top alone held links = Err 421
 
 -- the tests of the triples
 unfoldable pub linked : Context → List tree.Property → List ℕ → Checked

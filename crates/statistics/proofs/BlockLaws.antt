@@ -1,5 +1,5 @@
 -- The figures after a packet, and blocks in the lent words: the laws of the code's returns.
-use Rattle.std.proofs.Common.{◌≡◌, ℕ, zero, suc, ◌+◌, ◌-◌, ◌*◌, ◌/◌, ◌%◌, ◌^◌, ◌<◌, ◌≤◌, Bool, true, false, not, ◌&&◌, ◌||◌, eqb, ltb, leb, List, length, get_or, take, drop, set, sym, refl, ap, ◌∙◌, arith, get_or-drop, get_or-take, ltb-true, le-ltb, lt-ltb, eq-eqb, ne_eqb, leb-true}
+use Rattle.std.proofs.Common.{◌≡◌, ℕ, zero, suc, ◌+◌, ◌-◌, ◌*◌, ◌/◌, ◌%◌, ◌^◌, ◌<◌, ◌≤◌, Bool, true, false, not, ◌&&◌, ◌||◌, eqb, ltb, leb, List, length, get_or, take, drop, set, min, sym, refl, ap, ◌∙◌, arith, get_or-drop, get_or-take, ltb-true, le-ltb, lt-ltb, eq-eqb, ne_eqb, leb-true}
 use Rattle.base.specs.Pick.{pick}
 use Rattle.base.specs.Lists.{every}
 use Rattle.base.proofs.TestLaws.{clash, and_both}
@@ -17,9 +17,13 @@ use Rattle.megaco.specs.declared.Block.{Block}
 
 -- ---- a packet
 
-pub apart : (a b r : ℕ) → (r + b) % 2 ^ 32 ≡ a → r < 2 ^ 32 → b < 2 ^ 32 → r ≡ difference a b
+pub apart : (a b : ℕ) → b < 4294967296 → difference a b ≡ (a + (4294967296 - b)) % 4294967296
 unfolding difference
-apart a b r e h k = omega arith
+apart a b h = let e : a + 4294967296 - b ≡ a + (4294967296 - b) = omega arith in rw e
+
+pub one_more_held : (n : ℕ) → n < 4294967296 → one_more n ≡ min (n + 1) 4294967295
+unfolding one_more pick
+one_more_held n h = grind arith
 
 pub size_small : (d : ℕ) → d < 2 ^ 31 → d ≡ size_of d
 unfolding size_of pick
@@ -29,22 +33,19 @@ pub size_large : (d r : ℕ) → 2 ^ 31 ≤ d → r ≡ 2 ^ 32 - d → r ≡ siz
 unfolding size_of pick
 size_large d r h e = rw (le-ltb d (2 ^ 31) h) e
 
-module _ (packets transit jitter arrival stamp : ℕ) where
-  abbrev x : Block
-  x = record { packets = packets; transit = transit; jitter = jitter }
-
-  pub stays : most_jitter < jitter → x ≡ updated x arrival stamp
+module _ (x : Block) (arrival stamp : ℕ) where
+  pub stays : most_jitter < x.jitter → x ≡ updated x arrival stamp
   unfolding updated pick
-  stays h = rw (lt-ltb most_jitter jitter h)
+  stays h = rw (lt-ltb most_jitter x.jitter h)
 
-  pub first : (t : ℕ) → jitter ≤ most_jitter → t ≡ difference arrival stamp → packets ≡ 0 → record { packets = 1; transit = t; jitter = 0 } ≡ updated x arrival stamp
+  pub first : (t : ℕ) → x.jitter ≤ most_jitter → t ≡ difference arrival stamp → x.packets ≡ 0 → record { packets = 1; transit = t; jitter = 0 } ≡ updated x arrival stamp
   unfolding updated pick
-  first t h e z = rw (le-ltb most_jitter jitter h, z, e)
+  first t h e z = rw (le-ltb most_jitter x.jitter h, z, e)
 
-  pub next : (t a d j n : ℕ) → jitter ≤ most_jitter → t ≡ difference arrival stamp → (packets ≡ 0 → ⊥) → a ≡ difference t transit → d ≡ size_of a → j ≡ jitter_after jitter d → n ≡ one_more packets
+  pub next : (t a d j n : ℕ) → x.jitter ≤ most_jitter → t ≡ difference arrival stamp → (x.packets ≡ 0 → ⊥) → a ≡ difference t x.transit → d ≡ size_of a → j ≡ jitter_after x.jitter d → n ≡ one_more x.packets
       → record { packets = n; transit = t; jitter = j } ≡ updated x arrival stamp
   unfolding updated pick
-  next t a d j n h e z f g k i = rw (le-ltb most_jitter jitter h, ne_eqb packets 0 z, ← e, ← f, ← g, ← k, ← i)
+  next t a d j n h e z f g k i = rw (le-ltb most_jitter x.jitter h, ne_eqb x.packets 0 z, ← e, ← f, ← g, ← k, ← i)
 
 -- ---- blocks in the lent words
 

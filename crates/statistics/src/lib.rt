@@ -15,16 +15,25 @@ pub const BLOCK_WORDS: usize = 4 * EPHEMERALS as usize;
 // How many blocks are looked at together: so many that the loop over them stays a loop, and the test for 0 takes several words at a time.
 const TOGETHER: usize = 16;
 
+// A block that has counted no packet.
+const NO_PACKETS: Block = Block {
+    packets: 0,
+    transit: 0,
+    jitter: 0,
+};
+
 // ---- a packet
 
 // The difference of two times, modulo 2^32.
+#[tactic(auto, using(crate::proofs::BlockLaws::apart))]
 fn difference(a: u32, b: u32) -> u32
     ensures { result ≡ difference a b }
 {
-    std::num::wrapping_sub_u32(a, b)
+    a.wrapping_sub(b)
 }
 
 // The size of a difference read as signed.
+#[tactic(auto, using(crate::proofs::BlockLaws::size_small, crate::proofs::BlockLaws::size_large, std::proofs::Common::arith, std::proofs::Common::rules))]
 fn size_of(d: u32) -> u32
     ensures { result ≡ size_of d }
 {
@@ -35,6 +44,7 @@ fn size_of(d: u32) -> u32
 }
 
 // The jitter after a difference of size d.
+#[tactic(auto, using(std::proofs::Common::refl, std::proofs::Common::rules), unfolding(megaco::specs::Blocks::jitter_after))]
 fn jitter_after(j: u64, d: u32) -> u64
     requires { j ≤ 2 ^ 35 }
     ensures { result ≡ jitter_after j d }
@@ -43,40 +53,34 @@ fn jitter_after(j: u64, d: u32) -> u64
 }
 
 // One more packet, as far as they are counted.
+#[tactic(auto, using(crate::proofs::BlockLaws::one_more_held))]
 fn one_more(packets: u32) -> u32
     ensures { result ≡ one_more packets }
 {
-    if packets < 4294967295 {
-        return packets + 1;
-    }
-    packets
+    packets.saturating_add(1)
 }
 
-// The figures after a packet, on plain numbers.
-fn updated(packets: u32, transit: u32, jitter: u64, arrival: u32, stamp: u32) -> Block
-    ensures { result ≡ updated (record { packets = packets; transit = transit; jitter = jitter }) arrival stamp }
+// The figures after a packet.
+#[tactic(auto, using(crate::proofs::BlockLaws::stays, crate::proofs::BlockLaws::first, crate::proofs::BlockLaws::next))]
+fn updated(x: Block, arrival: u32, stamp: u32) -> Block
+    ensures { result ≡ updated x arrival stamp }
 {
-    if 34359738368 < jitter {
-        return Block {
-            packets: packets,
-            transit: transit,
-            jitter: jitter,
-        };
+    if 34359738368 < x.jitter {
+        return x;
     }
     let t = difference(arrival, stamp);
-    if packets == 0 {
+    if x.packets == 0 {
         return Block {
             packets: 1,
             transit: t,
             jitter: 0,
         };
     }
-    let d = size_of(difference(t, transit));
-    let j = jitter_after(jitter, d);
+    let d = size_of(difference(t, x.transit));
     Block {
-        packets: one_more(packets),
+        packets: one_more(x.packets),
         transit: t,
-        jitter: j,
+        jitter: jitter_after(x.jitter, d),
     }
 }
 
@@ -84,7 +88,7 @@ fn updated(packets: u32, transit: u32, jitter: u64, arrival: u32, stamp: u32) ->
 pub fn update(block: &mut Block, arrival: u32, stamp: u32)
     ensures { block.new ≡ updated block.old arrival stamp }
 {
-    *block = updated(block.packets, block.transit, block.jitter, arrival, stamp);
+    *block = updated(*block, arrival, stamp);
 }
 
 // A block by value after a packet: it is lent to `update`.
@@ -99,6 +103,7 @@ fn after_packet(x: Block, arrival: u32, stamp: u32) -> Block
 // ---- blocks in the lent words
 
 // Block k; past the end all figures are 0.
+#[tactic(auto, using(crate::proofs::BlockLaws::block_read, crate::proofs::BlockLaws::block_past, std::proofs::Common::rules))]
 pub fn block_at(blocks: &[u32], k: usize) -> Block
     ensures { result ≡ block_at k blocks.now }
 {
@@ -111,14 +116,11 @@ pub fn block_at(blocks: &[u32], k: usize) -> Block
             jitter: low as u64 + 4294967296 * high as u64,
         };
     }
-    Block {
-        packets: 0,
-        transit: 0,
-        jitter: 0,
-    }
+    NO_PACKETS
 }
 
 // Sets block k; past the end it changes nothing.
+#[tactic(auto, using(crate::proofs::BlockLaws::block_put, crate::proofs::BlockLaws::block_beyond, std::proofs::Common::rules))]
 pub fn put_block(blocks: &mut [u32], k: usize, x: Block)
     ensures { blocks.new ≡ with_block k x blocks.old }
 {
@@ -131,6 +133,7 @@ pub fn put_block(blocks: &mut [u32], k: usize, x: Block)
 }
 
 // Block k after a packet: read, lent to `update`, put back.
+#[tactic(auto, using(crate::proofs::BlockLaws::packet_counted, std::proofs::Common::rules))]
 pub fn count_packet(blocks: &mut [u32], k: usize, arrival: u32, stamp: u32)
     ensures { blocks.new ≡ with_block k (updated (block_at k blocks.old) arrival stamp) blocks.old }
 {
@@ -140,21 +143,18 @@ pub fn count_packet(blocks: &mut [u32], k: usize, arrival: u32, stamp: u32)
 }
 
 // A new ephemeral starts at zero: what an attempt that is done does to the blocks.
+#[tactic(auto, using(crate::proofs::BlockLaws::first_below, crate::proofs::BlockLaws::renewed_one, crate::proofs::BlockLaws::renewed_none, std::proofs::Common::rules))]
 pub fn renew(blocks: &mut [u32], op: Op, lines: u32, i: usize)
     ensures { blocks.new ≡ cleared (renews op lines i) blocks.old }
 {
     let first = table::line_terminations(lines);
     if op.is_add() & (first <= i) {
-        let none = Block {
-            packets: 0,
-            transit: 0,
-            jitter: 0,
-        };
-        put_block(blocks, i - first, none);
+        put_block(blocks, i - first, NO_PACKETS);
     }
 }
 
 // The jitter that is reported.
+#[tactic(auto, using(std::proofs::Common::refl), unfolding(megaco::specs::Blocks::reported))]
 pub fn reported(x: Block) -> u64
     ensures { result ≡ reported x }
 {
@@ -164,6 +164,7 @@ pub fn reported(x: Block) -> u64
 // ---- the ephemeral
 
 // Whether `R/n` is one of 64 and exists.
+#[tactic(auto, using(crate::proofs::BlockLaws::above_none, crate::proofs::BlockLaws::is_there, crate::proofs::BlockLaws::not_one, std::proofs::Common::rules))]
 pub fn is_present(lines: u32, n: u32, table: &[u32]) -> bool
     ensures { result ≡ is_present lines n table.now }
 {
@@ -176,6 +177,7 @@ pub fn is_present(lines: u32, n: u32, table: &[u32]) -> bool
 
 // ---- soundness
 
+#[tactic(auto, using(crate::proofs::BlockLaws::block_tested))]
 fn is_block_sound(x: Block) -> bool
     ensures { result ≡ block_is_sound x }
 {
@@ -183,6 +185,7 @@ fn is_block_sound(x: Block) -> bool
 }
 
 // Sixteen blocks from block k on: most often none has counted a packet, and zeros are sound.
+#[tactic(auto, using(crate::proofs::BlockLaws::sixteen_begins, crate::proofs::BlockLaws::sixteen_quiet, crate::proofs::BlockLaws::sound_on, crate::proofs::BlockLaws::sound_stops, crate::proofs::BlockLaws::sound_ends))]
 fn are_sound(blocks: &[u32], k: usize) -> bool
     requires { (length blocks.now ≡ 256) × (k ≤ 48) }
     ensures { result ≡ sound_from 16 k blocks.now }
@@ -193,11 +196,8 @@ fn are_sound(blocks: &[u32], k: usize) -> bool
     if first & second {
         return true;
     }
-    let mut i: usize = 0;
-    while i < TOGETHER {
-        if is_block_sound(block_at(blocks, k + i)) {
-            i += 1;
-        } else {
+    for i in 0..TOGETHER {
+        if !is_block_sound(block_at(blocks, k + i)) {
             return false;
         }
     }
@@ -205,17 +205,15 @@ fn are_sound(blocks: &[u32], k: usize) -> bool
 }
 
 // 64 blocks, each one sound.
+#[tactic(auto, using(crate::proofs::BlockLaws::wrong_size, crate::proofs::BlockLaws::sound_begins, crate::proofs::BlockLaws::sixteen_on, crate::proofs::BlockLaws::sixteen_stops, crate::proofs::BlockLaws::sixteen_ends))]
 pub fn is_sound(blocks: &[u32]) -> bool
     ensures { result ≡ blocks_are_sound blocks.now }
 {
     if blocks.len() != BLOCK_WORDS {
         return false;
     }
-    let mut g: usize = 0;
-    while g < EPHEMERALS as usize / TOGETHER {
-        if are_sound(blocks, TOGETHER * g) {
-            g += 1;
-        } else {
+    for g in 0..EPHEMERALS as usize / TOGETHER {
+        if !are_sound(blocks, TOGETHER * g) {
             return false;
         }
     }

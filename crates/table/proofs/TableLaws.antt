@@ -2,16 +2,20 @@
 use Prim.Native.Nat.{ℕ, zero, suc, ◌+◌, ◌-◌, ◌*◌, ◌/◌, ◌%◌, ◌<◌, ◌≤◌, min}
 use mathlib.Core.Path.{◌≡◌, refl, sym, ap, ◌∙◌}
 use mathlib.Core.List.{List, [], ◌∷◌}
-use mathlib.Core.Bool.{Bool, true, false}
+use mathlib.Core.Bool.{Bool, true, false, not, cond}
 use native.Mathlib.Numerals.{add-one}
 use native.Mathlib.Nat.{zero-add, suc-add, sub-zero}
 use native.Mathlib.Omega.{arith}
-use lib.ListN.{length, get_or, set, take, drop, length-set, drop_of_length-le, get_or-eq_default}
-use lib.Seq.{drop-cons, set_out, take-nil, take_all}
+use lib.ListN.{length, get_or, set, take, drop, length-set, get_or-eq_default}
+use lib.Seq.{set_out, take-nil, take_all}
 use lib.Dec.{leb, eqb}
+use Rattle.std.proofs.Common.{Option, nat_lt}
 use mir.Syntax.{w32}
 use mir.Val.{Fits, bool_byte}
-use borrow.Author.Tests.{eq-eqb, ne_eqb, leb-true, leb-false}
+use Rattle.std.specs.List.{sum_by, position, position_or_len}
+use Rattle.std.specs.Option.{MatchOption}
+use Rattle.std.proofs.lemmas.List.Sums.{sum_by-cons}
+use borrow.Author.Tests.{leb-true, leb-false}
 use Rattle.base.specs.Pick.{pick}
 use Rattle.base.specs.Lists.{count, lowest_absent}
 use Rattle.megaco.specs.Table.{regions, total, start_of, place, words, prop, flow, speech, cell, low_flow, high_flow, speech_word, address, get, write, store, apply, line_terminations, terminations, fitted, record_words, known, members, place_in, free_context}
@@ -57,8 +61,17 @@ module _ (t : List ℕ) (c k : ℕ) (e : k ≡ address (fitted t) (cell (flow (l
   pub high_read : (r : ℕ) → r ≡ get_or t (k + 1) 0 → r ≡ get t (cell (flow (high_flow c)))
   high_read r p = p ∙ ap (λ (m : ℕ). get_or t m 0) next_flow
 
-  pub high_put : (u : List ℕ) (v : ℕ) → u ≡ set t (k + 1) v → u ≡ store (write (cell (flow (high_flow c))) v) t
+  high_put : (u : List ℕ) (v : ℕ) → u ≡ set t (k + 1) v → u ≡ store (write (cell (flow (high_flow c))) v) t
   high_put u v p = p ∙ ap (λ (m : ℕ). set t m v) next_flow
+
+-- both words, the first one first
+pub flows_put : (t u z : List ℕ) (c k a b : ℕ) → k ≡ address (fitted t) (cell (flow (low_flow c))) → u ≡ set t k a → z ≡ set u (k + 1) b
+    → z ≡ apply (write (cell (flow (low_flow c))) a ∷ write (cell (flow (high_flow c))) b ∷ []) t
+unfolding apply
+flows_put t u z c k a b e p q =
+    let l : length u ≡ length t = ap length p ∙ length-set t k a in
+    let f : k ≡ address (fitted u) (cell (flow (low_flow c))) = rw (fitted_same u t l) e in
+    high_put u c k f z b q ∙ ap (store (write (cell (flow (high_flow c))) b)) (p ∙ ap (λ (m : ℕ). set t m a) e)
 
 -- ---- where speech goes
 
@@ -86,19 +99,30 @@ word_put t u i side j k v s h e p = p ∙ by (leb (i - L) 127) refl
         let o : 127 < i - L = leb-false (i - L) 127 q in
         set_out t (k + j) v (omega (arith, e, o, table_end t (8 * 127 + 4 * side + j) (omega arith))) ∙ sym (set_out t (place 5 (regions (fitted t)) w) v (table_end t w (omega (arith, o))))
 
-pub side_put : (t t₁ t₂ t₃ t₄ : List ℕ) (i side k f a p q : ℕ) → side < 2 → k ≡ place 5 (regions (fitted t)) (8 * min (i - line_terminations (fitted t)) 127 + 4 * side)
-    → t₁ ≡ set t k f → t₂ ≡ set t₁ (k + 1) a → t₃ ≡ set t₂ (k + 2) p → t₄ ≡ set t₃ (k + 3) q → t₄ ≡ apply (side_writes i side f a p q []) t
-unfolding side_writes apply
-side_put t t₁ t₂ t₃ t₄ i side k f a p q s e x₁ x₂ x₃ x₄ =
-    let z : k ≡ k + 0 = omega arith in
-    let y₁ = word_put t t₁ i side 0 k f s (omega arith) e (x₁ ∙ ap (λ (n : ℕ). set t n f) z) in
-    let l₁ : length t₁ ≡ length t = ap length x₁ ∙ length-set t k f in
-    let l₂ : length t₂ ≡ length t = ap length x₂ ∙ length-set t₁ (k + 1) a ∙ l₁ in
-    let l₃ : length t₃ ≡ length t = ap length x₃ ∙ length-set t₂ (k + 2) p ∙ l₂ in
-    let y₂ = word_put t₁ t₂ i side 1 k a s (omega arith) (rw (fitted_same t₁ t l₁) e) x₂ in
-    let y₃ = word_put t₂ t₃ i side 2 k p s (omega arith) (rw (fitted_same t₂ t l₂) e) x₃ in
-    let y₄ = word_put t₃ t₄ i side 3 k q s (omega arith) (rw (fitted_same t₃ t l₃) e) x₄ in
-    y₄ ∙ ap (store (write (cell (speech (speech_word i side 3))) q)) (y₃ ∙ ap (store (write (cell (speech (speech_word i side 2))) p)) (y₂ ∙ ap (store (write (cell (speech (speech_word i side 1))) a)) y₁))
+-- the four words in turn
+module _ (t : List ℕ) (i side : ℕ) (words : List ℕ) where
+  unfoldable pub written : ℕ → List ℕ
+  written j = apply (take j (side_writes i side (get_or words 0 0) (get_or words 1 0) (get_or words 2 0) (get_or words 3 0) [])) t
+
+  pub side_start : t ≡ written 0
+  unfolding written apply
+  side_start = refl
+
+  pub side_step : (t₁ u : List ℕ) (j k : ℕ) → side < 2 → j < 4 → k ≡ place 5 (regions (fitted t)) (8 * min (i - line_terminations (fitted t)) 127 + 4 * side)
+      → length t₁ ≡ length t → t₁ ≡ written j → u ≡ set t₁ (k + j) (get_or words j 0) → u ≡ written (j + 1)
+  unfolding written side_writes apply
+  side_step t₁ u j k s h e l f p = rw add-one (by j h f (word_put t₁ u i side j k (get_or words j 0) s h (rw (fitted_same t₁ t l) e) p))
+    where
+      by : (j : ℕ) → j < 4 → t₁ ≡ written j → u ≡ store (write (cell (speech (speech_word i side j))) (get_or words j 0)) t₁ → u ≡ written (suc j)
+      by zero h f q = q ∙ rw f
+      by (suc zero) h f q = q ∙ rw f
+      by (suc (suc zero)) h f q = q ∙ rw f
+      by (suc (suc (suc zero))) h f q = q ∙ rw f
+      by (suc (suc (suc (suc j)))) h f q = absurd (omega arith)
+
+  pub side_end : (u : List ℕ) (j : ℕ) → 4 ≤ j → j ≤ 4 → u ≡ written j → u ≡ apply (side_writes i side (get_or words 0 0) (get_or words 1 0) (get_or words 2 0) (get_or words 3 0) []) t
+  unfolding written side_writes
+  side_end u j h k e = let m : j ≡ 4 = omega arith in rw m at e
 
 -- a test as a number
 bit_pick : (b : Bool) → bool_byte b ≡ pick b 1 0
@@ -106,31 +130,31 @@ unfolding pick
 bit_pick true = refl
 bit_pick false = refl
 
--- n of the words before i are c
-module _ (c : ℕ) (l : List ℕ) (i n q : ℕ) (inv : q ≡ n + count c (drop i l)) where
-  pub count_on : i < length l → q ≡ n + bool_byte (eqb (get_or l i 0) c) + count c (drop (i + 1) l)
-  unfolding count
-  count_on h =
-      let step : count c (drop i l) ≡ bool_byte (eqb (get_or l i 0) c) + count c (drop (i + 1) l) = rw (drop-cons l i 0, add-one, bit_pick) in
-      omega arith
+-- a count is a sum of tests
+count_sum : (c : ℕ) (l : List ℕ) → sum_by (λ w. bool_byte (eqb w c)) l ≡ count c l
+unfolding count
+count_sum c [] = refl
+count_sum c (x ∷ l) = sum_by-cons (λ w. bool_byte (eqb w c)) x l ∙ rw (bit_pick, count_sum c l)
 
-  pub count_end : length l ≤ i → n ≡ q
-  unfolding count
-  count_end h = let none : count c (drop i l) ≡ 0 = rw (drop_of_length-le l h) in omega arith
+pub count_is : (c : ℕ) (l : List ℕ) (r : ℕ) → r ≡ sum_by (λ w. bool_byte (eqb w c)) l → r ≡ count c l
+count_is c l r e = e ∙ count_sum c l
 
--- no word before i is 0
-module _ (l : List ℕ) (i q : ℕ) (inv : q ≡ lowest_absent (i + 1) (drop i l)) where
-  pub absent_on : i < length l → (get_or l i 0 ≡ 0 → ⊥) → q ≡ lowest_absent (i + 1 + 1) (drop (i + 1) l)
-  unfolding lowest_absent pick
-  absent_on h n = inv ∙ rw (drop-cons l i 0, ne_eqb _ _ n, add-one)
+-- the number of the first 0 is one more than its place
+absent_place : (n : ℕ) (l : List ℕ) → lowest_absent n l ≡ cond (nat_lt (position_or_len (λ w. eqb w 0) l) (length l)) (n + position_or_len (λ w. eqb w 0) l) 0
+unfolding lowest_absent pick
+absent_place n [] = refl
+absent_place n (x ∷ l) = by (eqb x 0) (absent_place (n + 1) l)
+  where
+    p : ℕ
+    p = position_or_len (λ w. eqb w 0) l
 
-  pub absent_here : i < length l → get_or l i 0 ≡ 0 → i + 1 ≡ q
-  unfolding lowest_absent pick
-  absent_here h e = sym (inv ∙ rw (drop-cons l i 0, eq-eqb _ _ e))
+    by : (t : Bool) → lowest_absent (n + 1) l ≡ cond (nat_lt p (length l)) (n + 1 + p) 0
+        → pick t n (lowest_absent (n + 1) l) ≡ cond (nat_lt (cond (not t) (1 + p) 0) (suc (length l))) (n + cond (not t) (1 + p) 0) 0
+    by true e = grind arith
+    by false e = grind arith
 
-  pub absent_end : length l ≤ i → 0 ≡ q
-  unfolding lowest_absent
-  absent_end h = sym (inv ∙ rw (drop_of_length-le l h))
+pub absent_is : (l : List ℕ) (o : Option ℕ) (r : ℕ) → o ≡ position (λ w. eqb w 0) l → MatchOption o (r ≡ 0) (λ i. r ≡ i + 1) → r ≡ lowest_absent 1 l
+absent_is l o r e h = grind (arith, absent_place 1 l)
 
 pick_at_most : (b : Bool) (x y m : ℕ) → x ≤ m → y ≤ m → pick b x y ≤ m
 unfolding pick

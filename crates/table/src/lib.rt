@@ -1,13 +1,16 @@
 // The lent table, whose size tells the lines fitted, read and written by the number of a termination and by the number of a context.
 #![tactic(auto)]
 
-ghost use Rattle.std.specs.Prelude.{◌≡◌, ◌+◌, ◌-◌, ◌*◌, ◌/◌, ◌^◌, ◌<◌, ◌≤◌, min, true, [], ◌++◌, length, get_or, set};
+ghost use Rattle.std.specs.Prelude.{◌≡◌, ◌+◌, ◌-◌, ◌*◌, ◌/◌, ◌^◌, ◌<◌, ◌≤◌, min, true, [], ◌∷◌, ◌++◌, length, get_or, set, position, eqb};
 ghost use Rattle.base.specs.Pick.{pick};
 ghost use Rattle.base.specs.Lists.{count, lowest_absent};
 ghost use Rattle.megaco.specs.Map.{digits, with_digit, in_use};
 ghost use Rattle.megaco.specs.Attempt.{side_writes};
 ghost use Rattle.megaco.specs.Names.{within};
 ghost use Rattle.megaco.specs.Table.{most_lines, line_terminations, terminations, regions, start_of, place, words, fitted, Sized, prop, rec, used, flow, low_flow, high_flow, ctx, cell, address, get, write, store, apply, places, is_ephemeral, exists, known, members, place_in, free_context, free_ephemeral, used_ephemerals};
+ghost use Rattle.table.specs.Sides.{side_number};
+
+use megaco::Side;
 
 // The most lines that can be fitted.
 pub const MOST_LINES: u32 = 16;
@@ -42,20 +45,19 @@ pub const LINE: usize = 2 * CHANNELS;
 // ---- sizes
 
 // Whether there can be so many lines: 1 to 16.
+#[tactic(auto, unfolding(megaco::specs::Names::within))]
 pub fn are_fitted(lines: u32) -> bool
     ensures { result ≡ within lines most_lines }
 {
-    (0 < lines) & (lines <= MOST_LINES)
+    (1..=MOST_LINES).contains(&lines)
 }
 
 // The lines fitted, as the table's size tells.
+#[tactic(auto, unfolding(megaco::specs::Table::fitted))]
 fn count_lines(table: &[u32]) -> usize
     ensures { (result ≡ fitted table.now) × (62 * result ≤ length table.now) }
 {
-    if table.len() < NO_LINES {
-        return 0;
-    }
-    (table.len() - NO_LINES) / LINE
+    table.len().saturating_sub(NO_LINES) / LINE
 }
 
 pub fn lines(table: &[u32]) -> u32
@@ -82,6 +84,8 @@ pub fn line_terminations(lines: u32) -> usize
 // ---- regions: 0 the contexts, 1 the properties, 2 the records, 3 the map, 4 the flows, 5 where speech goes; behind them the table ends
 
 // Where a region starts in a table of so many lines. No other function adds the regions' sizes.
+// A region stays a number: `region_start` and `start_by_lines` are documented by it, and an enum would take fewer values.
+#[tactic(auto, using(crate::proofs::TableLaws::end_start))]
 fn start_of(lines: usize, k: usize) -> usize
     requires { lines ≤ 2 ^ 57 }
     ensures { (result ≡ start_of lines k) × (result ≤ words lines) }
@@ -111,6 +115,7 @@ pub fn words_of(lines: u32) -> usize
     start_by_lines(lines, 6)
 }
 
+#[tactic(auto, using(crate::proofs::TableLaws::start_by))]
 pub fn region_start(table: &[u32], k: usize) -> usize
     ensures { (result ≡ start_of (fitted table.now) k) × (result ≤ words 0 + length table.now) }
 {
@@ -118,6 +123,7 @@ pub fn region_start(table: &[u32], k: usize) -> usize
 }
 
 // Where a region's word i stands.
+#[tactic(auto, using(crate::proofs::TableLaws::word_stands))]
 fn word_place(table: &[u32], k: usize, i: usize) -> usize
     requires { i ≤ 2 ^ 62 }
     ensures { result ≡ place k (regions (fitted table.now)) i }
@@ -129,7 +135,7 @@ fn word_place(table: &[u32], k: usize, i: usize) -> usize
 fn context_number(c: u32) -> usize
     ensures { result ≡ c - 1 }
 {
-    if c == 0 { 0 } else { c as usize - 1 }
+    (c as usize).saturating_sub(1)
 }
 
 // ---- one word
@@ -138,13 +144,15 @@ fn context_number(c: u32) -> usize
 pub fn word_at(table: &[u32], k: usize) -> u32
     ensures { result ≡ get_or table.now k 0 }
 {
-    if k < table.len() { table[k] } else { 0 }
+    table.get(k).copied().unwrap_or(0)
 }
 
 // Sets the word at a place; past the end it changes nothing.
+#[tactic(auto, using(crate::proofs::TableLaws::store_past))]
 pub fn put_word(table: &mut [u32], k: usize, v: u32)
     ensures { table.new ≡ set table.old k v }
 {
+    // Kept: tried as `get_mut`, the proof did not close (std says nothing of what the slice is afterwards).
     if k < table.len() {
         table[k] = v;
     }
@@ -157,7 +165,7 @@ fn record_place(table: &[u32], c: u32) -> usize
     word_place(table, 2, context_number(c))
 }
 
-// ---- words by number
+// ---- words by number: each kind finds its place in a way of its own, so no one function with a kind is plainer
 
 // The context that a termination stands in, 0 for null.
 pub fn context_of(table: &[u32], i: usize) -> u32
@@ -173,6 +181,7 @@ pub fn set_context(table: &mut [u32], i: usize, c: u32)
 }
 
 // The properties of a termination: mode + 8 × state.
+#[tactic(auto, using(crate::proofs::TableLaws::read_beyond))]
 pub fn property_of(table: &[u32], i: usize) -> u32
     ensures { result ≡ get table.now (cell (prop i)) }
 {
@@ -184,6 +193,7 @@ pub fn property_of(table: &[u32], i: usize) -> u32
     }
 }
 
+#[tactic(auto, using(crate::proofs::TableLaws::store_beyond))]
 pub fn set_property(table: &mut [u32], i: usize, word: u32)
     ensures { table.new ≡ store (write (cell (prop i)) word) table.old }
 {
@@ -217,39 +227,28 @@ fn flow_place(table: &[u32], c: u32) -> usize
     word_place(table, 4, 2 * context_number(c))
 }
 
-// Rows 0 to 3 of a context's flows.
-pub fn low_flow(table: &[u32], c: u32) -> u32
-    ensures { result ≡ get table.now (cell (flow (low_flow c))) }
+// The two words of a context's flows: rows 0 to 3, and rows 4 to 7.
+#[tactic(auto, using(crate::proofs::TableLaws::high_read))]
+pub fn flows_of(table: &[u32], c: u32) -> [u32; 2]
+    ensures { result ≡ get table.now (cell (flow (low_flow c))) ∷ get table.now (cell (flow (high_flow c))) ∷ [] }
 {
     let k = flow_place(table, c);
-    word_at(table, k)
+    [word_at(table, k), word_at(table, k + 1)]
 }
 
-// Rows 4 to 7.
-pub fn high_flow(table: &[u32], c: u32) -> u32
-    ensures { result ≡ get table.now (cell (flow (high_flow c))) }
+#[tactic(auto, using(crate::proofs::TableLaws::flows_put))]
+pub fn set_flows(table: &mut [u32], c: u32, words: [u32; 2])
+    ensures { table.new ≡ apply (write (cell (flow (low_flow c))) (get_or words 0 0) ∷ write (cell (flow (high_flow c))) (get_or words 1 0) ∷ []) table.old }
 {
     let k = flow_place(table, c);
-    word_at(table, k + 1)
-}
-
-pub fn set_low_flow(table: &mut [u32], c: u32, v: u32)
-    ensures { table.new ≡ store (write (cell (flow (low_flow c))) v) table.old }
-{
-    let k = flow_place(table, c);
-    put_word(table, k, v);
-}
-
-pub fn set_high_flow(table: &mut [u32], c: u32, v: u32)
-    ensures { table.new ≡ store (write (cell (flow (high_flow c))) v) table.old }
-{
-    let k = flow_place(table, c);
-    put_word(table, k + 1, v);
+    put_word(table, k, words[0]);
+    put_word(table, k + 1, words[1]);
 }
 
 // ---- the map of the ephemerals
 
-// The lowest number absent in a map, 0 if there is none.
+// The lowest number absent in a map, 0 if there is none: C reads this number.
+#[tactic(auto, using(crate::proofs::MapLaws::found, crate::proofs::MapLaws::full))]
 pub fn free_in(map: u64) -> u32
     ensures { result ≡ lowest_absent 1 (digits 64 map) }
 {
@@ -261,6 +260,7 @@ pub fn free_in(map: u64) -> u32
 }
 
 // How many are in use in a map.
+#[tactic(auto, using(crate::proofs::MapLaws::all_used))]
 pub fn used_in(map: u64) -> u32
     ensures { result ≡ in_use (digits 64 map) }
 {
@@ -268,6 +268,7 @@ pub fn used_in(map: u64) -> u32
 }
 
 // Two halves as one number.
+#[tactic(auto, using(crate::proofs::MapLaws::halves))]
 fn joined(low: u32, high: u32) -> u64
     ensures { digits 64 result ≡ digits 32 low ++ digits 32 high }
 {
@@ -275,6 +276,7 @@ fn joined(low: u32, high: u32) -> u64
 }
 
 // The map as one number.
+#[tactic(auto, using(crate::proofs::MapLaws::map_by))]
 pub fn map_of(table: &[u32]) -> u64
     ensures { digits 64 result ≡ places table.now }
 {
@@ -283,6 +285,7 @@ pub fn map_of(table: &[u32]) -> u64
 }
 
 // A word with one binary digit set or cleared.
+#[tactic(auto, using(crate::proofs::MapLaws::still_on, crate::proofs::MapLaws::still_off, crate::proofs::MapLaws::within, crate::proofs::MapLaws::cleared, crate::proofs::MapLaws::fits, crate::proofs::MapLaws::put))]
 fn with_digit(w: u32, b: u32, on: bool) -> u32
     requires { b < 32 }
     ensures { result ≡ with_digit b (pick on 1 0) w }
@@ -304,14 +307,11 @@ fn with_digit(w: u32, b: u32, on: bool) -> u32
 fn ephemeral_number(table: &[u32], i: usize) -> usize
     ensures { result ≡ i - line_terminations (fitted table.now) }
 {
-    let first = CHANNELS * count_lines(table);
-    if i < first {
-        return 0;
-    }
-    i - first
+    i.saturating_sub(CHANNELS * count_lines(table))
 }
 
 // Marks an ephemeral in the map as existing or absent.
+#[tactic(auto, using(crate::proofs::MapLaws::put_digit))]
 pub fn set_used(table: &mut [u32], i: usize, on: bool)
     ensures { table.new ≡ store (write (cell (used i)) (pick on 1 0)) table.old }
 {
@@ -326,33 +326,32 @@ pub fn set_used(table: &mut [u32], i: usize, on: bool)
 // The number of an ephemeral in the region of speech: from 127 on, past the table's end, they are not told apart.
 const MOST_NUMBER: usize = 127;
 
-// Where the first of the four words of Local (side 0) or Remote (side 1) stands.
-fn side_place(table: &[u32], i: usize, side: usize) -> usize
-    requires { side < 2 }
-    ensures { (result ≡ place 5 (regions (fitted table.now)) (8 * min (i - line_terminations (fitted table.now)) 127 + 4 * side)) × (result ≤ 4096 + length table.now) }
+fn side_number(side: Side) -> usize
+    ensures { (result ≡ side_number side) × (result < 2) }
 {
-    let k = numbers::low(ephemeral_number(table, i), MOST_NUMBER);
-    region_start(table, 5) + (8 * k + 4 * side)
+    match side {
+        Side::OfLocal => 0,
+        Side::OfRemote => 1,
+    }
+}
+
+// Where the first of the four words of Local or Remote stands.
+fn side_place(table: &[u32], i: usize, side: Side) -> usize
+    ensures { (result ≡ place 5 (regions (fitted table.now)) (8 * min (i - line_terminations (fitted table.now)) 127 + 4 * side_number side)) × (result ≤ 4096 + length table.now) }
+{
+    let k = ephemeral_number(table, i).min(MOST_NUMBER);
+    region_start(table, 5) + (8 * k + 4 * side_number(side))
 }
 
 // Sets the four words of Local or Remote: 1, the address, the port and the payload type, or four zeros.
-pub fn set_side(
-    table: &mut [u32],
-    i: usize,
-    side: usize,
-    flag: u32,
-    address: u32,
-    port: u32,
-    payload: u32,
-)
-    requires { side < 2 }
-    ensures { table.new ≡ apply (side_writes i side flag address port payload []) table.old }
+#[tactic(auto, using(crate::proofs::TableLaws::side_start, crate::proofs::TableLaws::side_step))]
+pub fn set_side(table: &mut [u32], i: usize, side: Side, words: [u32; 4])
+    ensures { table.new ≡ apply (side_writes i (side_number side) (get_or words 0 0) (get_or words 1 0) (get_or words 2 0) (get_or words 3 0) []) table.old }
 {
     let k = side_place(table, i, side);
-    put_word(table, k, flag);
-    put_word(table, k + 1, address);
-    put_word(table, k + 2, port);
-    put_word(table, k + 3, payload);
+    for (j, word) in words.iter().enumerate() {
+        put_word(table, k + j, *word);
+    }
 }
 
 // ---- what the words tell
@@ -362,16 +361,11 @@ fn count_in(row: &[u32], c: u32) -> u32
     requires { length row.now ≤ 65536 }
     ensures { result ≡ count c row.now }
 {
-    let mut n: u32 = 0;
-    let mut i: usize = 0;
-    while i < row.len() {
-        n += (row[i] == c) as u32;
-        i += 1;
-    }
-    n
+    row.iter().map(|w| u32::from(*w == c)).sum()
 }
 
 // How many terminations stand in a context.
+#[tactic(auto, using(crate::proofs::TableLaws::members_part))]
 pub fn members(table: &[u32], c: u32) -> usize
     requires { Sized table.now }
     ensures { result ≡ members c table.now }
@@ -388,12 +382,13 @@ pub struct Counted {
 }
 
 // How many terminations stand in a context, those with a lower number than i first. The context is one that there can be.
+#[tactic(auto, using(crate::proofs::TableLaws::place_part, crate::proofs::TableLaws::both_parts))]
 pub fn count_members(table: &[u32], c: u32, i: usize) -> Counted
     requires { (Sized table.now) × (known c ≡ true) }
     ensures { (result.place ≡ place_in c i table.now) × (result.members ≡ members c table.now) }
 {
     let n = terminations(table);
-    let k = numbers::low(i, n);
+    let k = i.min(n);
     let before = count_in(&table[0..k], c) as usize;
     let after = count_in(&table[k..n], c) as usize;
     Counted {
@@ -403,39 +398,42 @@ pub fn count_members(table: &[u32], c: u32, i: usize) -> Counted
 }
 
 // Whether there can be such a context.
+#[tactic(auto, unfolding(megaco::specs::Table::known))]
 pub fn is_known(c: u32) -> bool
     ensures { result ≡ known c }
 {
-    (0 < c) & (c <= CONTEXTS)
+    (1..=CONTEXTS).contains(&c)
 }
 
 // The place of a termination among the members of a context.
+#[tactic(auto, using(crate::proofs::TableLaws::known_yes, crate::proofs::TableLaws::place_none))]
 pub fn place_in(table: &[u32], c: u32, i: usize) -> usize
     requires { Sized table.now }
     ensures { result ≡ place_in c i table.now }
 {
     if is_known(c) {
-        let n = count_members(table, c, i);
-        return n.place;
+        count_members(table, c, i).place
+    } else {
+        0
     }
-    0
+}
+
+// The place of the first 0 in a row of words.
+fn first_zero(row: &[u32]) -> Option<usize>
+    ensures { result ≡ position (λ w. eqb w 0) row.now }
+{
+    row.iter().position(|w| *w == 0)
 }
 
 // The number of the first 0 in a row of words, counted from 1; 0 if there is none.
 fn lowest_absent(row: &[u32]) -> usize
     ensures { result ≡ lowest_absent 1 row.now }
 {
-    let mut i: usize = 0;
-    while i < row.len() {
-        if row[i] == 0 {
-            return i + 1;
-        }
-        i += 1;
-    }
-    0
+    first_zero(row).map_or(0, |i| i + 1)
 }
 
-// The lowest number of no context, 0 if there are 128.
+// The lowest number of no context, 0 if there are 128, as the definition `free_context` has it.
+#[tactic(auto, using(crate::proofs::TableLaws::records_fit_lem, crate::proofs::TableLaws::records_part))]
 pub fn free_context(table: &[u32]) -> u32
     requires { Sized table.now }
     ensures { result ≡ free_context table.now }
@@ -445,7 +443,8 @@ pub fn free_context(table: &[u32]) -> u32
     lowest_absent(&table[a..e]) as u32
 }
 
-// The lowest absent ephemeral's n of `R/n`, 0 if there are 64: from the map alone.
+// The lowest absent ephemeral's n of `R/n`, 0 if there are 64, as the definition `free_ephemeral` has it: from the map alone.
+#[tactic(auto, using(crate::proofs::MapLaws::free_by))]
 pub fn free_ephemeral(table: &[u32]) -> u32
     ensures { result ≡ free_ephemeral table.now }
 {
@@ -453,12 +452,14 @@ pub fn free_ephemeral(table: &[u32]) -> u32
 }
 
 // How many ephemerals exist.
+#[tactic(auto, using(crate::proofs::MapLaws::used_by))]
 pub fn used_ephemerals(table: &[u32]) -> u32
     ensures { result ≡ used_ephemerals table.now }
 {
     used_in(map_of(table))
 }
 
+#[tactic(auto, unfolding(megaco::specs::Table::is_ephemeral))]
 pub fn is_ephemeral(lines: u32, i: usize) -> bool
     ensures { result ≡ is_ephemeral lines i }
 {
@@ -466,6 +467,7 @@ pub fn is_ephemeral(lines: u32, i: usize) -> bool
 }
 
 // Whether a termination exists, by its number and its context word.
+#[tactic(auto, unfolding(megaco::specs::Table::exists, megaco::specs::Table::is_ephemeral))]
 pub fn exists(lines: u32, i: usize, word: u32) -> bool
     ensures { result ≡ exists lines i word }
 {

@@ -23,61 +23,38 @@ fn main(rt: HostRuntime) {
 
 // ---- lines
 
-fn run(rt: &impl Print, room: &mut [u32], s: &[u8])
-    requires { length room.old ≡ 1523 }
-{
-    let mut a: usize = 0;
-    while a < s.len() {
-        let e = a + program_io::line_length(&s[a..]);
-        program_io::print(rt, &s[a..e]);
-        case(rt, room, &s[a..e]);
+fn run(rt: &impl Print, room: &mut [u32; ROOM], s: &[u8]) {
+    for line in s.split_inclusive(|b| *b == b'\n') {
+        let line = line.strip_suffix(b"\n").unwrap_or(line);
+        program_io::print(rt, line);
+        case(rt, room, line);
         program_io::print(rt, b"\n");
-        a = e + 1;
     }
 }
 
-fn case(rt: &impl Print, room: &mut [u32], line: &[u8])
-    requires { length room.old ≡ 1523 }
-{
-    if line.len() < 2 {
-        return;
+fn case(rt: &impl Print, room: &mut [u32; ROOM], line: &[u8]) {
+    match line {
+        [] | [_] => {}
+        [b'T', ..] => table_case(rt, &mut room[..WORDS], line),
+        [b'W', ..] => length_case(rt, room, number(line, 1)),
+        [_, _, name @ ..] => name_case(rt, name),
     }
-    if line[0] == b'T' {
-        table_case(rt, &mut room[0..WORDS], line);
-        return;
-    }
-    if line[0] == b'W' {
-        length_case(rt, room, number(line, 1));
-        return;
-    }
-    name_case(rt, &line[2..]);
 }
 
-// The number in field k of a line; the fields stand apart by single spaces.
-fn number(line: &[u8], k: u32) -> u32 {
-    let mut field: u32 = 0;
-    let mut n: u64 = 0;
-    let mut i: usize = 0;
-    while i < line.len() {
-        n = number_on(n, field == k, line[i]);
-        field = std::num::wrapping_add_u32(field, (line[i] == b' ') as u32);
-        i += 1;
-    }
-    word(n)
+// The number in field k of a line; the fields stand apart by single spaces. What is no digit does not count.
+fn number(line: &[u8], k: usize) -> u32 {
+    let field = line.split(|b| *b == b' ').nth(k).unwrap_or(&[]);
+    let n = field.iter().fold(0, |n, b| number_on(n, *b));
+    u32::try_from(n).unwrap_or(0)
 }
 
-// A number with one digit more, if the byte is one and counts.
-fn number_on(n: u64, counts: bool, b: u8) -> u64 {
-    if counts & (b'0' <= b) & (b <= b'9') {
-        if n < 1000000000 {
-            return n * 10 + program_io::digit(b) as u64;
-        }
+// A number with one digit more, if the byte is one. (`parse` refuses what is passed over here.)
+fn number_on(n: u64, b: u8) -> u64 {
+    if n < 1000000000 && b.is_ascii_digit() {
+        n * 10 + program_io::digit(b) as u64
+    } else {
+        n
     }
-    n
-}
-
-fn word(n: u64) -> u32 {
-    if n < 4294967296 { n as u32 } else { 0 }
 }
 
 // ---- writing
@@ -94,19 +71,15 @@ fn print_sound(rt: &impl Print, t: &[u32]) {
 
 // Eight terminations from a number on in each of contexts 1, 2, ..
 fn put_eights(t: &mut [u32], from: usize) {
-    let mut i = from;
-    while i < 312 {
+    for i in from..312 {
         table::put_word(t, i, ((i - from) / 8 + 1) as u32);
-        i += 1;
     }
 }
 
 // A termination or more in each of 128 contexts.
 fn put_spread(t: &mut [u32]) {
-    let mut i: usize = 0;
-    while i < 312 {
+    for i in 0..312 {
         table::put_word(t, i, (i % 128 + 1) as u32);
-        i += 1;
     }
 }
 
@@ -130,29 +103,24 @@ fn put_rings(t: &mut [u32]) {
 // 1: busy; 2: 128 contexts; 3: contexts of 8; 4: 64 ephemerals in contexts of 8; 5: the same, each word of their speech 1; else fresh.
 fn start(t: &mut [u32], base: u32) {
     program_io::put_run(t, 0, WORDS, 0);
-    if base == 1 {
-        put_busy(t);
-        return;
-    }
-    if base == 2 {
-        put_spread(t);
-        program_io::put_run(t, 624, 752, 17);
-        program_io::put_run(t, 752, 754, 4294967295);
-        return;
-    }
-    if base == 3 {
-        put_eights(t, 0);
-        program_io::put_run(t, 624, 663, 32);
-        program_io::put_run(t, 752, 754, 4294967295);
-        return;
-    }
-    if base == 4 {
-        put_rings(t);
-        return;
-    }
-    if base == 5 {
-        put_rings(t);
-        program_io::put_run(t, 1010, WORDS, 1);
+    match base {
+        1 => put_busy(t),
+        2 => {
+            put_spread(t);
+            program_io::put_run(t, 624, 752, 17);
+            program_io::put_run(t, 752, 754, 4294967295);
+        }
+        3 => {
+            put_eights(t, 0);
+            program_io::put_run(t, 624, 663, 32);
+            program_io::put_run(t, 752, 754, 4294967295);
+        }
+        4 => put_rings(t),
+        5 => {
+            put_rings(t);
+            program_io::put_run(t, 1010, WORDS, 1);
+        }
+        _ => {}
     }
 }
 
@@ -186,8 +154,7 @@ fn length_case(rt: &impl Print, room: &mut [u32], n: u32) {
 
 // What a name means; of a wildcard, how many its range takes in.
 fn name_case(rt: &impl Print, n: &[u8]) {
-    let r = names::name_of(8, n);
-    match r {
+    match names::name_of(8, n) {
         Name::Termination(i) => program_io::print_number(rt, b": termination ", i as u64),
         Name::Root => program_io::print(rt, b": root"),
         Name::Chosen => program_io::print(rt, b": chosen"),
@@ -199,11 +166,5 @@ fn name_case(rt: &impl Print, n: &[u8]) {
 }
 
 fn in_all(w: Range) -> u64 {
-    let mut n: u64 = 0;
-    let mut i: usize = 0;
-    while i < 312 {
-        n += names::in_range(8, w, i) as u64;
-        i += 1;
-    }
-    n
+    (0..312).filter(|i| names::in_range(8, w, *i)).count() as u64
 }

@@ -7,7 +7,8 @@ ghost use Rattle.targets.specs.Targets.{root_target, free_target, unchosen_targe
 
 use megaco::{Context, Name, Op, Range};
 
-// Whom a command's name means: nobody, with a code; the gateway itself; one termination; those that a wildcard matches.
+// Whom a command's name means: nobody, with a code; the gateway itself; one termination; those that a wildcard matches. Callers match all four at once, so a Result
+// around three of them is no plainer.
 #[derive(Clone, Copy)]
 pub enum Target {
     NoTarget(u32),
@@ -17,6 +18,7 @@ pub enum Target {
 }
 
 // ROOT.
+#[tactic(auto, unfolding(crate::specs::Targets::root_target, base::specs::Pick::pick))]
 fn root_target(op: Op, at: Context, items: bool) -> Target
     ensures { result ≡ root_target op at items }
 {
@@ -33,6 +35,7 @@ fn root_target(op: Op, at: Context, items: bool) -> Target
 }
 
 // `$` and `R/$`, with the lowest absent ephemeral.
+#[tactic(auto, using(crate::proofs::TargetLaws::free_one), unfolding(crate::specs::Targets::free_target, base::specs::Pick::pick))]
 fn free_target(lines: u32, op: Op, n: u32) -> Target
     ensures { result ≡ free_target lines op n }
 {
@@ -45,6 +48,7 @@ fn free_target(lines: u32, op: Op, n: u32) -> Target
     Target::NoTarget(410)
 }
 
+#[tactic(auto, unfolding(crate::specs::Targets::unchosen_target, base::specs::Pick::pick))]
 fn unchosen_target(op: Op) -> Target
     ensures { result ≡ unchosen_target op }
 {
@@ -54,6 +58,7 @@ fn unchosen_target(op: Op) -> Target
     Target::NoTarget(410)
 }
 
+#[tactic(auto, unfolding(crate::specs::Targets::one_target, base::specs::Pick::pick))]
 fn one_target(lines: u32, i: usize, word: u32) -> Target
     ensures { result ≡ one_target lines i word }
 {
@@ -64,6 +69,7 @@ fn one_target(lines: u32, i: usize, word: u32) -> Target
 }
 
 // Test 4.
+#[tactic(auto, using(crate::proofs::TargetLaws::for_one, crate::proofs::TargetLaws::for_root, crate::proofs::TargetLaws::for_chosen, crate::proofs::TargetLaws::for_unchosen, crate::proofs::TargetLaws::for_wildcard, crate::proofs::TargetLaws::for_unmatched, crate::proofs::TargetLaws::for_unknown))]
 pub fn target_of(op: Op, at: Context, items: bool, name: Name, table: &[u32]) -> Target
     requires { Sized table.now }
     ensures { result ≡ target_of op at items name table.now }

@@ -1,4 +1,5 @@
 -- Laws of the leaf readers, in the form in which `search` uses them.
+use Rattle.std.specs.Prelude.{Some, None}
 use mir.Val.{Fits}
 use mir.Syntax.{w64}
 use Prim.Native.Nat.{ℕ, ◌^◌, ◌+◌, ◌<◌, ◌≤◌}
@@ -14,7 +15,7 @@ use lib.Dec.{eqb, leb, lit<}
 use borrow.Author.Tests.{eqb-true, leb-true}
 use Rattle.base.specs.Pick.{pick, picks}
 use Rattle.base.specs.Lists.{is_at}
-use Rattle.protocol.specs.Types.{Parsed, Next, Fault, Class}
+use Rattle.protocol.specs.Types.{Parsed, Class}
 use Rattle.megaco.specs.Bytes.{semicolon, is_letter, is_white, is_line_end, is_comment}
 use Rattle.megaco.specs.White.{after, goes_on, inside_after, stop_at, white_from, white_at}
 use Rattle.megaco.specs.Tokens.{letter_at, row_from, row_at}
@@ -50,11 +51,11 @@ small b e = by (leb 0x61 b) refl e
 
 -- ---- the arms of a match on what a reader found
 
-pub after_next : (x : Parsed) (f : ℕ → Parsed) (y r : Parsed) (p : ℕ) → y ≡ x → y ≡ Next p → r ≡ f p → r ≡ after x f
+pub after_next : (x : Parsed) (f : ℕ → Parsed) (y r : Parsed) (p : ℕ) → y ≡ x → y ≡ Some p → r ≡ f p → r ≡ after x f
 unfolding after
 after_next x f y r p e n h = rw (← e, n) h
 
-pub after_fault : (x : Parsed) (f : ℕ → Parsed) (y : Parsed) → y ≡ x → y ≡ Fault → Fault ≡ after x f
+pub after_fault : (x : Parsed) (f : ℕ → Parsed) (y : Parsed) → y ≡ x → y ≡ None → None ≡ after x f
 unfolding after
 after_fault x f y e n = rw (← e, n)
 
@@ -117,10 +118,10 @@ module _ (s : List ℕ) (i : ℕ) (m : Bool) (q : Parsed) (inv : q ≡ white_fro
   white_end r h n = n ∙ sym (inv ∙ rw (drop_of_length-le s h))
 
 -- no white space stands here
-pub no_white : (s : List ℕ) (i : ℕ) (x : Bool) → i < length s → x ≡ goes_on false (get_or s i 0) → x ≡ false → Next i ≡ white_at s i
+pub no_white : (s : List ℕ) (i : ℕ) (x : Bool) → i < length s → x ≡ goes_on false (get_or s i 0) → x ≡ false → Some i ≡ white_at s i
 unfolding white_at stop_at pick
-no_white s i x h g t = white_stop s i false (white_at s i) refl x (Next i) h g t refl
+no_white s i x h g t = white_stop s i false (white_at s i) refl x (Some i) h g t refl
 
-pub white_beyond : (s : List ℕ) (i : ℕ) → length s ≤ i → Next i ≡ white_at s i
+pub white_beyond : (s : List ℕ) (i : ℕ) → length s ≤ i → Some i ≡ white_at s i
 unfolding white_at stop_at pick
-white_beyond s i h = white_end s i false (white_at s i) refl (Next i) h refl
+white_beyond s i h = white_end s i false (white_at s i) refl (Some i) h refl

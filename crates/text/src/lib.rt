@@ -8,29 +8,33 @@ ghost use Rattle.megaco.specs.White.{goes_on, inside_after, stop_at, white_at, s
 ghost use Rattle.megaco.specs.Tokens.{mark_at, sign_at, letter_at, row_at, octets_at};
 ghost use Rattle.text.specs.Classes.{low_of, high_of, half_of, OfMaps};
 
-use megaco::{Class, Parsed};
+use megaco::Class;
 
 // ---- bytes
 
 // Whether a byte stands at a place. Past the end stands 0.
+#[tactic(auto, unfolding(base::specs::Lists::is_at, base::specs::Pick::pick))]
 pub fn is_at(s: &[u8], at: usize, b: u8) -> bool
     ensures { result ≡ is_at s.now at b }
 {
     if at < s.len() { s[at] == b } else { 0 == b }
 }
 
+#[tactic(auto, unfolding(megaco::specs::Bytes::is_letter, base::specs::Pick::pick))]
 fn is_letter(b: u8) -> bool
     ensures { result ≡ is_letter b }
 {
     (b'A' <= b) & (b <= b'Z') | (b'a' <= b) & (b <= b'z')
 }
 
+#[tactic(auto, unfolding(megaco::specs::Bytes::is_digit, base::specs::Pick::pick))]
 pub fn is_digit(b: u8) -> bool
     ensures { result ≡ is_digit b }
 {
     (b'0' <= b) & (b <= b'9')
 }
 
+#[tactic(auto, using(crate::proofs::TextLaws::no_letter), unfolding(megaco::specs::Tokens::letter_at))]
 pub fn letter_at(s: &[u8], at: usize) -> bool
     ensures { result ≡ letter_at s.now at }
 {
@@ -42,6 +46,7 @@ pub fn letter_at(s: &[u8], at: usize) -> bool
 }
 
 // A small letter as its capital; any other byte as it is.
+#[tactic(auto, unfolding(megaco::specs::Bytes::capital, base::specs::Pick::pick))]
 pub fn capital(b: u8) -> u8
     ensures { result ≡ capital b }
 {
@@ -52,6 +57,7 @@ pub fn capital(b: u8) -> u8
 }
 
 // Whether a byte, a letter in either case, is this one.
+#[tactic(auto, unfolding(base::specs::Pick::pick))]
 pub fn same_letter(x: u8, y: u8) -> bool
     ensures { result ≡ eqb (capital x) y }
 {
@@ -59,17 +65,15 @@ pub fn same_letter(x: u8, y: u8) -> bool
 }
 
 // Whether a word, in any letter case, is this one in capital letters.
+#[tactic(auto, using(crate::proofs::WordLaws::unequal, crate::proofs::WordLaws::word_on, crate::proofs::WordLaws::word_no, crate::proofs::WordLaws::word_end))]
 pub fn is_word(w: &[u8], form: &[u8]) -> bool
     ensures { result ≡ same (capitals w.now) form.now }
 {
     if w.len() != form.len() {
         return false;
     }
-    let mut i = 0;
-    while i < w.len() {
-        if same_letter(w[i], form[i]) {
-            i += 1;
-        } else {
+    for i in 0..w.len() {
+        if !same_letter(w[i], form[i]) {
             return false;
         }
     }
@@ -104,6 +108,7 @@ fn high_of(k: Class) -> u64
 }
 
 // The map that has the byte's bit.
+#[tactic(auto, unfolding(crate::specs::Classes::half_of, base::specs::Pick::pick))]
 fn half(b: u8, low: u64, high: u64) -> u64
     ensures { result ≡ half_of b low high }
 {
@@ -117,6 +122,7 @@ fn half(b: u8, low: u64, high: u64) -> u64
 }
 
 // Whether a byte is in the class that has these maps.
+#[tactic(auto, using(crate::proofs::ClassLaws::of_maps))]
 fn in_maps(b: u8, low: u64, high: u64) -> bool
     ensures { OfMaps b low high result }
 {
@@ -129,31 +135,31 @@ pub fn row(s: &[u8], at: usize, k: Class) -> usize
 {
     let low = low_of(k);
     let high = high_of(k);
-    let mut i = at;
-    while i < s.len() {
-        if in_maps(s[i], low, high) {
-            i += 1;
-        } else {
+    for i in at..s.len() {
+        if !in_maps(s[i], low, high) {
             return i;
         }
     }
-    i
+    at.max(s.len())
 }
 
 // ---- white space
 
+#[tactic(auto, unfolding(megaco::specs::Bytes::is_white, base::specs::Pick::pick))]
 fn is_white(b: u8) -> bool
     ensures { result ≡ is_white b }
 {
     (b == b' ') | (b == b'\t') | (b == b'\r') | (b == b'\n')
 }
 
+#[tactic(auto, unfolding(megaco::specs::Bytes::is_line_end, base::specs::Pick::pick))]
 pub fn is_line_end(b: u8) -> bool
     ensures { result ≡ is_line_end b }
 {
     (b == b'\r') | (b == b'\n')
 }
 
+#[tactic(auto, unfolding(megaco::specs::Bytes::is_comment, base::specs::Pick::pick))]
 fn is_comment(b: u8) -> bool
     ensures { result ≡ is_comment b }
 {
@@ -161,6 +167,7 @@ fn is_comment(b: u8) -> bool
 }
 
 // A byte that white space goes on with, inside a comment or outside one.
+#[tactic(auto, using(crate::proofs::TextLaws::goes_inside, crate::proofs::TextLaws::goes_outside))]
 fn goes_on(inside: bool, b: u8) -> bool
     ensures { result ≡ goes_on inside b }
 {
@@ -172,6 +179,7 @@ fn goes_on(inside: bool, b: u8) -> bool
 }
 
 // A comment begins with `;` and ends with its line end.
+#[tactic(auto, using(crate::proofs::TextLaws::stays_inside, crate::proofs::TextLaws::begins))]
 fn inside_after(inside: bool, b: u8) -> bool
     ensures { result ≡ inside_after inside b }
 {
@@ -179,35 +187,34 @@ fn inside_after(inside: bool, b: u8) -> bool
 }
 
 // White space may stop outside a comment only.
-fn stop_at(inside: bool, i: usize) -> Parsed
+#[tactic(auto, unfolding(megaco::specs::White::stop_at, base::specs::Pick::pick, megaco::specs::White::after))]
+fn stop_at(inside: bool, i: usize) -> Option<usize>
     ensures { result ≡ stop_at inside i }
 {
     if inside {
-        return Parsed::Fault;
+        return None;
     }
-    Parsed::Next(i)
+    Some(i)
 }
 
 // White space of some bytes.
-fn white_run(s: &[u8], at: usize) -> Parsed
+fn white_run(s: &[u8], at: usize) -> Option<usize>
     ensures { result ≡ white_at s.now at }
 {
-    let mut i = at;
     let mut inside = false;
-    while i < s.len() {
+    for i in at..s.len() {
         let b = s[i];
-        if goes_on(inside, b) {
-            inside = inside_after(inside, b);
-            i += 1;
-        } else {
+        if !goes_on(inside, b) {
             return stop_at(inside, i);
         }
+        inside = inside_after(inside, b);
     }
-    stop_at(inside, i)
+    stop_at(inside, at.max(s.len()))
 }
 
 // White space that may stand here. Most often there is none.
-pub fn white(s: &[u8], at: usize) -> Parsed
+#[tactic(auto, using(crate::proofs::TextLaws::no_white, crate::proofs::TextLaws::white_beyond))]
+pub fn white(s: &[u8], at: usize) -> Option<usize>
     ensures { result ≡ white_at s.now at }
 {
     if at < s.len() {
@@ -215,21 +222,19 @@ pub fn white(s: &[u8], at: usize) -> Parsed
             return white_run(s, at);
         }
     }
-    Parsed::Next(at)
+    Some(at)
 }
 
 // White space that must stand here.
-pub fn sep(s: &[u8], at: usize) -> Parsed
+#[tactic(auto, unfolding(megaco::specs::White::sep_at, megaco::specs::White::after, base::specs::Pick::pick))]
+pub fn sep(s: &[u8], at: usize) -> Option<usize>
     ensures { result ≡ sep_at s.now at }
 {
-    let w = white(s, at);
-    let Parsed::Next(p) = w else {
-        return Parsed::Fault;
-    };
+    let p = white(s, at)?;
     if at < p {
-        return Parsed::Next(p);
+        return Some(p);
     }
-    Parsed::Fault
+    None
 }
 
 // ---- the text in the braces of Local or Remote
@@ -242,46 +247,44 @@ fn closes(b: u8, escaped: bool) -> bool
 }
 
 // The first closing brace that has no backslash before it; a byte 0 before it is a fault.
-pub fn octets(s: &[u8], at: usize) -> Parsed
+#[tactic(auto, using(crate::proofs::OctetLaws::zero_byte, crate::proofs::OctetLaws::closed, crate::proofs::OctetLaws::octets_on, crate::proofs::OctetLaws::no_brace), unfolding(megaco::specs::Tokens::octets_at))]
+pub fn octets(s: &[u8], at: usize) -> Option<usize>
     ensures { result ≡ octets_at s.now at }
 {
-    let mut i = at;
     let mut escaped = false;
-    while i < s.len() {
+    for i in at..s.len() {
         let b = s[i];
         if b == 0 {
-            return Parsed::Fault;
+            return None;
         }
         if closes(b, escaped) {
-            return Parsed::Next(i);
+            return Some(i);
         }
         escaped = b == b'\\';
-        i += 1;
     }
-    Parsed::Fault
+    None
 }
 
 // ---- given bytes
 
 // One given byte.
-pub fn mark(s: &[u8], at: usize, b: u8) -> Parsed
+#[tactic(auto, using(crate::proofs::TextLaws::reads), unfolding(megaco::specs::Tokens::mark_at))]
+pub fn mark(s: &[u8], at: usize, b: u8) -> Option<usize>
     requires { 0 < b }
     ensures { result ≡ mark_at b s.now at }
 {
     if is_at(s, at, b) {
-        return Parsed::Next(at + 1);
+        return Some(at + 1);
     }
-    Parsed::Fault
+    None
 }
 
 // One given byte, and white space after it.
-pub fn sign(s: &[u8], at: usize, b: u8) -> Parsed
+#[tactic(auto, unfolding(megaco::specs::Tokens::sign_at, megaco::specs::White::after, base::specs::Pick::pick))]
+pub fn sign(s: &[u8], at: usize, b: u8) -> Option<usize>
     requires { 0 < b }
     ensures { result ≡ sign_at b s.now at }
 {
-    let m = mark(s, at, b);
-    let Parsed::Next(p) = m else {
-        return Parsed::Fault;
-    };
+    let p = mark(s, at, b)?;
     white(s, p)
 }

@@ -1,4 +1,6 @@
 -- The search for a text, in the form in which `search` uses it.
+use Rattle.std.specs.Prelude.{Some, None}
+use Rattle.std.proofs.Common.{Continue, Break}
 use Prim.Native.Nat.{ℕ, zero, suc, ◌+◌, ◌-◌, ◌*◌, ◌<◌, ◌≤◌}
 use mathlib.Core.Path.{◌≡◌, refl, sym, ap, ◌∙◌}
 use mathlib.Core.Bool.{Bool, true, false, ◌&&◌}
@@ -10,43 +12,36 @@ use lib.Dec.{ltb}
 use borrow.Author.Tests.{lt-ltb, le-ltb}
 use Rattle.base.specs.Pick.{pick}
 use Rattle.base.specs.Lists.{is_at, part}
-use Rattle.base.proofs.TestLaws.{and_left, and_right}
 use Rattle.megaco.specs.Bytes.{comma, right_brace}
 use Rattle.megaco.specs.Keywords.{spells}
-use Rattle.megaco.specs.Reading.{unlimited, media_here, speech_here, message_r}
-use Rattle.protocol.specs.Types.{Parsed, Next, Fault, LocalToken}
+use Rattle.megaco.specs.Reading.{unlimited, media_here, speech_here}
+use Rattle.protocol.specs.Types.{Parsed, LocalToken}
 use Rattle.read_command.specs.declared.Rest.{Rest}
-use Rattle.read_command.specs.declared.Verdict.{Verdict}
-use Rattle.read_command.specs.declared.Verdict.TheVariants.{WellFormed, Fault400, Fault403, WrongVersion406}
 use Rattle.read_command.specs.declared.Piece.{Piece}
 use Rattle.read_command.specs.Pieces.{piece_of, Holds}
 use Rattle.read_command.specs.Production.{past_sign, list_end}
-use Rattle.read_command.specs.Places.{item_at, media_item_at, media_at, top_item_at, top_at, command_at, commands_at, rest_of, rest_in, body_end, action_at, actions_at, ack_at, acks_at, acks_start, acknowledgement_at}
-use Rattle.read_command.specs.Messages.{actions_start, closing_end, transaction_end, is_acknowledgement, acknowledgement_end, part_end, header_end, verdict_of}
+use Rattle.read_command.specs.Places.{item_at, media_item_at, media_at, top_item_at, top_at, command_at, commands_at, rest_of, rest_in, body_end, action_at, actions_at, acks_at, acks_start, acknowledgement_at, head_end, command_head_end}
+use Rattle.read_command.specs.Messages.{actions_start, closing_end, transaction_end, is_acknowledgement, acknowledgement_end, part_end}
 use Rattle.command_places.specs.declared.ItemPlaces.{ItemPlaces}
 use Rattle.command_places.specs.declared.SpeechPlaces.{SpeechPlaces}
 use Rattle.command_places.specs.declared.CommandPlaces.{CommandPlaces}
-use Rattle.command_places.specs.Found.{next_at, OfItem, OfSpeech, OfCommand, command_end_from}
+use Rattle.command_places.specs.Found.{next_at, OfItem, OfSpeech, OfCommand, closed_end, command_end_from}
 use Rattle.command_places.proofs.NextLaws.{part_last, part_more}
-use Rattle.command_places.proofs.PlaceLaws.{media_braced, command_ends}
+use Rattle.command_places.proofs.PlaceLaws.{inside_some, inside_none, media_braced, command_ends}
 use Rattle.action_places.specs.declared.ActionPlaces.{ActionPlaces}
 use Rattle.action_places.specs.declared.TransactionPlaces.{TransactionPlaces}
-use Rattle.action_places.specs.declared.AckPlaces.{AckPlaces}
-use Rattle.action_places.specs.ActionPlaces.{action_places, transaction_places, ack_places}
+use Rattle.action_places.specs.ActionPlaces.{action_places, transaction_places}
 use Rattle.action_places.proofs.ActionPlaceLaws.{action_ends, transaction_ends}
 use Rattle.texts.specs.declared.Holder.{Holder}
-use Rattle.texts.specs.declared.Sought.{Sought}
-use Rattle.texts.specs.declared.Sought.TheVariants.{Here, Behind}
-use Rattle.texts.specs.declared.Wanted.{Wanted}
-use Rattle.texts.specs.declared.Wanted.TheVariants.{Held, NoText}
-use Rattle.texts.specs.Texts.{holders_in, media_item_holders, media_holders, top_item_holders, top_holders, command_holders, commands_holders, rest_holders, action_holders, actions_holders, served_holders, transactions_holders, sought, closed_sought, found_in, message_sought, where_text, holder_number, local_at, side_there, text_start, text_end, owner_start, owner_end, text_number, side_number, side_called, side_of, name_of, bytes_of, text_place, name_place, if_taken, part_number, text_part, name_part, side_given}
+use Rattle.texts.specs.declared.Behind.{Behind}
+use Rattle.texts.specs.Texts.{Wanted, Sought, behind, holders_in, media_item_holders, media_holders, top_item_holders, top_holders, command_holders, commands_holders, rest_holders, action_holders, actions_holders, served_holders, transactions_holders, sought, closed_sought, found_in, holder_number, local_at, side_there, text_start, text_end, owner_start, owner_end, text_number, side_of, name_of, bytes_of, text_place, name_place, if_taken, part_number, text_part, name_part, side_given}
 use Rattle.texts.proofs.TreeLaws.{media_not_empty, there_side, there_name, there_text}
 
 -- ---- the search in two parts
 
 unfoldable by_sought : Sought → (ℕ → Sought) → Sought
-by_sought (Here x) f = Here x
-by_sought (Behind k e) f = f k
+by_sought (Break x) f = Break x
+by_sought (Continue b) f = f b.left
 
 sought_both : (xs ys : List Holder) (e d k : ℕ) → sought (xs ++ ys) e k ≡ by_sought (sought xs d k) (sought ys e)
 unfolding sought by_sought
@@ -55,43 +50,42 @@ sought_both (x ∷ xs) ys e d zero = refl
 sought_both (x ∷ xs) ys e d (suc k) = sought_both xs ys e d k
 
 is_here : Sought → ℕ
-is_here (Here x) = 1
-is_here (Behind k e) = 0
+is_here (Break x) = 1
+is_here (Continue b) = 0
 
-not_here : (k e : ℕ) (z : Holder) → ◌≡◌ {A = Sought} (Behind k e) (Here z) → ⊥
+not_here : (k e : ℕ) (z : Holder) → ◌≡◌ {A = Sought} (behind k e) (Break z) → ⊥
 unfolding is_here
 not_here k e z h = let w : ◌≡◌ {A = ℕ} 0 1 = ap is_here h in omega arith
 
 -- what is behind has the end that was told
-behind_end : (xs : List Holder) (e k l d : ℕ) → sought xs e k ≡ Behind l d → d ≡ e
-unfolding sought
-behind_end [] e k l d h = cc
-behind_end (x ∷ xs) e zero l d h = let z : ◌≡◌ {A = ℕ} 0 1 = cc in absurd (omega arith)
+end_of : Sought → ℕ
+end_of (Break x) = 0
+end_of (Continue b) = b.end
+
+left_of : Sought → ℕ
+left_of (Break x) = 0
+left_of (Continue b) = b.left
+
+behind_end : (xs : List Holder) (e k l d : ℕ) → sought xs e k ≡ behind l d → d ≡ e
+unfolding sought end_of
+behind_end [] e k l d h = let w : e ≡ d = ap end_of h in sym w
+behind_end (x ∷ xs) e zero l d h = absurd (not_here l d x (sym h))
 behind_end (x ∷ xs) e (suc k) l d h = behind_end xs e k l d h
 
 -- what is found does not depend on the end
-found_here : (xs : List Holder) (e d k : ℕ) (z : Holder) (y : Sought) → y ≡ sought xs e k → y ≡ Here z → y ≡ sought xs d k
+found_here : (xs : List Holder) (e d k : ℕ) (z : Holder) (y : Sought) → y ≡ sought xs e k → y ≡ Break z → y ≡ sought xs d k
 unfolding sought
-found_here [] e d k z y f h = let w : ◌≡◌ {A = Sought} (Behind k e) (Here z) = sym f ∙ h in absurd (not_here k e z w)
+found_here [] e d k z y f h = let w : ◌≡◌ {A = Sought} (behind k e) (Break z) = sym f ∙ h in absurd (not_here k e z w)
 found_here (x ∷ xs) e d zero z y f h = f
 found_here (x ∷ xs) e d (suc k) z y f h = found_here xs e d k z y f h
 
-found_behind : (xs : List Holder) (e d k l w : ℕ) → sought xs e k ≡ Behind l w → Behind l d ≡ sought xs d k
-unfolding sought
-found_behind [] e d k l w h = let z : k ≡ l = cc in rw z
+found_behind : (xs : List Holder) (e d k l w : ℕ) → sought xs e k ≡ behind l w → behind l d ≡ sought xs d k
+unfolding sought left_of
+found_behind [] e d k l w h = let z : k ≡ l = ap left_of h in rw z
 found_behind (x ∷ xs) e d zero l w h = absurd (not_here l w x (sym h))
 found_behind (x ∷ xs) e d (suc k) l w h = found_behind xs e d k l w h
 
 -- ---- a part in braces
-
-module _ (s : List ℕ) (x : Sought) where
-  pub closed_here : (p : Holder) → x ≡ Here p → x ≡ closed_sought s x
-  unfolding closed_sought
-  closed_here p e = rw e
-
-  pub closed_behind : (l d e : ℕ) → x ≡ Behind l d → e ≡ past_sign right_brace s d → Behind l e ≡ closed_sought s x
-  unfolding closed_sought
-  closed_behind l d e f h = rw (f, h)
 
 closed_sought_lem : (s : List ℕ) (xs : List Holder) (e k : ℕ) → closed_sought s (sought xs e k) ≡ sought xs (past_sign right_brace s e) k
 unfolding closed_sought sought
@@ -102,146 +96,115 @@ closed_sought_lem s (x ∷ xs) e (suc k) = closed_sought_lem s xs e k
 closed_by_lem : (s : List ℕ) (xs : List Holder) (e d k : ℕ) (x y : Sought) → x ≡ sought xs e k → y ≡ closed_sought s x → past_sign right_brace s e ≡ d → y ≡ sought xs d k
 closed_by_lem s xs e d k x y f g h = g ∙ ap (closed_sought s) f ∙ closed_sought_lem s xs e k ∙ ap (λ (z : ℕ). sought xs z k) h
 
-none_sought : (e d k : ℕ) → e ≡ d → Behind k e ≡ sought [] d k
+none_sought : (e d k : ℕ) → e ≡ d → behind k e ≡ sought [] d k
 unfolding sought
 none_sought e d k h = rw h
 
--- ---- parts joined by commas: q is what is found in all
+-- ---- at most `most` parts joined by commas: q is what is found in all, told from the place that n of them were passed up to
 
-module _ (one : ℕ → List Holder) (end : ℕ → ℕ) (s : List ℕ) (k i left : ℕ) (q : Sought) (inv : q ≡ sought (holders_in one end s k i) (list_end end s k i) left) where
-  pub seek_none : k ≤ 0 → Behind left i ≡ q
+module _ (one : ℕ → List Holder) (end : ℕ → ℕ) (s : List ℕ) (most n i left : ℕ) (q : Sought)
+    (inv : sought (holders_in one end s (most - n) i) (list_end end s (most - n) i) left ≡ q) where
+  pub seek_none : most ≤ n → behind left i ≡ q
   unfolding holders_in list_end sought
-  seek_none h = let z : k ≡ 0 = omega arith in sym (inv ∙ rw z)
+  seek_none h = let z : most - n ≡ 0 = omega arith in rw z at inv
 
-  module _ (h : 0 < k) (y : Sought) (e : y ≡ sought (one i) (end i) left) where
+  module _ (h : n < most) (y : Sought) (e : y ≡ sought (one i) (end i) left) where
+    abbrev rest : ℕ
+    rest = most - (n + 1)
+
     abbrev places : List Holder
-    places = pick (is_at s (end i) comma) (holders_in one end s (k - 1) (past_sign comma s (end i))) []
+    places = pick (is_at s (end i) comma) (holders_in one end s rest (past_sign comma s (end i))) []
 
     abbrev last : ℕ
-    last = pick (is_at s (end i) comma) (list_end end s (k - 1) (past_sign comma s (end i))) (end i)
+    last = pick (is_at s (end i) comma) (list_end end s rest (past_sign comma s (end i))) (end i)
 
-    seek_turn : q ≡ by_sought y (sought places last)
+    seek_turn : by_sought y (sought places last) ≡ q
     unfolding holders_in list_end
-    seek_turn = let z : k ≡ suc (k - 1) = omega arith in by k (k - 1) z inv
-      where
-        by : (a b : ℕ) → a ≡ suc b → q ≡ sought (holders_in one end s a i) (list_end end s a i) left
-            → q ≡ by_sought y (sought (pick (is_at s (end i) comma) (holders_in one end s b (past_sign comma s (end i))) []) (pick (is_at s (end i) comma) (list_end end s b (past_sign comma s (end i))) (end i)))
-        by a b z f = rw z at f ∙ sought_both (one i) _ _ (end i) left ∙ rw (← e)
+    seek_turn =
+        let z : most - n ≡ suc rest = omega arith in
+        ap (λ x. by_sought x (sought places last)) e ∙ sym (sought_both (one i) places last (end i) left) ∙ ap (λ k. sought (holders_in one end s k i) (list_end end s k i) left) (sym z) ∙ inv
 
-    pub seek_here : (x : Holder) → y ≡ Here x → y ≡ q
+    pub seek_here : (x : Holder) → y ≡ Break x → Break x ≡ q
     unfolding by_sought
-    seek_here x n = n ∙ sym (seek_turn ∙ rw n)
+    seek_here x m = sym (rw m) ∙ seek_turn
 
-    module _ (l d : ℕ) (n : y ≡ Behind l d) (x : Parsed) (g : x ≡ next_at s d) where
-      ends : d ≡ end i
-      ends = behind_end (one i) (end i) left l d (sym e ∙ n)
+    module _ (b : Behind) (m : y ≡ Continue b) (x : Parsed) (g : x ≡ next_at s b.end) where
+      ends : b.end ≡ end i
+      ends = behind_end (one i) (end i) left b.left b.end (sym e ∙ m)
 
-      pub seek_last : x ≡ Fault → Behind l d ≡ q
-      unfolding by_sought sought
-      seek_last w =
-          sym (seek_turn ∙ rw n (ap (λ (ps : List Holder). sought ps last l) (part_last s d (end i) ends x g (holders_in one end s (k - 1)) [] w)
-          ∙ ap (λ (z : ℕ). Behind l z) (part_last s d (end i) ends x g (list_end end s (k - 1)) (end i) w ∙ sym ends)))
-
-      pub seek_done : x ≡ Fault → y ≡ q
-      seek_done w = n ∙ seek_last w
-
-      pub seek_more : (u : ℕ) → x ≡ Next u → q ≡ sought (holders_in one end s (k - 1) u) (list_end end s (k - 1) u) l
+      onward : sought places last b.left ≡ q
       unfolding by_sought
+      onward = sym (rw m) ∙ seek_turn
+
+      pub seek_last : x ≡ None → Continue b ≡ q
+      unfolding sought
+      seek_last w =
+          ap (λ z. behind b.left z) (ends ∙ sym (part_last s b.end (end i) ends x g (list_end end s rest) (end i) w))
+          ∙ ap (λ ps. sought ps last b.left) (sym (part_last s b.end (end i) ends x g (holders_in one end s rest) [] w)) ∙ onward
+
+      pub seek_more : (u : ℕ) → x ≡ Some u → sought (holders_in one end s rest u) (list_end end s rest u) b.left ≡ q
       seek_more u w =
-          seek_turn ∙ rw n (ap (λ (ps : List Holder). sought ps last l) (part_more s d (end i) ends x g (holders_in one end s (k - 1)) [] u w)
-          ∙ ap (λ (z : ℕ). sought (holders_in one end s (k - 1) u) z l) (part_more s d (end i) ends x g (list_end end s (k - 1)) (end i) u w))
-
--- parts without a limit, of which n were passed
-module _ (one : ℕ → List Holder) (end : ℕ → ℕ) (s : List ℕ) (n i left : ℕ) (q : Sought) (inv : q ≡ sought (holders_in one end s (length s + 1 - n) i) (list_end end s (length s + 1 - n) i) left) where
-  pub all_seek_none : length s < n → Behind left i ≡ q
-  all_seek_none h = seek_none one end s (length s + 1 - n) i left q inv (omega arith)
-
-  module _ (h : n ≤ length s) (y : Sought) (e : y ≡ sought (one i) (end i) left) where
-    some_left : 0 < length s + 1 - n
-    some_left = omega arith
-
-    pub all_seek_here : (x : Holder) → y ≡ Here x → y ≡ q
-    all_seek_here x m = seek_here one end s (length s + 1 - n) i left q inv some_left y e x m
-
-    module _ (l d : ℕ) (m : y ≡ Behind l d) (x : Parsed) (g : x ≡ next_at s d) where
-      pub all_seek_last : x ≡ Fault → Behind l d ≡ q
-      all_seek_last w = seek_last one end s (length s + 1 - n) i left q inv some_left y e l d m x g w
-
-      pub all_seek_done : x ≡ Fault → y ≡ q
-      all_seek_done w = seek_done one end s (length s + 1 - n) i left q inv some_left y e l d m x g w
-
-      pub all_seek_more : (u : ℕ) → x ≡ Next u → q ≡ sought (holders_in one end s (length s + 1 - (n + 1)) u) (list_end end s (length s + 1 - (n + 1)) u) l
-      all_seek_more u w =
-          let z : length s + 1 - n - 1 ≡ length s + 1 - (n + 1) = omega arith in
-          rw (← z) (seek_more one end s (length s + 1 - n) i left q inv some_left y e l d m x g u w)
-
--- ---- the lists
-
-module _ (s : List ℕ) (at k : ℕ) where
-  pub media_begin : (c : ℕ) → sought (media_holders s c at) (media_at s at).end k
-      ≡ sought (holders_in (media_item_holders s c) (λ j. (media_item_at s j).end) s (length s + 1 - 0) at) (list_end (λ j. (media_item_at s j).end) s (length s + 1 - 0) at) k
-  unfolding media_holders media_at unlimited
-  media_begin c = let z : length s + 1 - 0 ≡ length s + 1 = omega arith in rw z
-
-  pub top_begin : (c : ℕ) → sought (top_holders s c at) (top_at s at).end k
-      ≡ sought (holders_in (top_item_holders s c) (λ j. (top_item_at s j).end) s (length s + 1 - 0) at) (list_end (λ j. (top_item_at s j).end) s (length s + 1 - 0) at) k
-  unfolding top_holders top_at unlimited
-  top_begin c = let z : length s + 1 - 0 ≡ length s + 1 = omega arith in rw z
-
-  pub commands_begin : sought (commands_holders s at) (commands_at s at).end k ≡ sought (holders_in (command_holders s) (λ j. (command_at s j).end) s 64 at) (list_end (λ j. (command_at s j).end) s 64 at) k
-  unfolding commands_holders commands_at
-  commands_begin = refl
-
-  pub actions_begin : sought (actions_holders s at) (actions_at s at).end k ≡ sought (holders_in (action_holders s) (λ j. (action_at s j).end) s 16 at) (list_end (λ j. (action_at s j).end) s 16 at) k
-  unfolding actions_holders actions_at
-  actions_begin = refl
+          ap (λ z. sought (holders_in one end s rest u) z b.left) (sym (part_more s b.end (end i) ends x g (list_end end s rest) (end i) u w))
+          ∙ ap (λ ps. sought ps last b.left) (sym (part_more s b.end (end i) ends x g (holders_in one end s rest) [] u w)) ∙ onward
 
 -- ---- one part
 
+and_false : (b : Bool) → (b && false) ≡ false
+and_false true = refl
+and_false false = refl
+
 module _ (s : List ℕ) (c at e left : ℕ) (d : e ≡ (media_item_at s at).end) (x : Bool) (g : x ≡ speech_here s at) where
-  pub part_here : x ≡ true → left ≡ 0 → Here (record { command = c; item = at }) ≡ sought (media_item_holders s c at) (media_item_at s at).end left
+  pub part_here : x ≡ true → left ≡ 0 → Break (record { command = c; item = at }) ≡ sought (media_item_holders s c at) (media_item_at s at).end left
   unfolding media_item_holders sought pick
   part_here t z = rw (← g, t, z)
 
-  pub part_past : x ≡ true → (left ≡ 0 → ⊥) → Behind (left - 1) e ≡ sought (media_item_holders s c at) (media_item_at s at).end left
+  pub part_past : x ≡ true → (left ≡ 0 → ⊥) → behind (left - 1) e ≡ sought (media_item_holders s c at) (media_item_at s at).end left
   unfolding media_item_holders pick
   part_past t z = let w : left ≡ suc (left - 1) = omega arith in rw (← g, t, ← d) (by left (left - 1) w)
     where
-      by : (a b : ℕ) → a ≡ suc b → Behind b e ≡ sought (record { command = c; item = at } ∷ []) e a
+      by : (a b : ℕ) → a ≡ suc b → behind b e ≡ sought (record { command = c; item = at } ∷ []) e a
       by a b h = rw h (unfold sought in refl)
 
-  pub part_other : x ≡ false → Behind left e ≡ sought (media_item_holders s c at) (media_item_at s at).end left
+  pub part_other : x ≡ false → behind left e ≡ sought (media_item_holders s c at) (media_item_at s at).end left
   unfolding media_item_holders sought pick
   part_other f = rw (← g, f, d)
 
-module _ (s : List ℕ) (at : ℕ) (p : ItemPlaces) (o : OfItem s at p) (x : Bool) (g : x ≡ media_here s at) (c left : ℕ) where
-  pub item_inside : (x && p.braces) ≡ true → (y z : Sought) → y ≡ sought (media_holders s c p.inside) (media_at s p.inside).end left → z ≡ closed_sought s y
-      → z ≡ sought (top_item_holders s c at) (top_item_at s at).end left
-  unfolding top_item_holders top_item_at
-  item_inside t y z f g' =
-      let m : media_here s at ≡ true = sym g ∙ and_left x p.braces t in
-      let b : p.braces ≡ true = and_right x p.braces t in
-      let e : past_sign right_brace s (media_at s p.inside).end ≡ (item_at 7 (media_at s) s at).end =
-      media_braced s at p o false (rw (media_not_empty s at m)) (past_sign right_brace s (media_at s p.inside).end) b refl (media_at s p.inside).end refl refl in
-      closed_by_lem s (media_holders s c p.inside) (media_at s p.inside).end (item_at 7 (media_at s) s at).end left y z f g' e ∙ sym (rw (m, ← o.braces, b, ← o.inside) (unfold pick in refl))
-
-  pub item_past : (x && p.braces) ≡ false → (e : ℕ) → e ≡ (top_item_at s at).end → Behind left e ≡ sought (top_item_holders s c at) (top_item_at s at).end left
+module _ (s : List ℕ) (at : ℕ) (x : Bool) (g : x ≡ media_here s at) (c left : ℕ) where
+  pub item_other : x ≡ false → (e : ℕ) → e ≡ (top_item_at s at).end → behind left e ≡ sought (top_item_holders s c at) (top_item_at s at).end left
   unfolding top_item_holders
-  item_past f e h = none_sought e (top_item_at s at).end left h ∙ sym (rw (← g, ← o.braces, f) (unfold pick in refl))
+  item_other f e h = none_sought e (top_item_at s at).end left h ∙ sym (rw (← g, f) (unfold pick in refl))
+
+  module _ (p : ItemPlaces) (o : OfItem s at p) where
+    pub item_plain : p.inside ≡ None → (e : ℕ) → e ≡ (top_item_at s at).end → behind left e ≡ sought (top_item_holders s c at) (top_item_at s at).end left
+    unfolding top_item_holders
+    item_plain n e h =
+        none_sought e (top_item_at s at).end left h
+        ∙ sym (rw (inside_none s (head_end s at) p.inside o.inside n, and_false (media_here s at)) (unfold pick in refl))
+
+    pub item_inside : x ≡ true → (i : ℕ) → p.inside ≡ Some i → (y z : Sought) → y ≡ sought (media_holders s c i) (media_at s i).end left → z ≡ closed_sought s y
+        → z ≡ sought (top_item_holders s c at) (top_item_at s at).end left
+    unfolding top_item_holders top_item_at
+    item_inside t i b y z f k =
+        let m : media_here s at ≡ true = sym g ∙ t in
+        let w = inside_some s (head_end s at) i p.inside o.inside b in
+        let e : past_sign right_brace s (media_at s i).end ≡ (item_at 7 (media_at s) s at).end =
+        media_braced s at p o i b false (rw (media_not_empty s at m)) (past_sign right_brace s (media_at s i).end) refl (media_at s i).end refl refl in
+        closed_by_lem s (media_holders s c i) (media_at s i).end (item_at 7 (media_at s) s at).end left y z f k e ∙ sym (rw (m, w.0, ← w.1) (unfold pick in refl))
 
 module _ (s : List ℕ) (at : ℕ) (p : CommandPlaces) (o : OfCommand s at p) (left : ℕ) where
-  pub command_inside : p.braces ≡ true → (y z : Sought) → y ≡ sought (top_holders s at p.inside) (top_at s p.inside).end left → z ≡ closed_sought s y
+  pub command_inside : (i : ℕ) → p.inside ≡ Some i → (y z : Sought) → y ≡ sought (top_holders s at i) (top_at s i).end left → z ≡ closed_sought s y
       → z ≡ sought (command_holders s at) (command_at s at).end left
   unfolding command_holders
-  command_inside b y z f c =
-      let e : past_sign right_brace s (top_at s p.inside).end ≡ (command_at s at).end = command_ends s at _ p o (unfold command_end_from pick in rw b) in
-      closed_by_lem s (top_holders s at p.inside) (top_at s p.inside).end (command_at s at).end left y z f c e ∙ sym (rw (← o.braces, b, ← o.inside) (unfold pick in refl))
+  command_inside i b y z f c =
+      let w = inside_some s (command_head_end s at) i p.inside o.inside b in
+      let e : past_sign right_brace s (top_at s i).end ≡ (command_at s at).end = command_ends s at _ p o (unfold command_end_from closed_end in rw b) in
+      closed_by_lem s (top_holders s at i) (top_at s i).end (command_at s at).end left y z f c e ∙ sym (rw (w.0, ← w.1) (unfold pick in refl))
 
-  pub command_past : p.braces ≡ false → Behind left p.end ≡ sought (command_holders s at) (command_at s at).end left
+  pub command_past : p.inside ≡ None → behind left p.end ≡ sought (command_holders s at) (command_at s at).end left
   unfolding command_holders
-  command_past f =
-      let e : p.end ≡ (command_at s at).end = command_ends s at p.end p o (unfold command_end_from pick in rw f) in
-      none_sought p.end (command_at s at).end left e ∙ sym (rw (← o.braces, f) (unfold pick in refl))
+  command_past n =
+      let e : p.end ≡ (command_at s at).end = command_ends s at p.end p o (unfold command_end_from closed_end in rw n) in
+      none_sought p.end (command_at s at).end left e ∙ sym (rw (inside_none s (command_head_end s at) p.inside o.inside n) (unfold pick in refl))
 
 module _ (s : List ℕ) (at : ℕ) (a : ActionPlaces) (b : Rest) (ea : a ≡ action_places s at) (eb : b ≡ rest_of (unlimited s) s a.body) (left : ℕ) where
   rest_is : b ≡ rest_in s at
@@ -256,13 +219,13 @@ module _ (s : List ℕ) (at : ℕ) (a : ActionPlaces) (b : Rest) (ea : a ≡ act
       action_ends s at (commands_at s b.at).end _ a b ea eb (unfold body_end pick in rw t) refl in
       closed_by_lem s (commands_holders s b.at) (commands_at s b.at).end (action_at s at).end left y z f c e ∙ sym (rw (← rest_is, t) (unfold pick in refl))
 
-  pub action_past : b.commands ≡ false → (e : ℕ) → e ≡ past_sign right_brace s b.at → Behind left e ≡ sought (action_holders s at) (action_at s at).end left
+  pub action_past : b.commands ≡ false → (e : ℕ) → e ≡ past_sign right_brace s b.at → behind left e ≡ sought (action_holders s at) (action_at s at).end left
   unfolding action_holders rest_holders
   action_past f e h =
       let k : e ≡ (action_at s at).end = action_ends s at b.at e a b ea eb (unfold body_end pick in rw f) h in
       none_sought e (action_at s at).end left k ∙ sym (rw (← rest_is, f) (unfold pick in refl))
 
--- ---- the message: q is what is found in all, with at most k transactions from here
+-- ---- the message: q is what is found in all, told from the place that n of the transactions were passed up to
 
 found_both : (xs ys : List Holder) (e d k : ℕ) → found_in (sought (xs ++ ys) e k) ≡ found_in (by_sought (sought xs d k) (sought ys e))
 found_both xs ys e d k = ap found_in (sought_both xs ys e d k)
@@ -273,23 +236,11 @@ found_any [] e d k = refl
 found_any (x ∷ xs) e d zero = refl
 found_any (x ∷ xs) e d (suc k) = found_any xs e d k
 
-pub find_begin : (s : List ℕ) (k i : ℕ) → i ≡ header_end s → message_sought s k ≡ found_in (sought (transactions_holders 8 s i) 0 k)
-unfolding message_sought
-find_begin s k i e = rw e
-
 -- a transaction or an acknowledgement
-pub acks_begin : (s : List ℕ) (at : ℕ) → (acks_at s at).end ≡ list_end (λ j. (ack_at s j).end) s (length s + 1 - 0) at
-unfolding acks_at unlimited
-acks_begin s at = let z : length s + 1 - 0 ≡ length s + 1 = omega arith in rw z
-
-pub ack_end : (s : List ℕ) (at e : ℕ) (a : AckPlaces) → a ≡ ack_places s at → e ≡ a.end → e ≡ (ack_at s at).end
-unfolding ack_places
-ack_end s at e a f h = h ∙ ap (λ (z : AckPlaces). z.end) f
-
 module _ (s : List ℕ) (at : ℕ) (x : Bool) (g : x ≡ is_acknowledgement s at) (left : ℕ) where
-  pub served_past : x ≡ true → (b e u : ℕ) → b ≡ acks_start s at → e ≡ (acks_at s b).end → u ≡ past_sign right_brace s e → Behind left u ≡ sought (served_holders s at) (part_end s at) left
+  pub served_past : x ≡ true → (b e u : ℕ) → b ≡ acks_start s at → e ≡ (acks_at s b).end → u ≡ past_sign right_brace s e → behind left u ≡ sought (served_holders s at) (part_end s at) left
   unfolding served_holders part_end acknowledgement_end acknowledgement_at acks_start sought pick
-  served_past t b e u eb ee eu = rw (← g, t) (ap (λ (z : ℕ). Behind left z) (eu ∙ rw (ee, eb)))
+  served_past t b e u eb ee eu = rw (← g, t) (ap (λ (z : ℕ). behind left z) (eu ∙ rw (ee, eb)))
 
   module _ (f : x ≡ false) (p : TransactionPlaces) (ep : p ≡ transaction_places s at) (y : Sought) (e : y ≡ sought (actions_holders s p.body) (actions_at s p.body).end left) where
     served_body : p.body ≡ actions_start s at
@@ -300,100 +251,57 @@ module _ (s : List ℕ) (at : ℕ) (x : Bool) (g : x ≡ is_acknowledgement s at
     unfolding served_holders part_end pick
     served_is = rw (← g, f, served_body)
 
-    pub served_here : (z : Holder) → y ≡ Here z → y ≡ sought (served_holders s at) (part_end s at) left
-    served_here z n = found_here (actions_holders s p.body) _ (transaction_end s at) left z y e n ∙ sym served_is
+    pub served_here : (z : Holder) → y ≡ Break z → Break z ≡ sought (served_holders s at) (part_end s at) left
+    served_here z n = sym n ∙ found_here (actions_holders s p.body) _ (transaction_end s at) left z y e n ∙ sym served_is
 
-    pub served_behind : (l d u : ℕ) → y ≡ Behind l d → u ≡ closing_end s d → Behind l u ≡ sought (served_holders s at) (part_end s at) left
-    served_behind l d u n c =
-        let w : d ≡ (actions_at s p.body).end = behind_end (actions_holders s p.body) _ left l d (sym e ∙ n) in
+    pub served_behind : (b : Behind) (u : ℕ) → y ≡ Continue b → u ≡ closing_end s b.end → behind b.left u ≡ sought (served_holders s at) (part_end s at) left
+    served_behind b u n c =
+        let w : b.end ≡ (actions_at s p.body).end = behind_end (actions_holders s p.body) _ left b.left b.end (sym e ∙ n) in
         let t : u ≡ transaction_end s at = transaction_ends s at (actions_at s p.body).end u p ep refl (c ∙ ap (closing_end s) w) in
-        rw t (found_behind (actions_holders s p.body) _ (transaction_end s at) left l d (sym e ∙ n)) ∙ sym served_is
+        rw t (found_behind (actions_holders s p.body) _ (transaction_end s at) left b.left b.end (sym e ∙ n)) ∙ sym served_is
 
-module _ (s : List ℕ) (k i left : ℕ) (q : Wanted) (inv : q ≡ found_in (sought (transactions_holders k s i) 0 left)) where
-  pub find_none : k ≤ 0 → NoText ≡ q
+module _ (s : List ℕ) (n i left : ℕ) (q : Wanted) (inv : found_in (sought (transactions_holders (8 - n) s i) 0 left) ≡ q) where
+  pub find_none : 8 ≤ n → None ≡ q
   unfolding transactions_holders found_in sought
-  find_none h = let z : k ≡ 0 = omega arith in sym (inv ∙ rw z)
+  find_none h = let z : 8 - n ≡ 0 = omega arith in rw z at inv
 
-  module _ (h : 0 < k) (y : Sought) (e : y ≡ sought (served_holders s i) (part_end s i) left) where
-    find_turn : q ≡ found_in (by_sought y (sought (pick (ltb (part_end s i) (length s)) (transactions_holders (k - 1) s (part_end s i)) []) 0))
+  module _ (h : n < 8) (y : Sought) (e : y ≡ sought (served_holders s i) (part_end s i) left) where
+    abbrev others : List Holder
+    others = pick (ltb (part_end s i) (length s)) (transactions_holders (8 - (n + 1)) s (part_end s i)) []
+
+    find_turn : found_in (by_sought y (sought others 0)) ≡ q
     unfolding transactions_holders
-    find_turn = let z : k ≡ suc (k - 1) = omega arith in by k (k - 1) z inv
-      where
-        by : (a b : ℕ) → a ≡ suc b → q ≡ found_in (sought (transactions_holders a s i) 0 left)
-            → q ≡ found_in (by_sought y (sought (pick (ltb (part_end s i) (length s)) (transactions_holders b s (part_end s i)) []) 0))
-        by a b z f = rw z at f ∙ found_both (served_holders s i) _ 0 (part_end s i) left ∙ rw e
+    find_turn =
+        let z : 8 - n ≡ suc (8 - (n + 1)) = omega arith in
+        ap (λ x. found_in (by_sought x (sought others 0))) e ∙ sym (found_both (served_holders s i) others 0 (part_end s i) left)
+        ∙ ap (λ k. found_in (sought (transactions_holders k s i) 0 left)) (sym z) ∙ inv
 
-    pub find_here : (x : Holder) → y ≡ Here x → Held x ≡ q
+    pub find_here : (x : Holder) → y ≡ Break x → Some x ≡ q
     unfolding by_sought found_in
-    find_here x n = sym (find_turn ∙ rw n)
+    find_here x m = sym (rw m) ∙ find_turn
 
-    module _ (l d : ℕ) (n : y ≡ Behind l d) where
-      next_is : d ≡ part_end s i
-      next_is = behind_end (served_holders s i) _ left l d (sym e ∙ n)
+    module _ (b : Behind) (m : y ≡ Continue b) where
+      next_is : b.end ≡ part_end s i
+      next_is = behind_end (served_holders s i) _ left b.left b.end (sym e ∙ m)
 
-      pub find_end : length s ≤ d → NoText ≡ q
-      unfolding by_sought found_in sought pick
-      find_end m = let t : length s ≤ part_end s i = rw next_is at m in sym (find_turn ∙ rw (n, le-ltb (part_end s i) (length s) t))
+      find_onward : found_in (sought others 0 b.left) ≡ q
+      unfolding by_sought
+      find_onward = sym (rw m) ∙ find_turn
 
-      pub find_more : d < length s → q ≡ found_in (sought (transactions_holders (k - 1) s d) 0 l)
-      unfolding by_sought pick
-      find_more m = let t : part_end s i < length s = rw next_is at m in find_turn ∙ rw (n, lt-ltb (part_end s i) (length s) t, next_is)
+      pub find_end : length s ≤ b.end → None ≡ q
+      unfolding found_in sought pick
+      find_end l = let t : length s ≤ part_end s i = rw next_is at l in sym (rw (le-ltb (part_end s i) (length s) t)) ∙ find_onward
+
+      pub find_more : b.end < length s → found_in (sought (transactions_holders (8 - (n + 1)) s b.end) 0 b.left) ≡ q
+      unfolding pick
+      find_more l = let t : part_end s i < length s = rw next_is at l in rw next_is (sym (rw (lt-ltb (part_end s i) (length s) t)) ∙ find_onward)
 
 -- ---- what stands there
-
-module _ (s : List ℕ) (k : ℕ) (v : Verdict) (e : v ≡ verdict_of (message_r s)) where
-  pub wanted_found : (x : Wanted) → v ≡ WellFormed → x ≡ message_sought s k → x ≡ holder_number s k
-  unfolding holder_number where_text
-  wanted_found x w f = f ∙ sym (rw (← e, w))
-
-  pub wanted_400 : v ≡ Fault400 → NoText ≡ holder_number s k
-  unfolding holder_number where_text
-  wanted_400 w = sym (rw (← e, w))
-
-  pub wanted_403 : (id : ℕ) → v ≡ Fault403 id → NoText ≡ holder_number s k
-  unfolding holder_number where_text
-  wanted_403 id w = sym (rw (← e, w))
-
-  pub wanted_406 : v ≡ WrongVersion406 → NoText ≡ holder_number s k
-  unfolding holder_number where_text
-  wanted_406 w = sym (rw (← e, w))
 
 pub local_by : (s : List ℕ) (at : ℕ) (p : SpeechPlaces) (r : Bool) → OfSpeech s at p
     → r ≡ spells LocalToken (take (p.word.to - p.word.from) (drop p.word.from s)) → r ≡ local_at s at
 unfolding local_at part
 local_by s at p r o e = e ∙ ap (spells LocalToken) (unfold part in o.word.bytes)
-
-module _ (s : List ℕ) (x : Wanted) where
-  module _ (h : Holder) (e : x ≡ Held h) where
-    module _ (b : Bool) (l : b ≡ local_at s h.item) where
-      pub side_local : b ≡ true → 1 ≡ side_there s x
-      unfolding side_there side_number side_called pick
-      side_local t = sym (rw (e, ← l, t))
-
-      pub side_remote : b ≡ false → 2 ≡ side_there s x
-      unfolding side_there side_number side_called pick
-      side_remote t = sym (rw (e, ← l, t))
-
-    pub text_held : (p : SpeechPlaces) → OfSpeech s h.item p → Holds s (text_start s x) (text_end s x) p.text
-    unfolding text_start text_end
-    text_held p o = rw e o.text
-
-    pub name_held : (p : CommandPlaces) → OfCommand s h.command p → Holds s (owner_start s x) (owner_end s x) p.name
-    unfolding owner_start owner_end
-    name_held p o = rw e o.name
-
-  module _ (e : x ≡ NoText) where
-    pub side_none : 0 ≡ side_there s x
-    unfolding side_there
-    side_none = sym (rw e)
-
-    pub text_none : (p : Piece) → Holds s 0 0 p → Holds s (text_start s x) (text_end s x) p
-    unfolding text_start text_end
-    text_none p o = rw e o
-
-    pub name_none : (p : Piece) → Holds s 0 0 p → Holds s (owner_start s x) (owner_end s x) p
-    unfolding owner_start owner_end
-    name_none p o = rw e o
 
 -- a part within the message, by its length
 packed_is : (s : List ℕ) (a e : ℕ) (t : List ℕ) → a ≤ e → e ≤ length s → part s a e ≡ t → a * 4294967296 + (e - a) ≡ a * 4294967296 + length t

@@ -1,4 +1,5 @@
 -- The texts found by position are those of the tree.
+use Rattle.std.specs.Prelude.{Some, None, Ok, Err}
 use Prim.Native.Nat.{ℕ, zero, suc, ◌+◌}
 use mathlib.Core.Path.{◌≡◌, refl, sym, ap, ◌∙◌}
 use mathlib.Core.Bool.{Bool, true, false, not, ◌&&◌}
@@ -18,15 +19,12 @@ use Rattle.megaco.specs.Reading.{Read, unlimited, value_of, may_be_empty, word_h
 use Rattle.megaco.specs.Items.{called, items_in}
 use Rattle.protocol.specs.Types.{Side, AuditToken, MediaToken}
 use Rattle.read_command.specs.declared.Rest.{Rest}
-use Rattle.read_command.specs.declared.Verdict.{Verdict}
-use Rattle.read_command.specs.declared.Verdict.TheVariants.{WellFormed, Fault400, Fault403, WrongVersion406}
+use Rattle.read_command.specs.declared.Fault.TheVariants.{Fault400, Fault403, WrongVersion406}
 use Rattle.read_command.specs.Production.{Production, past_sign, word_end, list_of}
 use Rattle.read_command.specs.Places.{second_at, value_item_at, braces_at, audit_at, empty_at, or_none_at, equal_place, head_end, item_at, items_at, octets_start, octets_end, speech_at, media_item_at, media_at, top_item_at, top_at, order_at, order_start, order_end, name_start, name_end, command_head_end, command_at, commands_at, context_start, body_start, rest_in, commands_in, action_at, actions_at}
-use Rattle.read_command.specs.Messages.{actions_start, transaction_of, is_acknowledgement, acks_of, part_of, part_end, transactions_at, header_end, message_at, verdict, message_of, message_by, message_law, verdict_is}
+use Rattle.read_command.specs.Messages.{actions_start, transaction_of, is_acknowledgement, acks_of, part_of, part_end, transactions_at, header_end, message_at, Verdict, verdict, message_of, message_by, message_law, verdict_is}
 use Rattle.texts.specs.declared.Holder.{Holder}
-use Rattle.texts.specs.declared.Wanted.{Wanted}
-use Rattle.texts.specs.declared.Wanted.TheVariants.{Held, NoText}
-use Rattle.texts.specs.Texts.{Text, held_text, gather, side_called, part_texts, item_texts, command_texts, action_texts, transaction_texts, served_texts, message_texts, text_in, text_number, side_of, name_of, bytes_of, holders_in, media_item_holders, media_holders, top_item_holders, top_holders, command_holders, commands_holders, rest_holders, action_holders, actions_holders, served_holders, transactions_holders, sought, found_in, message_sought, where_text, holder_number, local_at, side_there, text_start, text_end, owner_start, owner_end}
+use Rattle.texts.specs.Texts.{Text, Wanted, held_text, gather, side_called, part_texts, item_texts, command_texts, action_texts, transaction_texts, served_texts, message_texts, text_in, text_number, side_of, name_of, bytes_of, holders_in, media_item_holders, media_holders, top_item_holders, top_holders, command_holders, commands_holders, rest_holders, action_holders, actions_holders, served_holders, transactions_holders, sought, found_in, message_sought, where_text, holder_number, local_at, side_there, text_start, text_end, owner_start, owner_end}
 
 module _ (s : List ℕ) where
   -- what a holder has
@@ -204,8 +202,8 @@ module _ (s : List ℕ) where
 
   -- ---- what is told of the text that is found
 
-  module _ {A : Type 0} (there : Wanted → A) (told : Option Text → A) (nothing : there NoText ≡ told none)
-      (same : (h : Holder) → there (Held h) ≡ told (some (text_at h))) where
+  module _ {A : Type 0} (there : Wanted → A) (told : Option Text → A) (nothing : there None ≡ told none)
+      (same : (h : Holder) → there (Some h) ≡ told (some (text_at h))) where
     found_told : (ps : List Holder) (e k : ℕ) → there (found_in (sought ps e k)) ≡ told (text_in (texts_at ps) k)
     unfolding found_in sought text_in texts_at
     found_told [] e k = nothing
@@ -217,11 +215,11 @@ module _ (s : List ℕ) where
     there_told k = rw (← verdict_is s, message_law s) (by (verdict s))
       where
         by : (v : Verdict) → there (where_text v s k) ≡ told (text_in (message_texts (message_by v (message_of s))) k)
-        by WellFormed = unfold where_text message_sought message_by message_texts in (
+        by (Ok tt) = unfold where_text message_sought message_by message_texts in (
             found_told (transactions_holders 8 s (header_end s)) 0 k ∙ ap (λ (l : List Text). told (text_in l k)) message_texts_lem)
-        by Fault400 = unfold where_text message_by message_texts text_in in nothing
-        by (Fault403 id) = unfold where_text message_by message_texts text_in in nothing
-        by WrongVersion406 = unfold where_text message_by message_texts text_in in nothing
+        by (Err Fault400) = unfold where_text message_by message_texts text_in in nothing
+        by (Err (Fault403 id)) = unfold where_text message_by message_texts text_in in nothing
+        by (Err WrongVersion406) = unfold where_text message_by message_texts text_in in nothing
 
   pub there_side : (k : ℕ) → side_there s (holder_number s k) ≡ side_of (text_number s k)
   unfolding side_there side_of text_at

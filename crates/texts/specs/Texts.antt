@@ -1,7 +1,9 @@
 -- The texts in the braces of Local and Remote of a message, in reading order, whose each is, and where it stands (document 02, CR 11): "The reader hands
 -- back the part of the message that holds the text, for the RTP card".
-use Rattle.std.specs.Prelude.{ℕ, zero, suc, ◌+◌, ◌*◌, ◌≤◌, ◌≡◌, Bool, ◌&&◌, List, [], ◌∷◌, ◌++◌, length, ltb}
+use Rattle.std.specs.Prelude.{ℕ, zero, suc, ◌+◌, ◌*◌, ◌≤◌, ◌≡◌, Bool, ◌&&◌, List, [], ◌∷◌, ◌++◌, length, ltb, Some, None, Ok, Err}
+use Rattle.std.specs.declared.option.Option.{Option as StdOption}
 use Rattle.std.proofs.Math.Option.{Option, none, some}
+use Rattle.std.proofs.Common.{ControlFlow, Continue, Break}
 use Rattle.base.specs.Pick.{pick}
 use Rattle.base.specs.Lists.{is_at, part}
 use Rattle.megaco.specs.Bytes.{comma, left_brace, right_brace}
@@ -11,17 +13,12 @@ use Rattle.megaco.specs.Reading.{unlimited, media_here, speech_here, message_r}
 use Rattle.megaco.specs.Items.{called, items_in}
 use Rattle.protocol.specs.Types.{Side, OfLocal, OfRemote, LocalToken, MediaToken}
 use Rattle.read_command.specs.declared.Rest.{Rest}
-use Rattle.read_command.specs.declared.Verdict.{Verdict}
-use Rattle.read_command.specs.declared.Verdict.TheVariants.{WellFormed, Fault400, Fault403, WrongVersion406}
 use Rattle.read_command.specs.Pieces.{piece_of}
 use Rattle.read_command.specs.Production.{past_sign, word_end}
 use Rattle.read_command.specs.Places.{head_end, octets_start, octets_end, media_item_at, top_item_at, name_start, name_end, command_head_end, command_at, rest_in, action_at}
-use Rattle.read_command.specs.Messages.{actions_start, is_acknowledgement, part_end, header_end, verdict_of}
+use Rattle.read_command.specs.Messages.{Verdict, actions_start, is_acknowledgement, part_end, header_end, verdict_of}
 use Rattle.texts.specs.declared.Holder.{Holder}
-use Rattle.texts.specs.declared.Sought.{Sought}
-use Rattle.texts.specs.declared.Sought.TheVariants.{Here, Behind}
-use Rattle.texts.specs.declared.Wanted.{Wanted}
-use Rattle.texts.specs.declared.Wanted.TheVariants.{Held, NoText}
+use Rattle.texts.specs.declared.Behind.{Behind}
 
 -- ---- the texts of a message that was read
 
@@ -148,29 +145,38 @@ transactions_holders (suc k) s at =
 
 -- ---- the search
 
+-- who holds the text that is wanted, if there is one
+abbrev pub Wanted : Type 0
+Wanted = StdOption Holder
+
+-- what a search comes to: who holds the text; or it goes on, so many texts further on, behind the parts that end here
+abbrev pub Sought : Type 0
+Sought = ControlFlow Holder Behind
+
+abbrev pub behind : ℕ → ℕ → Sought
+behind k e = Continue (record { left = k; end = e })
+
 -- the holder with this number, or how many are left to pass behind the end
 unfoldable pub sought : List Holder → ℕ → ℕ → Sought
-sought [] e k = Behind k e
-sought (x ∷ xs) e zero = Here x
+sought [] e k = behind k e
+sought (x ∷ xs) e zero = Break x
 sought (x ∷ xs) e (suc k) = sought xs e k
 
 unfoldable pub closed_sought : List ℕ → Sought → Sought
-closed_sought s (Here x) = Here x
-closed_sought s (Behind k e) = Behind k (past_sign right_brace s e)
+closed_sought s (Break x) = Break x
+closed_sought s (Continue b) = behind b.left (past_sign right_brace s b.end)
 
 unfoldable pub found_in : Sought → Wanted
-found_in (Here x) = Held x
-found_in (Behind k e) = NoText
+found_in (Break x) = Some x
+found_in (Continue b) = None
 
 unfoldable pub message_sought : List ℕ → ℕ → Wanted
 message_sought s k = found_in (sought (transactions_holders 8 s (header_end s)) 0 k)
 
 -- of a message that reads
 unfoldable pub where_text : Verdict → List ℕ → ℕ → Wanted
-where_text WellFormed s k = message_sought s k
-where_text Fault400 s k = NoText
-where_text (Fault403 id) s k = NoText
-where_text WrongVersion406 s k = NoText
+where_text (Ok tt) s k = message_sought s k
+where_text (Err e) s k = None
 
 unfoldable pub holder_number : List ℕ → ℕ → Wanted
 holder_number s k = where_text (verdict_of (message_r s)) s k
@@ -182,25 +188,25 @@ unfoldable pub local_at : List ℕ → ℕ → Bool
 local_at s at = spells LocalToken (part s at (word_end s at))
 
 unfoldable pub side_there : List ℕ → Wanted → ℕ
-side_there s (Held h) = side_number (side_called (local_at s h.item))
-side_there s NoText = 0
+side_there s (Some h) = side_number (side_called (local_at s h.item))
+side_there s None = 0
 
 -- where the text and the name begin and end; at the message's start where there is none
 unfoldable pub text_start : List ℕ → Wanted → ℕ
-text_start s (Held h) = octets_start s h.item
-text_start s NoText = 0
+text_start s (Some h) = octets_start s h.item
+text_start s None = 0
 
 unfoldable pub text_end : List ℕ → Wanted → ℕ
-text_end s (Held h) = octets_end s h.item
-text_end s NoText = 0
+text_end s (Some h) = octets_end s h.item
+text_end s None = 0
 
 unfoldable pub owner_start : List ℕ → Wanted → ℕ
-owner_start s (Held h) = name_start s h.command
-owner_start s NoText = 0
+owner_start s (Some h) = name_start s h.command
+owner_start s None = 0
 
 unfoldable pub owner_end : List ℕ → Wanted → ℕ
-owner_end s (Held h) = name_end s h.command
-owner_end s NoText = 0
+owner_end s (Some h) = name_end s h.command
+owner_end s None = 0
 
 -- where the text with this number begins in the message, and where the name of its termination does
 unfoldable pub text_place : List ℕ → ℕ → ℕ

@@ -2,14 +2,16 @@
 // it is Local's or Remote's, and the name of its command's termination as written.
 #![tactic(auto)]
 
-ghost use Rattle.std.specs.Prelude.{◌≡◌, ◌+◌, ◌-◌, ◌*◌, ◌≤◌};
+ghost use Rattle.std.specs.Prelude.{◌≡◌, ◌+◌, ◌-◌, ◌*◌, ◌≤◌, ◌<◌, ◌^◌, ℕ, List};
+ghost use Rattle.read_command.specs.Production.{list_end};
 ghost use Rattle.read_command.specs.Pieces.{Holds};
-ghost use Rattle.read_command.specs.Places.{media_item_at, media_at, top_item_at, top_at, command_at, commands_at, action_at, actions_at, acks_at};
+ghost use Rattle.read_command.specs.Places.{media_item_at, media_at, top_item_at, top_at, command_at, commands_at, action_at, actions_at, ack_at, acks_at};
 ghost use Rattle.read_command.specs.Messages.{part_end};
-ghost use Rattle.texts.specs.Texts.{sought, closed_sought, media_item_holders, media_holders, top_item_holders, top_holders, command_holders, commands_holders, action_holders, actions_holders, served_holders, message_sought, holder_number, local_at, side_there, text_start, text_end, owner_start, owner_end, text_number, side_of, name_of, bytes_of, text_place, name_place, text_part, name_part, side_given};
+ghost use Rattle.texts.specs.Texts.{Sought, holders_in, sought, closed_sought, media_item_holders, media_holders, top_item_holders, top_holders, command_holders, commands_holders, action_holders, actions_holders, served_holders, message_sought, holder_number, local_at, side_there, text_start, text_end, owner_start, owner_end, text_number, side_of, name_of, bytes_of, text_place, name_place, text_part, name_part, side_given};
 
-use megaco::{Parsed, Token};
-use read_command::{Piece, Verdict};
+use megaco::Token;
+use read_command::Piece;
+use std::ops::ControlFlow;
 
 // A message that a call can take is no longer.
 const LONGEST: usize = 4096;
@@ -21,152 +23,135 @@ pub struct Holder {
     pub item: usize,
 }
 
-// What a search for a text finds: who holds it; or that it stands behind these parts, which end here, so many texts further on.
+// A search that goes on behind the parts that end here, so many texts further on.
 #[derive(Clone, Copy)]
-pub enum Sought {
-    Here(Holder),
-    Behind { left: usize, end: usize },
+pub struct Behind {
+    pub left: usize,
+    pub end: usize,
 }
 
-// Who holds the text that is wanted, if there is one.
-#[derive(Clone, Copy)]
-pub enum Wanted {
-    Held(Holder),
-    NoText,
-}
+// What a search for a text comes to: who holds it; or it goes on.
+type Sought = ControlFlow<Holder, Behind>;
 
 // A part in braces, and the brace that closes it.
+#[tactic(auto, unfolding(crate::specs::Texts::closed_sought))]
 fn closed(s: &[u8], x: Sought) -> Sought
     ensures { result ≡ closed_sought s.now x }
 {
-    match x {
-        Sought::Here(_) => x,
-        Sought::Behind { left, end } => Sought::Behind {
-            left: left,
-            end: command_places::past_closing(s, end),
-        },
+    let b = x?;
+    ControlFlow::Continue(Behind {
+        left: b.left,
+        end: command_places::past_closing(s, b.end),
+    })
+}
+
+// At most so many parts joined by commas, in each of which `part` searches.
+fn list<F: Fn(usize, usize) -> Sought>(
+    s: &[u8],
+    most: usize,
+    at: usize,
+    k: usize,
+    part: F,
+) -> Sought
+    requires { F.IsAlwaysCallable part }
+    ensures { (one : ℕ → List Holder) → (end : ℕ → ℕ) → ((i l : ℕ) (r : Sought) → i < 2 ^ 64 → l < 2 ^ 64 → F.post part i l r → r ≡ sought (one i) (end i) l) → result ≡ sought (holders_in one end s.now most at) (list_end end s.now most at) k }
+{
+    let mut i = at;
+    let mut left = k;
+    for n in 0..most {
+        let b = part(i, left)?;
+        let Some(u) = command_places::next_part(s, b.end) else {
+            return ControlFlow::Continue(b);
+        };
+        i = u;
+        left = b.left;
     }
+    ControlFlow::Continue(Behind { left: left, end: i })
 }
 
 // ---- items
 
+#[tactic(auto, using(crate::proofs::SeekLaws::part_here, crate::proofs::SeekLaws::part_past, crate::proofs::SeekLaws::part_other))]
 fn media_item(s: &[u8], command: usize, at: usize, left: usize) -> Sought
     ensures { result ≡ sought (media_item_holders s.now command at) (media_item_at s.now at).end left }
 {
     let e = command_places::media_item_end(s, at);
     if read_command::speech_here(s, at) {
         if left == 0 {
-            return Sought::Here(Holder {
+            return ControlFlow::Break(Holder {
                 command: command,
                 item: at,
             });
         }
-        return Sought::Behind {
+        return ControlFlow::Continue(Behind {
             left: left - 1,
             end: e,
-        };
+        });
     }
-    Sought::Behind { left: left, end: e }
+    ControlFlow::Continue(Behind { left: left, end: e })
 }
 
 fn media(s: &[u8], command: usize, at: usize, k: usize) -> Sought
     ensures { result ≡ sought (media_holders s.now command at) (media_at s.now at).end k }
 {
-    let mut i = at;
-    let mut n = 0;
-    let mut left = k;
-    while n <= s.len() {
-        let y = media_item(s, command, i, left);
-        let Sought::Behind { left: l, end: e } = y else {
-            return y;
-        };
-        let x = command_places::next_part(s, e);
-        let Parsed::Next(u) = x else {
-            return y;
-        };
-        i = u;
-        left = l;
-        n += 1;
-    }
-    Sought::Behind { left: left, end: i }
+    let part = |i: usize, left: usize| -> Sought
+        ensures { result ≡ sought (media_item_holders s.entry.now command i) (media_item_at s.entry.now i).end left }
+    { media_item(s, command, i, left) };
+    list(s, s.len() + 1, at, k, part)
 }
 
+#[tactic(auto, using(crate::proofs::SeekLaws::item_other, crate::proofs::SeekLaws::item_plain))]
 fn top_item(s: &[u8], command: usize, at: usize, left: usize) -> Sought
     ensures { result ≡ sought (top_item_holders s.now command at) (top_item_at s.now at).end left }
 {
-    let p = command_places::item_places(s, at);
-    if read_command::media_here(s, at) & p.braces {
-        let inside = p.inside;
-        return closed(s, media(s, command, inside, left));
+    if read_command::media_here(s, at) {
+        if let Some(inside) = command_places::item_places(s, at).inside {
+            return closed(s, media(s, command, inside, left));
+        }
     }
-    Sought::Behind {
+    ControlFlow::Continue(Behind {
         left: left,
         end: command_places::top_item_end(s, at),
-    }
+    })
 }
 
 fn top(s: &[u8], command: usize, at: usize, k: usize) -> Sought
     ensures { result ≡ sought (top_holders s.now command at) (top_at s.now at).end k }
 {
-    let mut i = at;
-    let mut n = 0;
-    let mut left = k;
-    while n <= s.len() {
-        let y = top_item(s, command, i, left);
-        let Sought::Behind { left: l, end: e } = y else {
-            return y;
-        };
-        let x = command_places::next_part(s, e);
-        let Parsed::Next(u) = x else {
-            return y;
-        };
-        i = u;
-        left = l;
-        n += 1;
-    }
-    Sought::Behind { left: left, end: i }
+    let part = |i: usize, left: usize| -> Sought
+        ensures { result ≡ sought (top_item_holders s.entry.now command i) (top_item_at s.entry.now i).end left }
+    { top_item(s, command, i, left) };
+    list(s, s.len() + 1, at, k, part)
 }
 
 // ---- commands
 
+#[tactic(auto, using(crate::proofs::SeekLaws::command_past))]
 fn command(s: &[u8], at: usize, left: usize) -> Sought
     ensures { result ≡ sought (command_holders s.now at) (command_at s.now at).end left }
 {
     let p = command_places::command_places(s, at);
-    if p.braces {
-        let inside = p.inside;
+    if let Some(inside) = p.inside {
         return closed(s, top(s, at, inside, left));
     }
-    Sought::Behind {
+    ControlFlow::Continue(Behind {
         left: left,
         end: p.end,
-    }
+    })
 }
 
 fn commands(s: &[u8], at: usize, k: usize) -> Sought
     ensures { result ≡ sought (commands_holders s.now at) (commands_at s.now at).end k }
 {
-    let mut i = at;
-    let mut most: usize = 64;
-    let mut left = k;
-    while 0 < most {
-        let y = command(s, i, left);
-        let Sought::Behind { left: l, end: e } = y else {
-            return y;
-        };
-        let x = command_places::next_part(s, e);
-        let Parsed::Next(u) = x else {
-            return y;
-        };
-        i = u;
-        left = l;
-        most -= 1;
-    }
-    Sought::Behind { left: left, end: i }
+    let part = |i: usize, left: usize| -> Sought
+        ensures { result ≡ sought (command_holders s.entry.now i) (command_at s.entry.now i).end left }
+    { command(s, i, left) };
+    list(s, 64, at, k, part)
 }
 
 // ---- actions
 
+#[tactic(auto, using(crate::proofs::SeekLaws::action_inside, crate::proofs::SeekLaws::action_past))]
 fn action(s: &[u8], at: usize, left: usize) -> Sought
     ensures { result ≡ sought (action_holders s.now at) (action_at s.now at).end left }
 {
@@ -177,118 +162,89 @@ fn action(s: &[u8], at: usize, left: usize) -> Sought
         return closed(s, commands(s, first, left));
     }
     let end = b.at;
-    Sought::Behind {
+    ControlFlow::Continue(Behind {
         left: left,
         end: command_places::past_closing(s, end),
-    }
+    })
 }
 
 fn actions(s: &[u8], at: usize, k: usize) -> Sought
     ensures { result ≡ sought (actions_holders s.now at) (actions_at s.now at).end k }
 {
-    let mut i = at;
-    let mut most: usize = 16;
-    let mut left = k;
-    while 0 < most {
-        let y = action(s, i, left);
-        let Sought::Behind { left: l, end: e } = y else {
-            return y;
-        };
-        let x = command_places::next_part(s, e);
-        let Parsed::Next(u) = x else {
-            return y;
-        };
-        i = u;
-        left = l;
-        most -= 1;
-    }
-    Sought::Behind { left: left, end: i }
+    let part = |i: usize, left: usize| -> Sought
+        ensures { result ≡ sought (action_holders s.entry.now i) (action_at s.entry.now i).end left }
+    { action(s, i, left) };
+    list(s, 16, at, k, part)
 }
 
 // ---- the message
 
 // The end of what an acknowledgement names.
+#[tactic(auto, unfolding(action_places::specs::ActionPlaces::ack_places))]
 fn acks_end(s: &[u8], at: usize) -> usize
     ensures { result ≡ (acks_at s.now at).end }
 {
-    let mut i = at;
-    let mut n = 0;
-    while n <= s.len() {
-        let a = action_places::ack_places(s, i);
-        let e = a.end;
-        let x = command_places::next_part(s, e);
-        let Parsed::Next(u) = x else {
-            return e;
-        };
-        i = u;
-        n += 1;
-    }
-    i
+    let end = |i: usize| -> usize
+        ensures { result ≡ (ack_at s.entry.now i).end }
+    { action_places::ack_places(s, i).end };
+    command_places::list_end(s, s.len() + 1, at, end)
 }
 
 // A transaction or an acknowledgement.
+#[tactic(auto, using(crate::proofs::SeekLaws::served_past, crate::proofs::SeekLaws::served_here, crate::proofs::SeekLaws::served_behind))]
 fn served(s: &[u8], at: usize, left: usize) -> Sought
     ensures { result ≡ sought (served_holders s.now at) (part_end s.now at) left }
 {
     if action_places::is_acknowledgement(s, at) {
         let b = action_places::acks_start(s, at);
         let e = acks_end(s, b);
-        return Sought::Behind {
+        return ControlFlow::Continue(Behind {
             left: left,
             end: command_places::past_closing(s, e),
-        };
+        });
     }
     let p = action_places::transaction_places(s, at);
-    let y = actions(s, p.body, left);
-    match y {
-        Sought::Here(_) => y,
-        Sought::Behind { left: l, end: e } => Sought::Behind {
-            left: l,
-            end: action_places::closing_end(s, e),
-        },
-    }
+    let b = actions(s, p.body, left)?;
+    ControlFlow::Continue(Behind {
+        left: b.left,
+        end: action_places::closing_end(s, b.end),
+    })
 }
 
 // Who holds the text in a well-formed message, if there are more than k.
-fn find(s: &[u8], k: usize) -> Wanted
+fn find(s: &[u8], k: usize) -> Option<Holder>
     ensures { result ≡ message_sought s.now k }
 {
     let mut i = action_places::header_end(s);
-    let mut most: usize = 8;
     let mut left = k;
-    while 0 < most {
-        let y = served(s, i, left);
-        match y {
-            Sought::Here(x) => return Wanted::Held(x),
-            Sought::Behind { left: l, end: e } => {
-                i = e;
-                left = l;
+    for n in 0..8usize {
+        match served(s, i, left) {
+            ControlFlow::Break(x) => return Some(x),
+            ControlFlow::Continue(b) => {
+                i = b.end;
+                left = b.left;
             }
         }
         if s.len() <= i {
-            return Wanted::NoText;
+            return None;
         }
-        most -= 1;
     }
-    Wanted::NoText
+    None
 }
 
 // The same of any message: one that does not read has none.
-fn holder_of(s: &[u8], k: usize) -> Wanted
+#[tactic(auto, unfolding(crate::specs::Texts::holder_number, crate::specs::Texts::where_text))]
+fn holder_of(s: &[u8], k: usize) -> Option<Holder>
     ensures { result ≡ holder_number s.now k }
 {
-    let v = read_message::verdict(s);
-    match v {
-        Verdict::WellFormed => find(s, k),
-        Verdict::Fault400 => Wanted::NoText,
-        Verdict::Fault403(_) => Wanted::NoText,
-        Verdict::WrongVersion406 => Wanted::NoText,
-    }
+    read_message::verdict(s).ok()?;
+    find(s, k)
 }
 
 // ---- what stands there
 
 // Whether Local stands here, not Remote.
+#[tactic(auto, using(crate::proofs::SeekLaws::local_by), unfolding(base::specs::Pick::pick))]
 fn is_local(s: &[u8], at: usize) -> bool
     ensures { result ≡ local_at s.now at }
 {
@@ -299,43 +255,47 @@ fn is_local(s: &[u8], at: usize) -> bool
     keywords::spells(Token::LocalToken, &s[a..b])
 }
 
-fn side_there(s: &[u8], x: Wanted) -> u32
+#[tactic(auto, unfolding(crate::specs::Texts::side_there, crate::specs::Texts::side_number, crate::specs::Texts::side_called, base::specs::Pick::pick))]
+fn side_there(s: &[u8], x: Option<Holder>) -> u32
     ensures { result ≡ side_there s.now x }
 {
     match x {
-        Wanted::Held(h) => {
+        Some(h) => {
             if is_local(s, h.item) {
                 return 1;
             }
             2
         }
-        Wanted::NoText => 0,
+        None => 0,
     }
 }
 
 // The part of the message that holds the text; nothing, at the message's start, where there is none.
-fn text_there(s: &[u8], x: Wanted) -> Piece
+// This and `name_there`, as `text` and `name` and `text_part` and `name_part`, stay two: one function for both would take a closure and two definitions, and be no shorter.
+#[tactic(auto, unfolding(crate::specs::Texts::text_start, crate::specs::Texts::text_end))]
+fn text_there(s: &[u8], x: Option<Holder>) -> Piece
     ensures { Holds s.now (text_start s.now x) (text_end s.now x) result }
 {
     match x {
-        Wanted::Held(h) => {
+        Some(h) => {
             let p = command_places::speech_places(s, h.item);
             p.text
         }
-        Wanted::NoText => read_command::piece_of(s, 0, 0),
+        None => read_command::piece_of(s, 0, 0),
     }
 }
 
 // The same of the name of its command's termination.
-fn name_there(s: &[u8], x: Wanted) -> Piece
+#[tactic(auto, unfolding(crate::specs::Texts::owner_start, crate::specs::Texts::owner_end))]
+fn name_there(s: &[u8], x: Option<Holder>) -> Piece
     ensures { Holds s.now (owner_start s.now x) (owner_end s.now x) result }
 {
     match x {
-        Wanted::Held(h) => {
+        Some(h) => {
             let p = command_places::command_places(s, h.command);
             p.name
         }
-        Wanted::NoText => read_command::piece_of(s, 0, 0),
+        None => read_command::piece_of(s, 0, 0),
     }
 }
 
@@ -365,6 +325,7 @@ pub fn name<'a>(message: &'a [u8], k: usize) -> &'a [u8]
 }
 
 // Whose it is: 1 for Local, 2 for Remote, 0 where there is no such text; one that there is may be empty.
+#[tactic(auto, using(crate::proofs::SeekLaws::side_is), unfolding(base::specs::Pick::pick))]
 pub fn side(message: &[u8], k: usize) -> u32
     ensures { result ≡ side_of (text_number message.now k) }
 {
@@ -385,6 +346,7 @@ fn packed(p: Piece) -> u64
 }
 
 // Where the text stands, and how long it is.
+#[tactic(auto, using(crate::proofs::SeekLaws::long_text, crate::proofs::SeekLaws::the_text_part), unfolding(base::specs::Pick::pick))]
 pub fn text_part(message: &[u8], k: usize) -> u64
     ensures { result ≡ text_part message.now k }
 {
@@ -395,6 +357,7 @@ pub fn text_part(message: &[u8], k: usize) -> u64
 }
 
 // The same of the name.
+#[tactic(auto, using(crate::proofs::SeekLaws::long_name, crate::proofs::SeekLaws::the_name_part), unfolding(base::specs::Pick::pick))]
 pub fn name_part(message: &[u8], k: usize) -> u64
     ensures { result ≡ name_part message.now k }
 {
@@ -405,6 +368,7 @@ pub fn name_part(message: &[u8], k: usize) -> u64
 }
 
 // Whose it is, as `side` tells it.
+#[tactic(auto, using(crate::proofs::SeekLaws::long_side, crate::proofs::SeekLaws::given_side), unfolding(base::specs::Pick::pick))]
 pub fn side_given(message: &[u8], k: usize) -> u32
     ensures { result ≡ side_given message.now k }
 {

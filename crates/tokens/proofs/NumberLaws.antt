@@ -1,4 +1,5 @@
 -- Laws of `numberFrom` at a place of the message, in the form in which `search` uses them.
+use Rattle.std.specs.Prelude.{None}
 use Prim.Native.Nat.{ℕ, ◌+◌, ◌*◌, ◌-◌, ◌<◌, ◌≤◌}
 use mathlib.Core.Path.{◌≡◌, sym, ◌∙◌}
 use mathlib.Core.List.{List}
@@ -9,7 +10,7 @@ use lib.ListN.{length, get_or, drop, drop_of_length-le}
 use lib.Seq.{drop-cons}
 use borrow.Author.Tests.{lt-ltb, le-ltb, le-leb, lt-leb}
 use Rattle.base.specs.Pick.{pick}
-use Rattle.protocol.specs.Types.{Number, Bad}
+use Rattle.protocol.specs.Types.{Number}
 use Rattle.megaco.specs.Bytes.{is_digit}
 use Rattle.megaco.specs.Tokens.{number_from, number_end}
 
@@ -32,11 +33,11 @@ module _ (at most limit : ℕ) (s : List ℕ) (i v : ℕ) (q : Number) (inv : q 
       let f' : v * 10 + (get_or s i 0 - 48) ≤ limit = rw e at f in
       inv ∙ rw (drop-cons s i 0, is_digit_lem (get_or s i 0) l u, lt-leb most (i - at) d, le-ltb limit _ f', e, add-one)
 
-  pub long : i < length s → 48 ≤ get_or s i 0 → get_or s i 0 ≤ 57 → most ≤ i - at → Bad ≡ q
+  pub long : i < length s → 48 ≤ get_or s i 0 → get_or s i 0 ≤ 57 → most ≤ i - at → None ≡ q
   unfolding number_from pick
   long h l u d = sym (inv ∙ rw (drop-cons s i 0, is_digit_lem (get_or s i 0) l u, le-leb most (i - at) d))
 
-  pub big : (x : ℕ) → i < length s → 48 ≤ get_or s i 0 → get_or s i 0 ≤ 57 → i - at < most → limit < v * 10 + x → x ≡ get_or s i 0 - 48 → Bad ≡ q
+  pub big : (x : ℕ) → i < length s → 48 ≤ get_or s i 0 → get_or s i 0 ≤ 57 → i - at < most → limit < v * 10 + x → x ≡ get_or s i 0 - 48 → None ≡ q
   unfolding number_from pick
   big x h l u d f e =
       let f' : limit < v * 10 + (get_or s i 0 - 48) = rw e at f in

@@ -1,4 +1,5 @@
 -- Laws of words, names and values, in the form in which `search` uses them.
+use Rattle.std.specs.Prelude.{Some, None}
 use Prim.Native.Nat.{ℕ, suc, ◌+◌, ◌-◌, ◌<◌, ◌≤◌}
 use mathlib.Core.Path.{◌≡◌, refl, sym, ◌∙◌}
 use mathlib.Core.List.{List, [], ◌∷◌}
@@ -10,7 +11,7 @@ use borrow.Author.Tests.{lt-ltb, le-ltb, le-leb, lt-leb}
 use lib.ListN.{length, get_or, drop, length-drop, get_or-eq_default}
 use Rattle.base.specs.Pick.{pick}
 use Rattle.base.specs.Lists.{is_at}
-use Rattle.protocol.specs.Types.{Class, WordByte, NameByte, Parsed, Next, Fault, Number, Got, Bad}
+use Rattle.protocol.specs.Types.{Class, WordByte, NameByte, Parsed, Number, number}
 use Rattle.megaco.specs.Bytes.{star, dollar, is_digit, in_class}
 use Rattle.megaco.specs.Tokens.{letter_at, row_from, row_at, up_to64, word_at, path_start, path_name_at, termination_at, mark_at, after_number, m_id_at, whole_at, is_mid}
 use Rattle.megaco.specs.White.{after}
@@ -62,26 +63,26 @@ or_by a b x y t h f g = rw (← f, ← g) h
 letter_within : (s : List ℕ) (at : ℕ) → letter_at s at ≡ true → at < length s
 letter_within s at e = lt_of_not-le (λ (h : length s ≤ at). let z : ◌≡◌ {A = ℕ} 0 1 = cc (no_letter s at h) in omega arith)
 
-up_to_is : (a e f : ℕ) → up_to64 a e ≡ Next f → e ≡ f
+up_to_is : (a e f : ℕ) → up_to64 a e ≡ Some f → e ≡ f
 unfolding up_to64 pick
 up_to_is a e f = by (ltb 64 (e - a))
   where
-    by : (t : Bool) → pick t Fault (Next e) ≡ Next f → e ≡ f
+    by : (t : Bool) → pick t None (Some e) ≡ Some f → e ≡ f
     by true h = cc
     by false h = cc
 
-word_part : (s : List ℕ) (at e : ℕ) → word_at s at ≡ Next e → (at ≤ e) × (e ≤ length s)
+word_part : (s : List ℕ) (at e : ℕ) → word_at s at ≡ Some e → (at ≤ e) × (e ≤ length s)
 unfolding word_at pick
 word_part s at e h = by (letter_at s at) refl h
   where
-    by : (t : Bool) → letter_at s at ≡ t → pick t (up_to64 at (row_at WordByte s at)) Fault ≡ Next e → (at ≤ e) × (e ≤ length s)
+    by : (t : Bool) → letter_at s at ≡ t → pick t (up_to64 at (row_at WordByte s at)) None ≡ Some e → (at ≤ e) × (e ≤ length s)
     by true l g =
         let r : e ≡ row_at WordByte s at = sym (up_to_is at (row_at WordByte s at) e g) in
         let w : at < length s = letter_within s at l in
         (row_ahead WordByte s at e r, row_within WordByte s at e r (omega arith))
     by false l g = let z : ◌≡◌ {A = ℕ} 0 1 = cc in absurd (omega arith)
 
-module _ (s : List ℕ) (at e : ℕ) (y : Parsed) (w : y ≡ word_at s at) (n : y ≡ Next e) where
+module _ (s : List ℕ) (at e : ℕ) (y : Parsed) (w : y ≡ word_at s at) (n : y ≡ Some e) where
   pub word_ahead : at ≤ e
   word_ahead = (word_part s at e (sym w ∙ n)).0
 
@@ -100,7 +101,7 @@ module _ (s : List ℕ) (at p : ℕ) (g : p ≡ path_start s at) where
     unfolding path_name_at pick
     path_yes e r t h f = f ∙ rw (← g, ← l, t, ← h)
 
-    pub path_no : x ≡ false → Fault ≡ path_name_at s at
+    pub path_no : x ≡ false → None ≡ path_name_at s at
     unfolding path_name_at pick
     path_no t = rw (← g, ← l, t)
 
@@ -108,7 +109,7 @@ module _ (s : List ℕ) (at p : ℕ) (g : p ≡ path_start s at) where
     unfolding termination_at pick
     termination_path r t h = rw (← g, ← l, t) h
 
-    pub termination_star : (y : Bool) → x ≡ false → y ≡ is_at s at star → y ≡ true → Next (at + 1) ≡ termination_at s at
+    pub termination_star : (y : Bool) → x ≡ false → y ≡ is_at s at star → y ≡ true → Some (at + 1) ≡ termination_at s at
     unfolding termination_at pick
     termination_star y f h t = rw (← g, ← l, f, ← h, t)
 
@@ -118,11 +119,11 @@ module _ (s : List ℕ) (at p : ℕ) (g : p ≡ path_start s at) where
 
 -- ---- the arms of a match on a number
 
-pub number_next : (x : Number) (f : ℕ → Parsed) (y : Number) (r : Parsed) (v p : ℕ) → y ≡ x → y ≡ Got v p → r ≡ f p → r ≡ after_number x f
+pub number_next : (x : Number) (f : ℕ → Parsed) (y : Number) (r : Parsed) (v p : ℕ) → y ≡ x → y ≡ number v p → r ≡ f p → r ≡ after_number x f
 unfolding after_number
 number_next x f y r v p e n h = rw (← e, n) h
 
-pub number_bad : (x : Number) (f : ℕ → Parsed) (y : Number) → y ≡ x → y ≡ Bad → Fault ≡ after_number x f
+pub number_bad : (x : Number) (f : ℕ → Parsed) (y : Number) → y ≡ x → y ≡ None → None ≡ after_number x f
 unfolding after_number
 number_bad x f y e n = rw (← e, n)
 
@@ -146,10 +147,10 @@ unfolding is_mid
 mid_long own h = rw (lt-leb (length own) 64 h)
 
 module _ (own : List ℕ) (y : Parsed) (h : length own ≤ 64) (e : y ≡ m_id_at own 0) where
-  pub mid_next : (p : ℕ) → y ≡ Next p → eqb p (length own) ≡ is_mid own
+  pub mid_next : (p : ℕ) → y ≡ Some p → eqb p (length own) ≡ is_mid own
   unfolding is_mid whole_at
   mid_next p n = rw (le-leb (length own) 64 h, ← e, n)
 
-  pub mid_fault : y ≡ Fault → false ≡ is_mid own
+  pub mid_fault : y ≡ None → false ≡ is_mid own
   unfolding is_mid whole_at
   mid_fault n = rw (le-leb (length own) 64 h, ← e, n)

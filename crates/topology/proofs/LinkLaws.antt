@@ -1,4 +1,5 @@
 -- One triple: looked up, judged, set; and triples in a row.
+use Rattle.std.specs.Prelude.{Ok, Err}
 use Prim.Native.Nat.{ℕ, ◌-◌}
 use mathlib.Core.Path.{◌≡◌, refl, sym, ap, ◌∙◌}
 use mathlib.Core.List.{List, [], ◌∷◌, ◌++◌, append-nil}
@@ -11,18 +12,17 @@ use Rattle.base.proofs.TestLaws.{clash}
 use Rattle.megaco.specs.Bytes.{capitals}
 use Rattle.megaco.specs.Tree as tree
 use Rattle.megaco.specs.Tree.{Triple, priority, emergency, topology}
-use Rattle.megaco.specs.Square.{Square, square_of, directed}
-use Rattle.megaco.specs.Table.{cell, flow, get, low_flow, high_flow, known}
-use Rattle.megaco.specs.Topology.{triples_of, party, Link, link, link_of, links_of, is_unfit, is_absent, is_outside, place_of, set_link, set_links}
-use Rattle.megaco.specs.Attempt.{seen, flows_of, judge}
+use Rattle.megaco.specs.Square.{Square}
+use Rattle.megaco.specs.Topology.{triples_of, party, Link, link, link_of, links_of, is_unfit, is_absent, is_outside, set_link, set_links}
+use Rattle.megaco.specs.Attempt.{judge}
 use Rattle.megaco.specs.Action.{link_checks}
-use Rattle.protocol.specs.Types.{Checked, Passes, Fails, Party, Member, Property, Priority, Emergency, Topology}
-use Rattle.read_command.specs.Places.{triple_at, triples_start, triples_at, property_at}
+use Rattle.protocol.specs.Types.{Checked, Property, Priority, Emergency, Topology}
+use Rattle.read_command.specs.Places.{triples_start, triples_at, property_at}
 use Rattle.action_places.specs.ActionPlaces.{OfTriple, triple_from, kind_of}
 use Rattle.action_places.specs.declared.TriplePlaces.{TriplePlaces}
 use Rattle.action_places.proofs.ActionPlaceLaws.{triple_is, kind_topology}
 use Rattle.topology.specs.declared.Looked.{Looked}
-use Rattle.topology.specs.Links.{link_from, Links, is_topology, flows_after}
+use Rattle.topology.specs.Links.{link_from, Links, is_topology}
 
 -- ---- one triple
 pub looked_up : (s t : List ℕ) (at c : ℕ) (p : TriplePlaces) (r : Looked) → OfTriple s at p
@@ -31,29 +31,6 @@ pub looked_up : (s t : List ℕ) (at c : ℕ) (p : TriplePlaces) (r : Looked) �
     → r.direction ≡ p.direction → r.end ≡ p.end → Links s at t c r
 unfolding link_from link_of triple_from part
 looked_up s t at c p r o e f g d n = record { is = rw (e, f, g, d, triple_is s at p o); after = n ∙ o.end }
-
-module _ (x : Looked) (a b : Bool) (e : a ≡ is_unfit x.one) (f : b ≡ is_unfit x.two) where
-  pub link_unfit : x.twice || a || b ≡ true → Fails 410 ≡ judge (link_checks (link_from x ∷ []))
-  unfolding judge link_checks link_from pick
-  link_unfit h = rw (← e, ← f, h)
-
-  module _ (h : x.twice || a || b ≡ false) (u v : Bool) (g : u ≡ is_absent x.one) (k : v ≡ is_absent x.two) where
-    pub link_absent : u || v ≡ true → Fails 430 ≡ judge (link_checks (link_from x ∷ []))
-    unfolding judge link_checks link_from pick
-    link_absent l = rw (← e, ← f, h, ← g, ← k, l)
-
-    module _ (l : u || v ≡ false) (y z : Bool) (m : y ≡ is_outside x.one) (n : z ≡ is_outside x.two) where
-      pub link_outside : y || z ≡ true → Fails 435 ≡ judge (link_checks (link_from x ∷ []))
-      unfolding judge link_checks link_from pick
-      link_outside o = rw (← e, ← f, h, ← g, ← k, l, ← m, ← n, o)
-
-      pub link_good : y || z ≡ false → Passes ≡ judge (link_checks (link_from x ∷ []))
-      unfolding judge link_checks link_from pick
-      link_good o = rw (← e, ← f, h, ← g, ← k, l, ← m, ← n, o)
-
-pub link_set : (x : Looked) (q r : Square) (i j : ℕ) → i ≡ place_of x.one → j ≡ place_of x.two → r ≡ directed x.direction i j q → r ≡ set_links (link_from x ∷ []) q
-unfolding set_links set_link link_from
-link_set x q r i j e f p = p ∙ rw (e, f)
 
 -- ---- triples in a row
 unfoldable pub judged_by : ℕ → List ℕ → List Triple → Checked
@@ -77,44 +54,44 @@ unfolding set_by
 set_both c t a b q = rw (links_both c t a b) (set_links_both (links_of c t a) (links_of c t b) q)
 
 -- the three tests of a triple before others
-on_passes : (x y z : Bool) (r w : Checked) → pick x (Fails 410) (pick y (Fails 430) (pick z (Fails 435) r)) ≡ Passes
-    → (r ≡ Passes) × (pick x (Fails 410) (pick y (Fails 430) (pick z (Fails 435) w)) ≡ w)
+on_passes : (x y z : Bool) (r w : Checked) → pick x (Err 410) (pick y (Err 430) (pick z (Err 435) r)) ≡ Ok tt
+    → (r ≡ Ok tt) × (pick x (Err 410) (pick y (Err 430) (pick z (Err 435) w)) ≡ w)
 unfolding pick
 on_passes true y z r w e = absurd (let n : ◌≡◌ {A = ℕ} 0 1 = cc in omega arith)
 on_passes false true z r w e = absurd (let n : ◌≡◌ {A = ℕ} 0 1 = cc in omega arith)
 on_passes false false true r w e = absurd (let n : ◌≡◌ {A = ℕ} 0 1 = cc in omega arith)
 on_passes false false false r w e = (e, refl)
 
-passes_both : (a b : List Link) → judge (link_checks a) ≡ Passes → judge (link_checks (a ++ b)) ≡ judge (link_checks b)
+passes_both : (a b : List Link) → judge (link_checks a) ≡ Ok tt → judge (link_checks (a ++ b)) ≡ judge (link_checks b)
 unfolding judge link_checks
 passes_both [] b e = refl
 passes_both (link tw x y d ∷ a) b e =
     let k = on_passes (tw || is_unfit x || is_unfit y) (is_absent x || is_absent y) (is_outside x || is_outside y) (judge (link_checks a)) (judge (link_checks (a ++ b))) e in
     k.1 ∙ passes_both a b k.0
 
-on_fails : (x y z : Bool) (r w : Checked) (code : ℕ) → (r ≡ Fails code → w ≡ Fails code)
-    → pick x (Fails 410) (pick y (Fails 430) (pick z (Fails 435) r)) ≡ Fails code → pick x (Fails 410) (pick y (Fails 430) (pick z (Fails 435) w)) ≡ Fails code
+on_fails : (x y z : Bool) (r w : Checked) (code : ℕ) → (r ≡ Err code → w ≡ Err code)
+    → pick x (Err 410) (pick y (Err 430) (pick z (Err 435) r)) ≡ Err code → pick x (Err 410) (pick y (Err 430) (pick z (Err 435) w)) ≡ Err code
 unfolding pick
 on_fails true y z r w code f e = e
 on_fails false true z r w code f e = e
 on_fails false false true r w code f e = e
 on_fails false false false r w code f e = f e
 
-fails_both : (a b : List Link) (code : ℕ) → judge (link_checks a) ≡ Fails code → judge (link_checks (a ++ b)) ≡ Fails code
+fails_both : (a b : List Link) (code : ℕ) → judge (link_checks a) ≡ Err code → judge (link_checks (a ++ b)) ≡ Err code
 unfolding judge link_checks
 fails_both [] b code e = absurd (let n : ◌≡◌ {A = ℕ} 0 1 = cc in omega arith)
 fails_both (link tw x y d ∷ a) b code e =
     on_fails (tw || is_unfit x || is_unfit y) (is_absent x || is_absent y) (is_outside x || is_outside y) (judge (link_checks a)) (judge (link_checks (a ++ b))) code (fails_both a b code) e
 
-pub judged_pass : (c : ℕ) (t : List ℕ) (a b : List Triple) → judged_by c t a ≡ Passes → judged_by c t (a ++ b) ≡ judged_by c t b
+pub judged_pass : (c : ℕ) (t : List ℕ) (a b : List Triple) → judged_by c t a ≡ Ok tt → judged_by c t (a ++ b) ≡ judged_by c t b
 unfolding judged_by
 judged_pass c t a b e = rw (links_both c t a b) (passes_both (links_of c t a) (links_of c t b) e)
 
-pub judged_fail : (c : ℕ) (t : List ℕ) (a b : List Triple) (code : ℕ) → judged_by c t a ≡ Fails code → judged_by c t (a ++ b) ≡ Fails code
+pub judged_fail : (c : ℕ) (t : List ℕ) (a b : List Triple) (code : ℕ) → judged_by c t a ≡ Err code → judged_by c t (a ++ b) ≡ Err code
 unfolding judged_by
 judged_fail c t a b code e = rw (links_both c t a b) (fails_both (links_of c t a) (links_of c t b) code e)
 
-pub judged_none : (c : ℕ) (t : List ℕ) → judged_by c t [] ≡ Passes
+pub judged_none : (c : ℕ) (t : List ℕ) → judged_by c t [] ≡ Ok tt
 unfolding judged_by judge link_checks links_of
 judged_none c t = refl
 
@@ -143,7 +120,7 @@ module _ (s t : List ℕ) (at c : ℕ) (x : Property) (e : x ≡ kind_of (proper
   unfolding triples_of
   its_triples u h p = rw (kind_topology s at (sym e ∙ topology_alone x (sym y ∙ h)), p) (append-nil (triples_at s (triples_start s at)).tree)
 
-  pub judged_other : b ≡ false → Passes ≡ judge (link_checks (links_of c t (triples_of ((property_at s at).tree ∷ []))))
+  pub judged_other : b ≡ false → Ok tt ≡ judge (link_checks (links_of c t (triples_of ((property_at s at).tree ∷ []))))
   unfolding judge link_checks links_of
   judged_other h = rw (none h)
 
@@ -159,22 +136,3 @@ module _ (s t : List ℕ) (at c : ℕ) (x : Property) (e : x ≡ kind_of (proper
     pub set_topology : (u : ℕ) (r : Square) → b ≡ true → u ≡ triples_start s at → r ≡ set_links (links_of c t (triples_at s u).tree) q
         → r ≡ set_links (links_of c t (triples_of ((property_at s at).tree ∷ []))) q
     set_topology u r h p k = k ∙ ap (λ (ts : List Triple). set_links (links_of c t ts) q) (sym (its_triples u h p))
-
--- ---- the flows of a context
-module _ (t : List ℕ) (c : ℕ) (x : Bool) (e : x ≡ known c) where
-  pub flows_known : (low high : ℕ) (r : Square) → x ≡ true → low ≡ get t (cell (flow (low_flow c))) → high ≡ get t (cell (flow (high_flow c))) → r ≡ square_of low high
-      → r ≡ flows_of (seen c t)
-  unfolding flows_of seen pick
-  flows_known low high r h p q k = k ∙ rw (p, q, ← e, h)
-
-  pub flows_unknown : (r : Square) → x ≡ false → r ≡ square_of 0 0 → r ≡ flows_of (seen c t)
-  unfolding flows_of seen pick
-  flows_unknown r h k = k ∙ rw (← e, h)
-
-pub flows_set : (t : List ℕ) (c : ℕ) (ps : List tree.Property) (q r : Square) → q ≡ flows_of (seen c t) → r ≡ set_links (links_of c t (triples_of ps)) q → r ≡ flows_after ps c t
-unfolding flows_after
-flows_set t c ps q r e p = p ∙ rw e
-
-pub member_place : (p : Party) (k : ℕ) → p ≡ Member k → k ≡ place_of p
-unfolding place_of
-member_place p k e = rw e

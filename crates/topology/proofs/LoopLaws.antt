@@ -1,4 +1,5 @@
 -- The loops over the triples of a topology and over the properties of an action: judged and set.
+use Rattle.std.specs.Prelude.{Some, None, Ok, Err}
 use Prim.Native.Nat.{ℕ, suc, ◌+◌, ◌-◌, ◌<◌, ◌≤◌}
 use mathlib.Core.Path.{◌≡◌, refl, sym, ap, ◌∙◌}
 use mathlib.Core.List.{List, [], ◌∷◌, ◌++◌, append-nil}
@@ -11,10 +12,10 @@ use Rattle.megaco.specs.Bytes.{comma}
 use Rattle.megaco.specs.Tree.{Triple, Property, priority, emergency, topology}
 use Rattle.megaco.specs.Reading.{unlimited, is_property, word_here}
 use Rattle.megaco.specs.Square.{Square}
-use Rattle.megaco.specs.Topology.{triples_of, link_of, links_of, set_links}
+use Rattle.megaco.specs.Topology.{triples_of, links_of, set_links}
 use Rattle.megaco.specs.Attempt.{judge}
 use Rattle.megaco.specs.Action.{link_checks}
-use Rattle.protocol.specs.Types.{Checked, Passes, Fails, Parsed, Next, Fault}
+use Rattle.protocol.specs.Types.{Checked, Parsed}
 use Rattle.read_command.specs.Production.{past_sign, list_of}
 use Rattle.read_command.specs.Places.{triple_at, triples_at, property_at, properties_of}
 use Rattle.command_places.specs.Found.{next_at}
@@ -66,35 +67,35 @@ module _ (s t : List ℕ) (at c n i : ℕ) where
     one_set q r j = sym (j ∙ rw l.is)
 
     module _ (y : Parsed) (g : y ≡ next_at s x.end) where
-      ended : y ≡ Fault → pick (is_at s (triple_at s i).end comma) (triples_from s (n + 1) (past_sign comma s (triple_at s i).end)) [] ≡ []
+      ended : y ≡ None → pick (is_at s (triple_at s i).end comma) (triples_from s (n + 1) (past_sign comma s (triple_at s i).end)) [] ≡ []
       ended w = part_last s x.end (triple_at s i).end l.after y g (triples_from s (n + 1)) [] w
 
-      behind : (u : ℕ) → y ≡ Next u → pick (is_at s (triple_at s i).end comma) (triples_from s (n + 1) (past_sign comma s (triple_at s i).end)) [] ≡ triples_from s (n + 1) u
+      behind : (u : ℕ) → y ≡ Some u → pick (is_at s (triple_at s i).end comma) (triples_from s (n + 1) (past_sign comma s (triple_at s i).end)) [] ≡ triples_from s (n + 1) u
       behind u w = part_more s x.end (triple_at s i).end l.after y g (triples_from s (n + 1)) [] u w
 
   module _ (inv : judged_by c t (triples_at s at).tree ≡ judged_by c t (triples_from s n i)) where
-    pub triples_none : length s < n → Passes ≡ judge (link_checks (links_of c t (triples_at s at).tree))
-    triples_none h = as_judged c t (triples_at s at).tree Passes (sym (inv ∙ rw (no_triples s n i h) (judged_none c t)))
+    pub triples_none : length s < n → Ok tt ≡ judge (link_checks (links_of c t (triples_at s at).tree))
+    triples_none h = as_judged c t (triples_at s at).tree (Ok tt) (sym (inv ∙ rw (no_triples s n i h) (judged_none c t)))
 
     module _ (h : n ≤ length s) (x : Looked) (l : Links s i t c x) (k : Checked) (j : k ≡ judge (link_checks (link_from x ∷ []))) where
       rest : List Triple
       rest = pick (is_at s (triple_at s i).end comma) (triples_from s (n + 1) (past_sign comma s (triple_at s i).end)) []
 
-      pub triples_fail : (code : ℕ) → k ≡ Fails code → Fails code ≡ judge (link_checks (links_of c t (triples_at s at).tree))
+      pub triples_fail : (code : ℕ) → k ≡ Err code → Err code ≡ judge (link_checks (links_of c t (triples_at s at).tree))
       unfolding rest
       triples_fail code z =
-          as_judged c t (triples_at s at).tree (Fails code)
+          as_judged c t (triples_at s at).tree (Err code)
           (sym (inv ∙ ap (judged_by c t) (next_triple s n i h) ∙ judged_fail c t ((triple_at s i).tree ∷ []) rest code (one_judged x l k j ∙ z)))
 
-      on : k ≡ Passes → judged_by c t (triples_at s at).tree ≡ judged_by c t rest
+      on : k ≡ Ok tt → judged_by c t (triples_at s at).tree ≡ judged_by c t rest
       unfolding rest
       on z = inv ∙ ap (judged_by c t) (next_triple s n i h) ∙ judged_pass c t ((triple_at s i).tree ∷ []) rest (one_judged x l k j ∙ z)
 
-      pub triples_last : (y : Parsed) → k ≡ Passes → y ≡ next_at s x.end → y ≡ Fault → Passes ≡ judge (link_checks (links_of c t (triples_at s at).tree))
+      pub triples_last : (y : Parsed) → k ≡ Ok tt → y ≡ next_at s x.end → y ≡ None → Ok tt ≡ judge (link_checks (links_of c t (triples_at s at).tree))
       unfolding rest
-      triples_last y z g f = as_judged c t (triples_at s at).tree Passes (sym (on z ∙ ap (judged_by c t) (ended x l y g f) ∙ judged_none c t))
+      triples_last y z g f = as_judged c t (triples_at s at).tree (Ok tt) (sym (on z ∙ ap (judged_by c t) (ended x l y g f) ∙ judged_none c t))
 
-      pub triples_more : (y : Parsed) (u : ℕ) → k ≡ Passes → y ≡ next_at s x.end → y ≡ Next u → judged_by c t (triples_at s at).tree ≡ judged_by c t (triples_from s (n + 1) u)
+      pub triples_more : (y : Parsed) (u : ℕ) → k ≡ Ok tt → y ≡ next_at s x.end → y ≡ Some u → judged_by c t (triples_at s at).tree ≡ judged_by c t (triples_from s (n + 1) u)
       unfolding rest
       triples_more y u z g f = on z ∙ ap (judged_by c t) (behind x l y g u f)
 
@@ -112,11 +113,11 @@ module _ (s t : List ℕ) (at c n i : ℕ) where
           inv ∙ ap (λ (ts : List Triple). set_by c t ts q) (next_triple s n i h) ∙ set_both c t ((triple_at s i).tree ∷ []) rest_set q
           ∙ ap (set_by c t rest_set) (one_set x l q r j)
 
-      pub unset_last : y ≡ Fault → r ≡ set_links (links_of c t (triples_at s at).tree) was
+      pub unset_last : y ≡ None → r ≡ set_links (links_of c t (triples_at s at).tree) was
       unfolding rest_set
       unset_last f = as_set c t (triples_at s at).tree was r (sym (on_set ∙ ap (λ (ts : List Triple). set_by c t ts r) (ended x l y g f) ∙ set_none c t r))
 
-      pub set_more : (u : ℕ) → y ≡ Next u → set_by c t (triples_at s at).tree was ≡ set_by c t (triples_from s (n + 1) u) r
+      pub set_more : (u : ℕ) → y ≡ Some u → set_by c t (triples_at s at).tree was ≡ set_by c t (triples_from s (n + 1) u) r
       unfolding rest_set
       set_more u f = on_set ∙ ap (λ (ts : List Triple). set_by c t ts r) (behind x l y g u f)
 
@@ -159,12 +160,12 @@ module _ (s : List ℕ) (n i : ℕ) (p : PropertyPlaces) (e : p ≡ property_pla
   unfolding property_places
   place_is = ap (λ (x : PropertyPlaces). x.end) e
 
-  property_behind : (u : ℕ) → y ≡ Next u
+  property_behind : (u : ℕ) → y ≡ Some u
       → triples_of (pick (is_at s (property_at s i).end comma) (properties_of (length s + 1 - (n + 1)) s (past_sign comma s (property_at s i).end)) []) ≡ of_properties s (n + 1) u
   unfolding of_properties
   property_behind u w = ap triples_of (part_more s p.end (property_at s i).end place_is y g (properties_of (length s + 1 - (n + 1)) s) [] u w)
 
-  property_ended : y ≡ Fault → triples_of (pick (is_at s (property_at s i).end comma) (properties_of (length s + 1 - (n + 1)) s (past_sign comma s (property_at s i).end)) []) ≡ []
+  property_ended : y ≡ None → triples_of (pick (is_at s (property_at s i).end comma) (properties_of (length s + 1 - (n + 1)) s (past_sign comma s (property_at s i).end)) []) ≡ []
   unfolding triples_of
   property_ended w = ap triples_of (part_last s p.end (property_at s i).end place_is y g (properties_of (length s + 1 - (n + 1)) s) [] w)
 
@@ -187,34 +188,34 @@ module _ (s t : List ℕ) (at c n i : ℕ) where
   all_set q r e = e
 
   module _ (inv : judged_by c t (of_action s at) ≡ judged_by c t (of_properties s n i)) where
-    pub all_none : length s < n → Passes ≡ judge (link_checks (links_of c t (triples_of (properties_of (unlimited s) s at))))
-    all_none h = all_judged Passes (sym (inv ∙ ap (judged_by c t) (no_properties s n i h) ∙ judged_none c t))
+    pub all_none : length s < n → Ok tt ≡ judge (link_checks (links_of c t (triples_of (properties_of (unlimited s) s at))))
+    all_none h = all_judged (Ok tt) (sym (inv ∙ ap (judged_by c t) (no_properties s n i h) ∙ judged_none c t))
 
     module _ (h : n ≤ length s) (z : Bool) (d : z ≡ is_property (word_here s i)) where
-      pub all_end : z ≡ false → Passes ≡ judge (link_checks (links_of c t (triples_of (properties_of (unlimited s) s at))))
-      all_end f = all_judged Passes (sym (inv ∙ ap (judged_by c t) (after_properties s n i z h d f) ∙ judged_none c t))
+      pub all_end : z ≡ false → Ok tt ≡ judge (link_checks (links_of c t (triples_of (properties_of (unlimited s) s at))))
+      all_end f = all_judged (Ok tt) (sym (inv ∙ ap (judged_by c t) (after_properties s n i z h d f) ∙ judged_none c t))
 
       module _ (v : z ≡ true) (k : Checked) (j : k ≡ judge (link_checks (links_of c t (triples_of ((property_at s i).tree ∷ []))))) where
         here : judged_by c t (triples_of ((property_at s i).tree ∷ [])) ≡ k
         unfolding judged_by
         here = sym j
 
-        pub all_fail : (code : ℕ) → k ≡ Fails code → Fails code ≡ judge (link_checks (links_of c t (triples_of (properties_of (unlimited s) s at))))
+        pub all_fail : (code : ℕ) → k ≡ Err code → Err code ≡ judge (link_checks (links_of c t (triples_of (properties_of (unlimited s) s at))))
         unfolding behind_it
         all_fail code w =
-            all_judged (Fails code)
+            all_judged (Err code)
             (sym (inv ∙ ap (judged_by c t) (next_property_lem s n i z h d v) ∙ judged_fail c t (triples_of ((property_at s i).tree ∷ [])) behind_it code (here ∙ w)))
 
-        module _ (w : k ≡ Passes) (p : PropertyPlaces) (e : p ≡ property_places s i) (y : Parsed) (g : y ≡ next_at s p.end) where
+        module _ (w : k ≡ Ok tt) (p : PropertyPlaces) (e : p ≡ property_places s i) (y : Parsed) (g : y ≡ next_at s p.end) where
           on_all : judged_by c t (of_action s at) ≡ judged_by c t behind_it
           unfolding behind_it
           on_all = inv ∙ ap (judged_by c t) (next_property_lem s n i z h d v) ∙ judged_pass c t (triples_of ((property_at s i).tree ∷ [])) behind_it (here ∙ w)
 
-          pub all_last : y ≡ Fault → Passes ≡ judge (link_checks (links_of c t (triples_of (properties_of (unlimited s) s at))))
+          pub all_last : y ≡ None → Ok tt ≡ judge (link_checks (links_of c t (triples_of (properties_of (unlimited s) s at))))
           unfolding behind_it
-          all_last f = all_judged Passes (sym (on_all ∙ ap (judged_by c t) (property_ended s n i p e y g f) ∙ judged_none c t))
+          all_last f = all_judged (Ok tt) (sym (on_all ∙ ap (judged_by c t) (property_ended s n i p e y g f) ∙ judged_none c t))
 
-          pub all_more : (u : ℕ) → y ≡ Next u → judged_by c t (of_action s at) ≡ judged_by c t (of_properties s (n + 1) u)
+          pub all_more : (u : ℕ) → y ≡ Some u → judged_by c t (of_action s at) ≡ judged_by c t (of_properties s (n + 1) u)
           unfolding behind_it
           all_more u f = on_all ∙ ap (judged_by c t) (property_behind s n i p e y g u f)
 
@@ -238,11 +239,11 @@ module _ (s t : List ℕ) (at c n i : ℕ) where
             inv ∙ ap (λ (ts : List Triple). set_by c t ts q) (next_property_lem s n i z h d v) ∙ set_both c t (triples_of ((property_at s i).tree ∷ [])) behind_it q
             ∙ ap (set_by c t behind_it) here_set
 
-        pub set_all_last : y ≡ Fault → r ≡ set_links (links_of c t (triples_of (properties_of (unlimited s) s at))) was
+        pub set_all_last : y ≡ None → r ≡ set_links (links_of c t (triples_of (properties_of (unlimited s) s at))) was
         unfolding behind_it
         set_all_last f = all_set was r (sym (on_all_set ∙ ap (λ (ts : List Triple). set_by c t ts r) (property_ended s n i p e y g f) ∙ set_none c t r))
 
-        pub set_all_more : (u : ℕ) → y ≡ Next u → set_by c t (of_action s at) was ≡ set_by c t (of_properties s (n + 1) u) r
+        pub set_all_more : (u : ℕ) → y ≡ Some u → set_by c t (of_action s at) was ≡ set_by c t (of_properties s (n + 1) u) r
         unfolding behind_it
         set_all_more u f = on_all_set ∙ ap (λ (ts : List Triple). set_by c t ts r) (property_behind s n i p e y g u f)
 

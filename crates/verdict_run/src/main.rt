@@ -2,41 +2,31 @@
 // then its bytes and a line end. Each has one line of output: its number, what it shows, the verdict. tools/verdict_cases.py writes the input and the output.
 #![tactic(auto)]
 
-ghost use Rattle.std.specs.Prelude.{◌≡◌, length};
-
-use read_command::Verdict;
+use read_command::Fault;
 use std::io::Read;
 
 fn main(rt: HostRuntime) {
     let mut input = rt.stdin();
-    let mut head = [0u8; 48];
     let mut room = [0u8; 65536];
-    run(&rt, &mut input, &mut head, &mut room);
+    run(&rt, &mut input, &mut room);
 }
 
 // Nothing says that the input ends, so the numbers of the messages end.
-fn run<R: Read>(rt: &impl Print, input: &mut R, head: &mut [u8], room: &mut [u8])
-    requires { length head.old ≡ 48 }
-{
-    let mut k: u64 = 1;
-    while k < 1000000 {
-        if one(rt, input, k, head, room) {
-            k += 1;
-        } else {
+fn run<R: Read>(rt: &impl Print, input: &mut R, room: &mut [u8]) {
+    for k in 1..1000000 {
+        if !one(rt, input, k, room) {
             return;
         }
     }
 }
 
 // Reads one message and prints its verdict; whether there was one.
-fn one<R: Read>(rt: &impl Print, input: &mut R, k: u64, head: &mut [u8], room: &mut [u8]) -> bool
-    requires { length head.old ≡ 48 }
-    ensures { length head.new ≡ 48 }
-{
-    if program_io::read_full(input, head) < 48 {
+fn one<R: Read>(rt: &impl Print, input: &mut R, k: u64, room: &mut [u8]) -> bool {
+    let mut head = [0u8; 48];
+    if program_io::read_full(input, &mut head) < 48 {
         return false;
     }
-    let n = program_io::number(head);
+    let n = program_io::number(&head);
     if n < room.len() {
         let e = n + 1;
         if program_io::read_full(input, &mut room[0..e]) < e {
@@ -50,12 +40,12 @@ fn one<R: Read>(rt: &impl Print, input: &mut R, k: u64, head: &mut [u8], room: &
     false
 }
 
-fn print_verdict(rt: &impl Print, v: Verdict) {
+fn print_verdict(rt: &impl Print, v: Result<(), Fault>) {
     match v {
-        Verdict::WellFormed => program_io::print(rt, b" well-formed"),
-        Verdict::Fault400 => program_io::print(rt, b" 400"),
-        Verdict::Fault403(id) => program_io::print_number(rt, b" 403 of ", id as u64),
-        Verdict::WrongVersion406 => program_io::print(rt, b" 406"),
+        Ok(()) => program_io::print(rt, b" well-formed"),
+        Err(Fault::Fault400) => program_io::print(rt, b" 400"),
+        Err(Fault::Fault403(id)) => program_io::print_number(rt, b" 403 of ", id as u64),
+        Err(Fault::WrongVersion406) => program_io::print(rt, b" 406"),
     }
     program_io::print(rt, b"\n");
 }

@@ -6,6 +6,7 @@ ghost use Rattle.base.specs.Bytes.{decimal};
 ghost use Rattle.base.specs.Out.{Appended, Digits};
 
 // One byte.
+#[tactic(auto, using(base::proofs::OutLaws::byte, base::proofs::OutLaws::full))]
 pub fn put_byte(out: &mut [u8], at: usize, b: u8) -> usize
     ensures { Appended out.old at (b ∷ []) out.new result }
 {
@@ -17,14 +18,13 @@ pub fn put_byte(out: &mut [u8], at: usize, b: u8) -> usize
 }
 
 // The bytes of a slice.
+#[tactic(auto, using(base::proofs::OutLaws::none, base::proofs::OutLaws::all))]
 pub fn put_bytes(out: &mut [u8], at: usize, s: &[u8]) -> usize
     ensures { Appended out.old at s.now out.new result }
 {
     let mut p = at;
-    let mut i = 0;
-    while i < s.len() {
-        p = put_byte(out, p, s[i]);
-        i += 1;
+    for b in s {
+        p = put_byte(out, p, *b);
     }
     p
 }
@@ -37,6 +37,7 @@ fn digit(n: usize) -> u8
 }
 
 // The digits of a number, the last one after all the others.
+#[tactic(auto, using(base::proofs::OutLaws::digits_one, base::proofs::OutLaws::digits_more))]
 fn put_digits(out: &mut [u8], at: usize, n: usize) -> usize
     ensures { Digits n out.old at out.new result }
 {
@@ -49,14 +50,8 @@ fn put_digits(out: &mut [u8], at: usize, n: usize) -> usize
 }
 
 // A number in decimal: "Numbers have no leading zeros".
-pub fn put_decimal(out: &mut [u8], at: usize, n: u32) -> usize
-    ensures { Appended out.old at (decimal n) out.new result }
-{
-    put_digits(out, at, n as usize)
-}
-
-// The same for a number of a line, a channel or an ephemeral.
-pub fn put_count(out: &mut [u8], at: usize, n: usize) -> usize
+#[tactic(auto, using(base::proofs::OutLaws::number))]
+pub fn put_decimal(out: &mut [u8], at: usize, n: usize) -> usize
     ensures { Appended out.old at (decimal n) out.new result }
 {
     put_digits(out, at, n)

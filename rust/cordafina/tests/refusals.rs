@@ -59,7 +59,7 @@ fn as_c_has_them() {
 #[test]
 fn as_the_code_has_them() {
     let [outcomes, dialled] =
-        [(GATEWAY, "enum CallOutcome {"), (DIGITS, "enum Dialled {")].map(|(source, head)| {
+        [(GATEWAY, "enum Refusal {"), (DIGITS, "enum DialError {")].map(|(source, head)| {
             let (_, body) = source.split_once(head).unwrap();
             let (body, _) = body.split_once("\n}").unwrap();
             let names: Vec<&str> = body.lines().map(str::trim).collect();
@@ -67,7 +67,7 @@ fn as_the_code_has_them() {
         });
     for refusal in ALL {
         let name = format!("{refusal:?},");
-        // The contexts as text, packets and rows have a number and no enum.
+        // The contexts as text have a number and no enum; packets and rows have enums of their own.
         let numbered = [Refusal::OutputTooShort, Refusal::EphemeralAbsent, Refusal::RowUnfit];
         let is_known = outcomes.contains(&&*name) || dialled.contains(&&*name);
         assert_eq!(is_known, !numbered.contains(&refusal), "{name}");

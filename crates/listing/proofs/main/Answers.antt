@@ -1,7 +1,7 @@
-use Rattle.std.proofs.Common.{ℕ}
-use lib.ListN.{length-replicate}
-use Rattle.sessions.proofs.SessionLaws.{holds_none}
+use Rattle.std.proofs.Common.{arith, refl}
+use Rattle.base.specs.Lists.{before}
 use Rattle.listing.proofs.main.Goals as goal
 
-pub take_input-held-requires-clause-holds_line : goal.take_input-held-requires-clause-holds_line
-take_input-held-requires-clause-holds_line c = holds_none _ (length-replicate {A = ℕ} 4097 0)
+pub invariant_of-line : goal.invariant_of-line
+unfolding before
+invariant_of-line c = record { within = omega arith; unended = refl }

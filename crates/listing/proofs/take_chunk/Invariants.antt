@@ -1,12 +1,11 @@
 use Rattle.std.proofs.Common.{◌≡◌, ◌-◌, length, take, drop}
-use Rattle.sessions.specs.Session.{taken_in, HoldsLine, lent}
+use Rattle.sessions.specs.Session.{taken_in}
 use Rattle.listing.proofs.take_chunk.Given as goal
 
 abbrev pub invariant-loop-from : goal.invariant-loop-from
 invariant-loop-from g l =
-    HoldsLine l.line l.h × (length l.line ≡ length l.fn.line) × (length l.table ≡ length l.fn.table) × (length l.blocks ≡ length l.fn.blocks) × (length l.words ≡ length l.fn.words) × (length l.bytes ≡ length l.fn.bytes)
-    × (length l.out ≡ length l.fn.out)
-    × (taken_in (take l.held l.fn.line) (lent l.fn.table l.fn.blocks l.fn.words l.fn.bytes) l.chunk ≡ taken_in (take l.h l.line) (lent l.table l.blocks l.words l.bytes) (drop l.from l.chunk))
+    (length l.out ≡ length l.fn.out)
+    × (taken_in (take l.fn.line.held l.fn.line.bytes) l.fn.lent l.chunk ≡ taken_in (take l.line.held l.line.bytes) l.lent (drop l.from l.chunk))
 
 abbrev pub decreases-loop-from : goal.decreases-loop-from
 decreases-loop-from g l = length l.chunk - l.from

@@ -1,0 +1,5 @@
+use Rattle.read_command.specs.Places.{action_at}
+use Rattle.action_places.proofs.actions_end.Goals as goal
+
+pub returns : goal.returns
+returns c = c.list_end.ensures (λ i. (action_at c.args.s.now i).end) (λ i r k p. p)

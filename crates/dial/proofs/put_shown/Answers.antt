@@ -1,6 +1,0 @@
-use Rattle.base.proofs.OutLaws.{three}
-use Rattle.dial.specs.Words.{shown_text}
-use Rattle.dial.proofs.put_shown.Goals as goal
-
-pub returns : goal.returns
-returns c = unfold shown_text in search three

@@ -1,0 +1,5 @@
+use Rattle.base.proofs.OutLaws.{after}
+use Rattle.run_attempts.proofs.put_full.Goals as goal
+
+pub returns : goal.returns
+returns c = search after

@@ -1,0 +1,6 @@
+use Rattle.std.proofs.Common.{◌≡◌, ℕ, ◌<◌, List, Bool, length, get_or}
+use Rattle.megaco.specs.Square.{parted_row}
+use Rattle.square.proofs.part_place.Given as goal
+
+abbrev pub invariant-loop-i : goal.invariant-loop-i
+invariant-loop-i l = (length l.rows ≡ 8) × ((j : ℕ) (e : List Bool) → j < l.i → get_or l.rows j e ≡ parted_row l.q l.k j)
