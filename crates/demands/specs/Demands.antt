@@ -107,7 +107,7 @@ Demand-1 =
 -- ---- the same of a packet (document 02, CR 12)
 
 -- a call of `packet`, or of `cordafina_packet` from C, that was made with n lines, the state st, the number k of an ephemeral and the two times: the blocks
--- that it left and what it answered, of which both contracts promise `Counted`. The table is lent to be read
+-- that it left and the number of what it answered (`packet_answer`), of which both contracts promise `Counted`. The table is lent to be read
 pub record MadePacket (n : ℕ) (st : State) (k arrival stamp : ℕ) : Type 0 where
   pub blocks : List ℕ
   pub answer : ℕ

@@ -2,15 +2,16 @@
 // dialled string. For each string it prints the answer and the timer, or the refusal. Where the second line ends in ` plain` the plain matcher answers.
 #![tactic(auto)]
 
-ghost use Rattle.std.specs.Prelude.{◌≡◌, [], ◌∷◌, Some};
+ghost use Rattle.std.specs.Prelude.{◌≡◌, [], ◌∷◌};
 ghost use Rattle.base.specs.Bytes.{◌then◌};
+ghost use Rattle.base.specs.Out.{Appended};
+ghost use Rattle.digits.specs.Words.{progress_text, timer_text, shown_text};
 ghost use Rattle.digits.specs.Dialling.{load, dial};
 ghost use Rattle.dialling.specs.Cells.{plan_in};
 ghost use Rattle.dial.specs.Words.{rule_of, settings_of, answer_text};
 
 use dialling::{CELLS, Loaded};
-use digits::{Answer, DialError, ZeroStart};
-use std::fmt;
+use digits::{Answer, DialError, Progress, Timer, ZeroStart};
 
 // What the second line says.
 #[derive(Clone, Copy)]
@@ -54,20 +55,56 @@ fn read_settings(s: &[u8]) -> Option<Settings>
 
 // ---- lines printed
 
-// The line for an answer or a refusal.
-#[derive(Clone, Copy)]
-struct Line(Result<Answer, DialError>);
-
-#[tactic(auto, unfolding(crate::specs::Words::answer_text))]
-impl fmt::Display for Line {
-    ghost output = { λ l. Some (answer_text l.0 then (10 ∷ [])) };
-
-    fn fmt<W: fmt::Write>(&self, f: &mut fmt::Formatter<W>) -> fmt::Result {
-        match self.0 {
-            Ok(answer) => writeln!(f, "{answer}"),
-            Err(refusal) => writeln!(f, "{refusal}"),
-        }
+#[tactic(auto, unfolding(digits::specs::Words::progress_text))]
+fn put_progress(out: &mut [u8], at: usize, progress: Progress) -> usize
+    ensures { Appended out.old at (progress_text progress) out.new result }
+{
+    match progress {
+        Progress::NoMatch => writer::put_bytes(out, at, b"nothing can match"),
+        Progress::MoreNeeded => writer::put_bytes(out, at, b"more needed"),
+        Progress::MorePossible => writer::put_bytes(out, at, b"matched with more possible"),
+        Progress::Closed => writer::put_bytes(out, at, b"matched and closed"),
     }
+}
+
+#[tactic(auto, unfolding(digits::specs::Words::timer_text))]
+fn put_timer(out: &mut [u8], at: usize, timer: Timer) -> usize
+    ensures { Appended out.old at (timer_text timer) out.new result }
+{
+    match timer {
+        Timer::NoTimer => writer::put_bytes(out, at, b"none"),
+        Timer::StartTimer => writer::put_bytes(out, at, b"start"),
+        Timer::LongTimer => writer::put_bytes(out, at, b"long"),
+        Timer::ShortTimer => writer::put_bytes(out, at, b"short"),
+        Timer::RunOut => writer::put_bytes(out, at, b"run out"),
+    }
+}
+
+fn put_shown(out: &mut [u8], at: usize, answer: Answer) -> usize
+    ensures { Appended out.old at (shown_text answer.progress answer.timer) out.new result }
+{
+    let p = put_progress(out, at, answer.progress);
+    let q = writer::put_bytes(out, p, b", timer ");
+    put_timer(out, q, answer.timer)
+}
+
+#[tactic(auto, unfolding(crate::specs::Words::answer_text, digits::specs::Words::refusal_text))]
+fn put_answer(out: &mut [u8], at: usize, answered: Result<Answer, DialError>) -> usize
+    ensures { Appended out.old at (answer_text answered) out.new result }
+{
+    match answered {
+        Ok(answer) => put_shown(out, at, answer),
+        Err(DialError::BadMap) => writer::put_bytes(out, at, b"refused 6"),
+        Err(DialError::BadString) => writer::put_bytes(out, at, b"refused 7"),
+    }
+}
+
+// The line for an answer or a refusal. (No `Display`: its law says nothing where the writing fails.)
+fn put_line(out: &mut [u8], answered: Result<Answer, DialError>) -> usize
+    ensures { Appended out.old 0 (answer_text answered then (10 ∷ [])) out.new result }
+{
+    let n = put_answer(out, 0, answered);
+    writer::put_byte(out, n, LINE_END)
 }
 
 // ---- the program
@@ -95,10 +132,11 @@ impl Asked<'_> {
 }
 
 // Tells the answers to the lines of a text.
-fn tell(rt: &impl Print, s: &[u8], asked: &Asked) {
+fn tell(rt: &impl Print, s: &[u8], out: &mut [u8; 64], asked: &Asked) {
     for piece in s.split_inclusive(|b| *b == LINE_END) {
-        let n = program_io::line_length(piece);
-        let _ = rt.print(Line(asked.answer(&piece[..n])));
+        let w = piece.strip_suffix(b"\n").unwrap_or(piece);
+        let n = put_line(out, asked.answer(w));
+        program_io::print(rt, &out[..n]);
     }
 }
 
@@ -121,7 +159,7 @@ fn run(rt: &impl Print, s: &[u8], cells: &mut [u32; CELLS]) {
         loaded,
         cells,
     };
-    tell(rt, map_text::rest(t, m + 1), &asked);
+    tell(rt, map_text::rest(t, m + 1), &mut [0; 64], &asked);
 }
 
 fn main(rt: HostRuntime) {

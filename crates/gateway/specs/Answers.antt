@@ -5,7 +5,7 @@ use Rattle.megaco.specs.Room.{Room}
 use Rattle.megaco.specs.Call.{Called, Received}
 use Rattle.std.specs.declared.result.Result.{Result}
 use Rattle.gateway.specs.declared.PacketRefusal.{PacketRefusal}
-use Rattle.gateway.specs.declared.PacketRefusal.TheVariants.{StateUnsound, LinesOutside, EphemeralAbsent}
+use Rattle.gateway.specs.declared.PacketRefusal.TheVariants as packet
 use Rattle.gateway.specs.declared.Refusal.{Refusal}
 use Rattle.gateway.specs.declared.Refusal.TheVariants.{MessageUnfit, TableUnsound, ReplyTooShort, MidUnfit, RoomUnsound, LinesUnfit}
 
@@ -60,9 +60,9 @@ pub record Replied (c : Called) (t' : State) (r' : Room) (o' : List ℕ) (n : �
 
 -- the number of a packet's refusal, and 0 for one that is counted
 unfoldable pub packet_refusal : PacketRefusal → ℕ
-packet_refusal StateUnsound = 2
-packet_refusal LinesOutside = 8
-packet_refusal EphemeralAbsent = 9
+packet_refusal packet.TableUnsound = 2
+packet_refusal packet.LinesUnfit = 8
+packet_refusal packet.EphemeralAbsent = 9
 
 unfoldable pub packet_answer : Result ⊤ PacketRefusal → ℕ
 packet_answer (Ok tt) = 0

@@ -46,8 +46,8 @@ impl Refusal {
 // Why a packet was turned down.
 #[derive(Clone, Copy, Debug, PartialEq, Eq)]
 pub enum PacketRefusal {
-    StateUnsound,
-    LinesOutside,
+    TableUnsound,
+    LinesUnfit,
     EphemeralAbsent,
 }
 
@@ -58,8 +58,8 @@ impl PacketRefusal {
         ensures { result ≡ packet_refusal self }
     {
         match self {
-            PacketRefusal::StateUnsound => 2,
-            PacketRefusal::LinesOutside => 8,
+            PacketRefusal::TableUnsound => 2,
+            PacketRefusal::LinesUnfit => 8,
             PacketRefusal::EphemeralAbsent => 9,
         }
     }
@@ -173,7 +173,7 @@ fn packet_fitted(
     ensures { Counted (packet lines (state table.now blocks.old) n arrival stamp) blocks.new (packet_answer result) }
 {
     if !state_fits(lines, table, blocks) {
-        return Err(PacketRefusal::StateUnsound);
+        return Err(PacketRefusal::TableUnsound);
     }
     if !statistics::is_present(lines, n, table) {
         return Err(PacketRefusal::EphemeralAbsent);
@@ -195,7 +195,7 @@ pub fn packet(
     ensures { Counted (packet lines (state table.now blocks.old) n arrival stamp) blocks.new (packet_answer result) }
 {
     if !table::are_fitted(lines) {
-        return Err(PacketRefusal::LinesOutside);
+        return Err(PacketRefusal::LinesUnfit);
     }
     packet_fitted(lines, table, blocks, n, arrival, stamp)
 }

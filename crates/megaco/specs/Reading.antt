@@ -274,7 +274,7 @@ acks_r s at =
 unfoldable pub actions_r : List ℕ → ℕ → Read (List Action)
 actions_r s at = skip (white_at s at) (λ p. bind (list_r (action_r s) s 16 p) (λ acts q. skip (mark_at right_brace s q) (got acts)))
 
--- "None elsewhere: ER=400{}": of a part, and of a number, that stands outside a transaction's braces
+-- "Fault elsewhere: ER=400{}": of a part, and of a number, that stands outside a transaction's braces
 unfoldable pub elsewhere : Parsed → (ℕ → Message) → Message
 elsewhere (Some p) f = f p
 elsewhere None f = fault400
@@ -283,7 +283,7 @@ unfoldable pub numbered : Number → (ℕ → ℕ → Message) → Message
 numbered (Some (v, p)) f = f v p
 numbered None f = fault400
 
--- "None between a transaction's opening and closing brace": 403
+-- "Fault between a transaction's opening and closing brace": 403
 unfoldable pub inside : ℕ → Read (List Action) → (List Action → ℕ → Message) → Message
 inside id (got acts p) f = f acts p
 inside id fault f = fault403 id

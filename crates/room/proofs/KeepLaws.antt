@@ -5,18 +5,16 @@ use mathlib.Core.Bool.{Bool, true, false}
 use mathlib.Core.List.{List, [], ◌∷◌, ◌++◌, append_assoc, append-nil}
 use native.Mathlib.Numerals.{add-one}
 use native.Mathlib.Omega.{arith}
-use Rattle.std.specs.List.{copy_within}
 use lib.Dec.{eqb}
-use lib.ListN.{length, get_or, take, drop, set, replicate, length-append, length-take, drop_of_length-le}
+use lib.ListN.{length, get_or, take, drop, replicate, length-append, length-take, length-drop, drop_of_length-le}
 use lib.Seq.{drop-cons, take-take, get_or-take, get_or-drop}
 use borrow.Author.Tests.{eq-eqb, ne_eqb, le-leb}
 use Rattle.base.specs.Pick.{pick}
 use Rattle.base.specs.Lists.{before}
 use Rattle.base.specs.Bytes.{put, ◌then◌}
 use Rattle.base.specs.Out.{Appended}
-use Rattle.base.proofs.OutLaws.{none, byte, after, drop_put, same_length_by}
+use Rattle.base.proofs.OutLaws.{none, more, all, after, drop_put, same_length_by}
 use Rattle.room.proofs.RoomLaws.{before_short}
-use Rattle.room.proofs.PutLaws.{moved}
 use Rattle.megaco.specs.Kept.{Kept, kept_under, youngest, acked}
 use Rattle.megaco.specs.Room.{Room, room, row_of, slot_id, slot_sender, slot_reply, slot_of, held_in, lined, keep_in, left, closed, drop_in}
 use Rattle.room.specs.Keeping.{keep_fitting}
@@ -70,15 +68,39 @@ module _ (w l : List ℕ) (k : ℕ) (e : l ≡ take 16 w) (f : k ≡ length (bef
       let z : length (held_in w) - 15 ≡ 0 = omega (arith, k_is) in
       (after w 0 (held_in w) (n ∷ []) w w' k q a b).text ∙ rw z
 
-  pub line_full : (n : ℕ) → 16 ≤ k → set (copy_within w 1 16 0) 15 n ≡ lined n w
+  pub line_full : (n : ℕ) (w₁ w₂ : List ℕ) (q : ℕ) → 16 ≤ k → Appended w 0 (drop 1 (take 16 w)) w₁ 15 → Appended w₁ 15 (n ∷ []) w₂ q → w₂ ≡ lined n w
   unfolding lined youngest ◌then◌
-  line_full n h =
+  line_full n w₁ w₂ q h a b =
       let z : length (held_in w) ≡ 16 = omega (arith, k_is, held_most w) in
       let o : length (held_in w) - 15 ≡ 1 = omega arith in
       let own : held_in w ≡ take 16 w = held_take w ∙ rw z in
-      let a = moved w (long_row h) in
-      let b = byte (copy_within w 1 16 0) 15 n (omega (arith, same_length_by w 0 (drop 1 (take 16 w)) (copy_within w 1 16 0) 15 a, long_row h)) in
-      (after w 0 (drop 1 (take 16 w)) (n ∷ []) (copy_within w 1 16 0) (set (copy_within w 1 16 0) 15 n) 15 16 a b).text ∙ rw (o, own)
+      (after w 0 (drop 1 (take 16 w)) (n ∷ []) w₁ w₂ 15 q a b).text ∙ rw (o, own)
+
+-- ---- the row moved up by one
+module _ (w cur : List ℕ) (i p : ℕ) (g : 16 ≤ length w) (a : Appended w 0 (take i (drop 1 (take 16 w))) cur p) where
+  row_long : length (drop 1 (take 16 w)) ≡ 15
+  row_long = omega (arith, length-drop 1 (take 16 w), length-take 16 w)
+
+  module _ (e : p ≡ i) (h : i < 15) (v : ℕ) (f : v ≡ get_or cur (i + 1) 0) (w' : List ℕ) (p' : ℕ) (b : Appended cur p (v ∷ []) w' p') where
+    v_is : v ≡ get_or (drop 1 (take 16 w)) i 0
+    v_is =
+        let z : 1 + i ≡ i + 1 = omega arith in
+        f ∙ behind_put w (take i (drop 1 (take 16 w))) cur p (i + 1) a (omega (arith, length-take i (drop 1 (take 16 w))))
+        ∙ sym (get_or-take 16 w (i + 1) 0 (omega arith)) ∙ sym (rw z at (get_or-drop 1 (take 16 w) i 0))
+
+    pub shift_on : Appended w 0 (take (i + 1) (drop 1 (take 16 w))) w' p'
+    shift_on = more w 0 (drop 1 (take 16 w)) cur w' i p p' (omega (arith, row_long)) a (rw v_is at b)
+
+    pub shift_next : p' ≡ i + 1
+    shift_next = omega (arith, b.next, same_length_by w 0 (take i (drop 1 (take 16 w))) cur p a)
+
+  pub shift_end : p ≡ i → i ≤ 15 → 15 ≤ i → Appended w 0 (drop 1 (take 16 w)) cur 15
+  shift_end e h k =
+      let z : p ≡ 15 = omega arith in
+      rw z at (all w 0 (drop 1 (take 16 w)) cur i p (omega (arith, row_long)) a)
+
+pub shift_begin : (w : List ℕ) → Appended w 0 (take 0 (drop 1 (take 16 w))) w 0
+shift_begin w = none w 0
 
 -- a reply that fits
 pub keep_fits : (m : List ℕ) (id : ℕ) (x : List ℕ) (r : Room) → length m ≤ 72 → length x ≤ 2048 → keep_fitting m id x r ≡ keep_in (kept_under m id x) r

@@ -11,11 +11,13 @@ use mathlib.Core.List.{List, [], ◌∷◌, map}
 use native.Mathlib.Numerals.{add-one}
 use native.Mathlib.Omega.{arith}
 use lib.Dec.{eqb}
-use lib.ListN.{length, get_or, drop, set, drop_of_length-le}
+use lib.ListN.{length, get_or, take, drop, set, drop_of_length-le}
 use lib.Seq.{drop-cons, set_out}
 use borrow.Author.Tests.{eq-eqb, ne_eqb}
 use Rattle.base.specs.Pick.{pick}
 use Rattle.base.specs.Lists.{same, has, every, before}
+use Rattle.base.specs.Out.{Appended}
+use Rattle.base.proofs.OutLaws.{none, more, byte}
 use Rattle.base.proofs.TestLaws.{clash}
 use Rattle.megaco.specs.Kept.{under}
 use Rattle.megaco.specs.Room.{Room, slot_id, slot_sender, slot_of, slot_in, is_zero, row_good, lowest_free}
@@ -158,3 +160,13 @@ pub row_of_zeros : (r : Room) (l : List ℕ) → get_or l 0 0 ≡ 0 → every is
 unfolding row_good every is_zero pick
 row_of_zeros r [] e = refl
 row_of_zeros r (x ∷ l) e = rw (eq-eqb x 0 e)
+
+-- a slice put as far as byte i
+pub whole_begin : (o : List ℕ) (at : ℕ) (s : List ℕ) → Appended o at (take 0 s) o (at + 0)
+whole_begin o at s = let z : at + 0 ≡ at = omega arith in rw z (none o at)
+
+pub whole_on : (o : List ℕ) (at : ℕ) (s cur : List ℕ) (i : ℕ) → i < length s → at ≤ length o → length s ≤ length o - at → length cur ≡ length o → Appended o at (take i s) cur (at + i)
+    → Appended o at (take (i + 1) s) (set cur (at + i) (get_or s i 0)) (at + (i + 1))
+whole_on o at s cur i h j k l a =
+    let z : at + (i + 1) ≡ at + i + 1 = omega arith in
+    rw z (more o at s cur (set cur (at + i) (get_or s i 0)) i (at + i) (at + i + 1) h a (byte cur (at + i) (get_or s i 0) (omega arith)))

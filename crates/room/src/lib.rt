@@ -78,9 +78,11 @@ pub fn put_whole(out: &mut [u8], at: usize, s: &[u8]) -> usize
     ensures { Appended out.old at s.now out.new result }
 {
     if at <= out.len() && s.len() <= out.len() - at {
-        let end = at + s.len();
-        out[at..end].copy_from_slice(s);
-        return end;
+        // (`copy_from_slice` wants the C library's memmove.)
+        for i in 0..s.len() {
+            out[at + i] = s[i];
+        }
+        return at + s.len();
     }
     writer::put_bytes(out, at, s)
 }
@@ -321,6 +323,18 @@ fn slot_for(words: &[u32]) -> u32
     lowest_free(row)
 }
 
+// The row without its oldest: the others move up. (`copy_within` wants the C library's memmove.)
+fn shift(words: &mut [u32])
+    requires { 16 ≤ length words.old }
+    ensures { Appended words.old 0 (drop 1 (take 16 words.old)) words.new 15 }
+{
+    let mut p = 0;
+    for i in 0..15 {
+        let v = word_at(words, i + 1);
+        p = put_word(words, p, v);
+    }
+}
+
 // A slot told last, as the youngest: where there are 16, the others move up.
 fn line(words: &mut [u32], n: u32)
     ensures { words.new ≡ lined n words.old }
@@ -329,8 +343,8 @@ fn line(words: &mut [u32], n: u32)
     if k < 16 {
         put_word(words, k, n);
     } else {
-        words.copy_within(1..16, 0);
-        words[15] = n;
+        shift(words);
+        put_word(words, 15, n);
     }
 }
 

@@ -6,7 +6,7 @@ use mathlib.Core.Bool.{Bool, true, false, not, cond}
 use native.Mathlib.Numerals.{add-one}
 use native.Mathlib.Nat.{zero-add, suc-add, sub-zero}
 use native.Mathlib.Omega.{arith}
-use lib.ListN.{length, get_or, set, take, drop, length-set, get_or-eq_default}
+use lib.ListN.{length, get_or, set, take, drop, get_or-eq_default}
 use lib.Seq.{set_out, take-nil, take_all}
 use lib.Dec.{leb, eqb}
 use Rattle.std.proofs.Common.{Option, nat_lt}
@@ -61,17 +61,8 @@ module _ (t : List ℕ) (c k : ℕ) (e : k ≡ address (fitted t) (cell (flow (l
   pub high_read : (r : ℕ) → r ≡ get_or t (k + 1) 0 → r ≡ get t (cell (flow (high_flow c)))
   high_read r p = p ∙ ap (λ (m : ℕ). get_or t m 0) next_flow
 
-  high_put : (u : List ℕ) (v : ℕ) → u ≡ set t (k + 1) v → u ≡ store (write (cell (flow (high_flow c))) v) t
+  pub high_put : (u : List ℕ) (v : ℕ) → u ≡ set t (k + 1) v → u ≡ store (write (cell (flow (high_flow c))) v) t
   high_put u v p = p ∙ ap (λ (m : ℕ). set t m v) next_flow
-
--- both words, the first one first
-pub flows_put : (t u z : List ℕ) (c k a b : ℕ) → k ≡ address (fitted t) (cell (flow (low_flow c))) → u ≡ set t k a → z ≡ set u (k + 1) b
-    → z ≡ apply (write (cell (flow (low_flow c))) a ∷ write (cell (flow (high_flow c))) b ∷ []) t
-unfolding apply
-flows_put t u z c k a b e p q =
-    let l : length u ≡ length t = ap length p ∙ length-set t k a in
-    let f : k ≡ address (fitted u) (cell (flow (low_flow c))) = rw (fitted_same u t l) e in
-    high_put u c k f z b q ∙ ap (store (write (cell (flow (high_flow c))) b)) (p ∙ ap (λ (m : ℕ). set t m a) e)
 
 -- ---- where speech goes
 

@@ -236,13 +236,28 @@ pub fn flows_of(table: &[u32], c: u32) -> [u32; 2]
     [word_at(table, k), word_at(table, k + 1)]
 }
 
-#[tactic(auto, using(crate::proofs::TableLaws::flows_put))]
+pub fn set_low_flow(table: &mut [u32], c: u32, v: u32)
+    ensures { table.new ≡ store (write (cell (flow (low_flow c))) v) table.old }
+{
+    let k = flow_place(table, c);
+    put_word(table, k, v);
+}
+
+#[tactic(auto, using(crate::proofs::TableLaws::high_put))]
+pub fn set_high_flow(table: &mut [u32], c: u32, v: u32)
+    ensures { table.new ≡ store (write (cell (flow (high_flow c))) v) table.old }
+{
+    let k = flow_place(table, c);
+    put_word(table, k + 1, v);
+}
+
+// Both, the first one first.
+#[tactic(auto, unfolding(megaco::specs::Table::apply))]
 pub fn set_flows(table: &mut [u32], c: u32, words: [u32; 2])
     ensures { table.new ≡ apply (write (cell (flow (low_flow c))) (get_or words 0 0) ∷ write (cell (flow (high_flow c))) (get_or words 1 0) ∷ []) table.old }
 {
-    let k = flow_place(table, c);
-    put_word(table, k, words[0]);
-    put_word(table, k + 1, words[1]);
+    set_low_flow(table, c, words[0]);
+    set_high_flow(table, c, words[1]);
 }
 
 // ---- the map of the ephemerals

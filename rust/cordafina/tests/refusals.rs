@@ -9,6 +9,7 @@ const HEADERS: [&str; 2] = [
 ];
 const GATEWAY: &str = include_str!("../../../crates/gateway/src/lib.rt");
 const DIGITS: &str = include_str!("../../../crates/digits/src/lib.rt");
+const ROWS: &str = include_str!("../../../crates/row_laws/src/lib.rt");
 const REFERENCE: &str = include_str!("../../../docs/REFERENCE.md");
 
 const ALL: [Refusal; 11] = [
@@ -56,21 +57,51 @@ fn as_c_has_them() {
     assert_eq!(cases, ALL.len() + 1);
 }
 
+/// The names of an enum of the proved code.
+fn names(source: &str, head: &str) -> Vec<String> {
+    let (_, body) = source.split_once(head).unwrap();
+    let (body, _) = body.split_once("\n}").unwrap();
+    body.lines()
+        .filter_map(|line| line.trim().strip_suffix(','))
+        .map(str::to_string)
+        .collect()
+}
+
 #[test]
 fn as_the_code_has_them() {
-    let [outcomes, dialled] =
-        [(GATEWAY, "enum Refusal {"), (DIGITS, "enum DialError {")].map(|(source, head)| {
-            let (_, body) = source.split_once(head).unwrap();
-            let (body, _) = body.split_once("\n}").unwrap();
-            let names: Vec<&str> = body.lines().map(str::trim).collect();
-            names
-        });
+    use Refusal::*;
+    let outcome = [
+        MessageUnfit,
+        TableUnsound,
+        ReplyTooShort,
+        MidUnfit,
+        RoomUnsound,
+        LinesUnfit,
+    ];
+    let packet = [TableUnsound, LinesUnfit, EphemeralAbsent];
+    let dialled = [BadMap, BadString];
+    let row = [LinesUnfit, OutputTooShort, TableUnsound, RowUnfit];
+    let enums: [(&str, &str, &[Refusal]); 4] = [
+        (GATEWAY, "enum Refusal {", &outcome),
+        (GATEWAY, "enum PacketRefusal {", &packet),
+        (DIGITS, "enum DialError {", &dialled),
+        (ROWS, "enum RowError {", &row),
+    ];
+    for (source, head, refusals) in enums {
+        let expected: Vec<String> = refusals
+            .iter()
+            .map(|refusal| format!("{refusal:?}"))
+            .collect();
+        assert_eq!(names(source, head), expected, "{head}");
+    }
+    // Each refusal stands in one of them.
     for refusal in ALL {
-        let name = format!("{refusal:?},");
-        // The contexts as text have a number and no enum; packets and rows have enums of their own.
-        let numbered = [Refusal::OutputTooShort, Refusal::EphemeralAbsent, Refusal::RowUnfit];
-        let is_known = outcomes.contains(&&*name) || dialled.contains(&&*name);
-        assert_eq!(is_known, !numbered.contains(&refusal), "{name}");
+        assert!(
+            enums
+                .iter()
+                .any(|(_, _, refusals)| refusals.contains(&refusal)),
+            "{refusal:?}"
+        );
     }
 }
 
